@@ -1,0 +1,5 @@
+pub mod Lists
+pub mod Plan
+pub mod Calls
+pub mod History
+pub mod Trials

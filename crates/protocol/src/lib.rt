@@ -1,0 +1,1 @@
+// Definitions only (specs/): the plan, its calls, the history, the trial table.
