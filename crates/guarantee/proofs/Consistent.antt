@@ -1,0 +1,715 @@
+-- What ties a plan to the history of the calls that led to it; every accepted call keeps it. Assumes nothing.
+use Prim.Native.Nat.{ℕ, zero, suc, _+_, _<_, _≤_}
+use mathlib.Core.Path.{_≡_, refl, sym, ap, _∙_}
+use mathlib.Core.Logic.{_⊎_, inl, inr, _≢_}
+use mathlib.Core.Bool.{Bool, true, false, not, cond, _&&_, _||_}
+use mathlib.Core.List.{List, [], _∷_, map}
+use native.Mathlib.Omega.{arith}
+use borrow.Author.Tests.{eq-eqb, ne-eqb, eqb-true, eqb-false}
+use lib.ListN.{length, length-map}
+use lib.Dec.{T, T-not, not-T, eqb, eqb→eq, lt→ltb}
+use lib.IntN.{ℤ, pos, negsuc}
+use Rattle.protocol.specs.Lists.{bit, none, oneTo, natural, isZero, tally, count, all, snoc, nth, modify}
+use Rattle.protocol.specs.Plan.{Rule, Change, Edit, unsent, fateNumber, isUnsent, isWaiting, isOpen, isSettled, Kept, Side, Mode, blank, whole, split, joining, closing, modeNumber, is, active, Content, Plan, holds, made, fits, effective, absentSide, sideAt, lookup, unsentOf, pending, sidesThat}
+use Rattle.protocol.specs.Calls.{Call, measure, rule, open-plan, split-side, edit, join, send, replay, stop, confirm, install, show, fate-of, left, apart, checks, further, no25, editOf, ruleOf, changeOf, withNext, withDraft, withSides, withKept, freshSide, reset, onValues, hasArrived, hasConfirmed, sent, replayable, outcome, settled, update, nextPlace, after, gives}
+use Rattle.protocol.specs.History.{Entry, Settling, edited, History, lastSent, closed, budget, times, editIn, wasAccepted, replayed, EachHolds, entered}
+use Rattle.guarantee.specs.Guarantee.{InOrder}
+use Rattle.protocol.proofs.Laws.{on, decide, cases, yes-is, is-yes, is-no, both, and-in, which, or-right, or-left, neither, not-not, range, in-range, same-no, Pass, tally-same, tally-less, tally-zero, tally-full, count-map, count-snoc, length-snoc, length-modify, nth-same, nth-other, nth-map, nth-field, all-nth, all-snoc, all-map, all-modify, all-kept, all-one}
+use Rattle.guarantee.proofs.Kept.{editsOf, editsIn, edits-snoc, edits-sent, edits-settle, edit-found, count-settle, settle-part, lookup-same, lookup-other, lookup-number, lookup-new, lookup-old, lookup-sent, open-sent, unsent-sent, unsent-other, unsent-open, waiting-open, waiting-sent, Within, within-snoc, within-lookup, Rising, rising-le, rising-snoc, bounds, Named, named-sent, named-settle, named-snoc, Reported, reported-snoc, reported-sent, reported-settle, fresh-lookup, fresh-open, settled-count}
+
+-- ---- the invariant
+
+abbrev pub unarrived : Content → ℕ → Bool
+unarrived d s = not (sideAt d s .arrived)
+
+abbrev pub unconfirmed : Content → ℕ → Bool
+unconfirmed d s = not (sideAt d s .confirmed)
+
+-- the number left over n sides
+abbrev pub sum : Mode → Content → ℕ → ℕ
+sum m d n = tally (pending d) n + count isOpen (d .kept) + tally (unconfirmed d) n + bit (is joining m) + 1
+
+abbrev pub SidesHold : Content → Type 0
+SidesHold d = T (all (λ x. holds (d .rules) (x .values)) (d .sides))
+
+-- a joining plan has no side confirmed; in a closing one all logs have arrived, and a side that confirmed has nothing unsent
+abbrev pub SideOk : Mode → Side → ℕ → Type 0
+SideOk blank x u = Unit {0}
+SideOk whole x u = Unit {0}
+SideOk split x u = Unit {0}
+SideOk joining x u = T (not (x .confirmed))
+SideOk closing x u = T (x .arrived) × T (not (x .confirmed) || none u)
+
+-- an edit that was replied to while split is sent with its side's first log
+abbrev pub Logged : Content → Type 0
+Logged d = (n : ℕ) → T (isUnsent (lookup n (d .kept))) → T (lookup n (d .kept) .replied) → T (unarrived d (lookup n (d .kept) .edit .side))
+
+-- a plan that is split, joining or closing
+abbrev pub Parted : Content → History → Type 0
+Parted d h = record {
+  ground : record { base : d .base ≡ h .values; base-holds : T (holds (d .rules) (d .base)); rising : Rising 1 (editsIn (h .kept)) (d .next); within : Within (h .sides) (editsIn (h .kept)) };
+  kept : editsOf (d .kept) ≡ editsIn (h .kept);
+  named : Named (d .kept);
+  sides : length (d .sides) ≡ h .sides;
+  sides-hold : SidesHold d;
+}
+
+-- one that is joining or closing
+abbrev pub Active : Mode → Content → History → Type 0
+Active m d h = record {
+  left : sum m d (h .sides) + closed h ≡ budget h;
+  late : (s : ℕ) → lastSent s (h .moves) ≡ not (pending d s);
+  sides : (s : ℕ) → 0 < s → s ≤ h .sides → SideOk m (sideAt d s) (unsentOf s (d .kept));
+  logged : Logged d;
+  progress : record {
+    draft : d .draft ≡ replayed (h .settlings) (h .values);
+    draft-holds : T (holds (d .rules) (d .draft));
+    each : EachHolds (h .rules) (h .settlings) (h .values);
+    places : count isSettled (d .kept) ≡ length (h .settlings);
+  };
+}
+
+-- one that is blank or whole
+abbrev pub Single : Content → History → Type 0
+Single d h = record { alone : length (d .sides) ≡ 1; values : sideAt d 1 .values ≡ h .values }
+
+abbrev pub Stage : Mode → Content → History → Type 0
+Stage blank d h = Single d h
+Stage whole d h = Single d h × (h .sides ≡ 1) × SidesHold d
+Stage split d h = Parted d h × T (all isUnsent (d .kept)) × (h .settlings ≡ []) × (count (λ e. e .late) (h .kept) ≡ 0)
+Stage joining d h = Parted d h × Active joining d h
+Stage closing d h = Parted d h × Active closing d h
+
+abbrev pub Consistent : Mode → Content → History → Type 0
+Consistent m d h = record {
+  mode : h .mode ≡ m;
+  rules : d .rules ≡ h .rules;
+  next : 0 < d .next;
+  reported : Reported (d .kept) (h .settlings);
+  ordered : InOrder (h .settlings);
+  stage : Stage m d h;
+}
+
+-- ---- send
+
+module _ (d : Content) (s : ℕ) where
+  abbrev sendTo : Content
+  sendTo = withSides (modify s hasArrived) (withKept (map (sent s)) d)
+
+  pending-sent : 0 < s → s ≤ length (d .sides) → pending sendTo s ≡ false
+  pending-sent p q = rw (nth-same absentSide hasArrived s (d .sides) p q, unsent-sent s (d .kept))
+
+  pending-others : (x : ℕ) → x ≢ s → pending sendTo x ≡ pending d x
+  pending-others x h = rw (nth-other absentSide hasArrived s (d .sides) x h, unsent-other s x (d .kept) h)
+
+  confirmed-sent : (x : ℕ) → unconfirmed sendTo x ≡ unconfirmed d x
+  confirmed-sent x = ap not (nth-field (λ y. y .confirmed) absentSide hasArrived s (d .sides) x (λ y. refl))
+
+  -- what is unsent after the send is another side's, and was unsent before
+  logged-sent : 0 < s → Logged d → Logged sendTo
+  logged-sent p l n =
+      let k = lookup n (d .kept) in
+      let mine = isUnsent k && eqb (k .edit .side) s in
+      rw (lookup-sent s n (d .kept) p) (cases mine
+      (λ t. rw t (λ u. absurd u))
+      (λ t. rw t (λ u r.
+      let other : k .edit .side ≢ s = λ e. T-not mine (is-no t) (and-in (isUnsent k) (eqb (k .edit .side) s) u (is-yes (eq-eqb (k .edit .side) s e))) in
+      rw (nth-other absentSide hasArrived s (d .sides) (k .edit .side) other) (l n u r))))
+
+sent-ok : (m : Mode) (x : Side) (u : ℕ) → SideOk m x u → SideOk m (hasArrived x) 0
+sent-ok blank x u h = h
+sent-ok whole x u h = h
+sent-ok split x u h = h
+sent-ok joining x u h = h
+sent-ok closing x u h = (tt, or-right (not (x .confirmed)) true tt)
+
+module _ (m : Mode) (d : Content) (h : History) (t : Parted d h) (a : Active m d h) where
+  pub send-active : (z : ℤ) (xs : List ℤ) → T (oneTo (length (d .sides)) (natural z)) → T (pending d (natural z)) → Parted (sendTo d (natural z)) (entered (send z) xs h) × Active m (sendTo d (natural z)) (entered (send z) xs h)
+  unfolding entered
+  send-active z xs has owes =
+      let s = natural z in
+      let i = range (length (d .sides)) s has in
+      let gone = pending-sent d s (i .0) (i .1) in
+      let less = tally-less (pending d) (pending (sendTo d s)) (h .sides) s (i .0) (omega (arith, t .sides)) owes (is-no gone) (λ x k. sym (pending-others d s x k)) in
+      let counted = count-map isOpen (sent s) (d .kept) (open-sent s) in
+      let same = tally-same (unconfirmed (sendTo d s)) (unconfirmed d) (h .sides) (λ x p q. confirmed-sent d s x) in (
+        record {
+          ground = t .ground;
+          kept = edits-sent s (d .kept) ∙ t .kept;
+          named = named-sent s (d .kept) (i .0) (t .named);
+          sides = length-modify s hasArrived (d .sides) ∙ t .sides;
+          sides-hold = rw (all-kept (λ x. holds (d .rules) (x .values)) s hasArrived (d .sides) (λ x. refl)) (t .sides-hold);
+        },
+        record {
+          left = omega (arith, a .left);
+          late = λ x. cases (eqb x s) (λ e. rw (e, eqb-true x s e) (rw gone)) (λ e. rw (e, pending-others d s x (eqb-false x s e)) (a .late x));
+          sides = λ x p q. decide (eqb x s)
+              (λ e. rw (eqb→eq x s e) (rw (nth-same absentSide hasArrived s (d .sides) (i .0) (i .1), unsent-sent s (d .kept)) (sent-ok m (sideAt d s) (unsentOf s (d .kept)) (a .sides s (i .0) (omega (arith, t .sides))))))
+              (λ e. rw (nth-other absentSide hasArrived s (d .sides) x (same-no x s e), unsent-other s x (d .kept) (same-no x s e)) (a .sides x p q));
+          logged = logged-sent d s (i .0) (a .logged);
+          progress = record {
+            draft = a .progress .draft;
+            draft-holds = a .progress .draft-holds;
+            each = a .progress .each;
+            places = count-map isSettled (sent s) (d .kept) (λ k. ap not (open-sent s k)) ∙ a .progress .places;
+          };
+        },
+      )
+
+-- ---- replay
+
+outcome-number : (b : Bool) → eqb (fateNumber (outcome b)) 3 ≡ b
+outcome-number true = refl
+outcome-number false = refl
+
+settled-shut : (b : Bool) (place : ℕ) (k : Kept) → (isOpen (settled b place k) ≡ false) × (isUnsent (settled b place k) ≡ false)
+settled-shut true place k = (refl, refl)
+settled-shut false place k = (refl, refl)
+
+-- the one law of `replayable`: every rule holds after a change that takes effect
+replayable-holds : (d : Content) (n : ℕ) → T (not (replayable d n) || holds (d .rules) (made (lookup n (d .kept) .edit .measure) (lookup n (d .kept) .edit .change) (d .draft)))
+unfolding replayable effective
+replayable-holds d n = by (fits (lookup n (d .kept) .edit .measure) (lookup n (d .kept) .edit .change) (d .draft)) (holds (d .rules) (made (lookup n (d .kept) .edit .measure) (lookup n (d .kept) .edit .change) (d .draft)))
+  where
+    by : (f h : Bool) → T (not (f && h) || h)
+    by true true = tt
+    by true false = tt
+    by false h = tt
+
+abbrev replayTo : Content → ℕ → Content
+replayTo d n =
+    let e = lookup n (d .kept) .edit in
+    withDraft (cond (replayable d n) (made (e .measure) (e .change) (d .draft)) (d .draft))
+    (withKept (update n (settled (replayable d n) (nextPlace (d .kept)))) d)
+
+-- an edit that waits while all logs have arrived names 0 or a settled edit
+earlier-settled : (m : Mode) (d : Content) (h : History) → Parted d h → Active m d h → Reported (d .kept) (h .settlings) → (n : ℕ) → sidesThat (unarrived d) d ≡ 0 → T (not (isWaiting (lookup (lookup n (d .kept) .edit .earlier) (d .kept))))
+    → (lookup n (d .kept) .edit .earlier ≡ 0) ⊎ (0 < times (lookup n (d .kept) .edit .earlier) (h .settlings))
+earlier-settled m d h t a told n logs still =
+    let e = lookup n (d .kept) .edit .earlier in
+    let k = lookup e (d .kept) in
+    on (t .named n)
+    (λ z. inl z)
+    (λ r.
+    let w = range (h .sides) (k .edit .side) (within-lookup (h .sides) (d .kept) e (rw (t .kept) (t .ground .within)) r) in
+    let here = tally-zero (unarrived d) (length (d .sides)) (k .edit .side) logs (w .0) (omega (arith, w .1, t .sides)) in
+    let gone = not-T (isUnsent k) (λ u. T-not (unarrived d (k .edit .side)) here (a .logged e u r)) in
+    let shut : isOpen k ≡ false = shut-by (isUnsent k) (isWaiting k) gone still in
+    let once : times e (h .settlings) ≡ 1 = ap (λ x. x .2) (rw shut at (told e)) in
+    inr (omega arith))
+  where
+    shut-by : (x y : Bool) → T (not x) → T (not y) → (x || y) ≡ false
+    shut-by true y p q = absurd p
+    shut-by false true p q = absurd q
+    shut-by false false p q = refl
+
+module _ (m : Mode) (d : Content) (h : History) (t : Parted d h) (a : Active m d h) (rules : d .rules ≡ h .rules) where
+  abbrev replayEntered : ℤ → History
+  replayEntered z = entered (replay z) (pos (fateNumber (outcome (replayable d (natural z)))) ∷ []) h
+
+  pub replay-active : (z : ℤ) → T (isWaiting (lookup (natural z) (d .kept))) → Parted (replayTo d (natural z)) (replayEntered z) × Active m (replayTo d (natural z)) (replayEntered z)
+  unfolding entered
+  replay-active z waits =
+      let n = natural z in
+      let w = replayable d n in
+      let place = nextPlace (d .kept) in
+      let old = lookup n (d .kept) in
+      let shut = settled-shut w place old in
+      let opened = yes-is (isOpen old) (waiting-open old waits) in
+      let counted = rw (opened, shut .0) at (count-settle n w place isOpen (d .kept) waits) in
+      let places = rw (opened, shut .0) at (count-settle n w place isSettled (d .kept) waits) in
+      let unsents : (x : ℕ) → unsentOf x (update n (settled w place) (d .kept)) ≡ unsentOf x (d .kept) = λ x.
+      let e = rw (shut .1, waiting-sent (old .fate) waits) at (count-settle n w place (λ k. isUnsent k && eqb (k .edit .side) x) (d .kept) waits) in
+      omega arith
+      in
+      let ow = outcome-number w in
+      let found = edit-found (d .kept) (h .kept) (t .kept) n in
+      let same = tally-same (pending (replayTo d n)) (pending d) (h .sides) (λ x p q. rw (unsents x)) in (
+        record {
+          ground = t .ground;
+          kept = edits-settle n w place (d .kept) ∙ t .kept;
+          named = named-settle n w place (d .kept) (t .named);
+          sides = t .sides;
+          sides-hold = t .sides-hold;
+        },
+        record {
+          left = omega (arith, a .left);
+          late = λ x. rw (unsents x) (a .late x);
+          sides = λ x p q. rw (unsents x) (a .sides x p q);
+          logged = λ x. logged-settle x;
+          progress = record {
+            draft = rw (ow, found, ← (a .progress .draft));
+            draft-holds = cases w (λ e. rw e (which (not w) _ (replayable-holds d n) (λ u. absurd (rw e at u)) (λ u. u))) (λ e. rw e (a .progress .draft-holds));
+            each = (rw (ow, found, ← (a .progress .draft), ← rules) (cases w (λ e. rw e (which (not w) _ (replayable-holds d n) (λ u. absurd (rw e at u)) (λ u. u))) (λ e. rw e tt)), a .progress .each);
+            places = let y = a .progress .places in omega arith;
+          };
+        },
+      )
+    where
+      logged-settle : Logged (replayTo d (natural z))
+      logged-settle x u r =
+          let n = natural z in
+          let w = replayable d n in
+          let place = nextPlace (d .kept) in
+          rw (settle-part n w place (λ k. k .edit) x (d .kept) (λ k. refl))
+          (decide (eqb x n)
+          (λ e. absurd (rw (eqb→eq x n e, lookup-same n w place (d .kept) waits, settled-shut w place (lookup n (d .kept)) .1) at u))
+          (λ e. let other = lookup-other n w place x (d .kept) (same-no x n e) in a .logged x (rw other at u) (rw other at r)))
+
+  pub replay-reported : (z : ℤ) → T (isWaiting (lookup (natural z) (d .kept))) → Reported (d .kept) (h .settlings) → Reported (replayTo d (natural z) .kept) (replayEntered z .settlings)
+  unfolding entered
+  replay-reported z waits told =
+      rw (a .progress .places, edit-found (d .kept) (h .kept) (t .kept) (natural z))
+      (reported-settle (natural z) (replayable d (natural z)) (d .kept) (h .settlings) (lookup (natural z) (d .kept) .edit) (lookup-number (natural z) (d .kept) waits) waits told)
+
+-- ---- stop and confirm
+
+module _ (d : Content) (h : History) (t : Parted d h) where
+  pub stop-active : Active joining d h → (xs : List ℤ) → sidesThat (unarrived d) d ≡ 0 → Active closing d (entered stop xs h)
+  unfolding entered
+  stop-active a xs z = record {
+    left = omega (arith, a .left);
+    late = a .late;
+    sides = λ x p q. (not-not (sideAt d x .arrived) (tally-zero (unarrived d) (length (d .sides)) x z p (omega (arith, t .sides))), or-left (not (sideAt d x .confirmed)) _ (a .sides x p q));
+    logged = a .logged;
+    progress = a .progress;
+  }
+
+  abbrev confirmTo : ℕ → Content
+  confirmTo s = withSides (modify s hasConfirmed) d
+
+  pub confirm-active : Active closing d h → (z : ℤ) (xs : List ℤ) → T (oneTo (length (d .sides)) (natural z)) → T (unconfirmed d (natural z)) → T (none (unsentOf (natural z) (d .kept)))
+      → Parted (confirmTo (natural z)) (entered (confirm z) xs h) × Active closing (confirmTo (natural z)) (entered (confirm z) xs h)
+  unfolding entered
+  confirm-active a z xs has not-yet sent-all =
+      let s = natural z in
+      let i = range (length (d .sides)) s has in
+      let at = nth-same absentSide hasConfirmed s (d .sides) (i .0) (i .1) in
+      let off : (x : ℕ) → x ≢ s → sideAt (confirmTo s) x ≡ sideAt d x = λ x k. nth-other absentSide hasConfirmed s (d .sides) x k in
+      let logs : (x : ℕ) → sideAt (confirmTo s) x .arrived ≡ sideAt d x .arrived = λ x. nth-field (λ y. y .arrived) absentSide hasConfirmed s (d .sides) x (λ y. refl) in
+      let less = tally-less (unconfirmed d) (unconfirmed (confirmTo s)) (h .sides) s (i .0) (omega (arith, t .sides)) not-yet (rw at tt) (λ x k. rw (off x k)) in
+      let same = tally-same (pending (confirmTo s)) (pending d) (h .sides) (λ x p q. rw (logs x)) in (
+        record {
+          ground = t .ground;
+          kept = t .kept;
+          named = t .named;
+          sides = length-modify s hasConfirmed (d .sides) ∙ t .sides;
+          sides-hold = rw (all-kept (λ x. holds (d .rules) (x .values)) s hasConfirmed (d .sides) (λ x. refl)) (t .sides-hold);
+        },
+        record {
+          left = omega (arith, a .left);
+          late = λ x. rw (logs x) (a .late x);
+          sides = λ x p q. decide (eqb x s)
+              (λ e. rw (eqb→eq x s e) (rw at (a .sides s (i .0) (omega (arith, t .sides)) .0, sent-all)))
+              (λ e. rw (off x (same-no x s e)) (a .sides x p q));
+          logged = λ n u r. rw (logs (lookup n (d .kept) .edit .side)) (a .logged n u r);
+          progress = a .progress;
+        },
+      )
+
+-- ---- an edit, in a plan that is split or joining
+
+abbrev newKept : Edit → Bool → Kept
+newKept e r = record { edit = e; fate = unsent; replied = r; place = 0 }
+
+abbrev editTo : Content → Edit → Bool → Content
+editTo d e r = withNext (suc (d .next)) (withSides (modify (e .side) (onValues (made (e .measure) (e .change)))) (withKept (λ ks. snoc ks (newKept e r)) d))
+
+abbrev editEntered : History → Edit → Bool → History
+editEntered h e l = record {
+  mode = h .mode;
+  values = h .values;
+  rules = h .rules;
+  sides = h .sides;
+  kept = snoc (h .kept) (record { edit = e; late = l });
+  settlings = h .settlings;
+  moves = edited (e .side) ∷ h .moves;
+}
+
+edits-in-snoc : (es : List Entry) (e : Entry) → editsIn (snoc es e) ≡ snoc (editsIn es) (e .edit)
+edits-in-snoc [] e = refl
+edits-in-snoc (x ∷ es) e = ap {B = List Edit} (λ r. x .edit ∷ r) (edits-in-snoc es e)
+
+-- the side has the edit's measure changed, and every rule holds there
+abbrev pub Fitting : Content → Edit → Type 0
+Fitting d e = record {
+  number : e .number ≡ d .next;
+  side : T (oneTo (length (d .sides)) (e .side));
+  earlier : (e .earlier ≡ 0) ⊎ T (lookup (e .earlier) (d .kept) .replied);
+  hold : T (holds (d .rules) (made (e .measure) (e .change) (sideAt d (e .side) .values)));
+}
+
+module _ (d : Content) (h : History) (e : Edit) (r : Bool) (f : Fitting d e) (t : Parted d h) where
+  -- the earlier edit, if any, has a lower number
+  lower : e .earlier < d .next
+  lower =
+      let k = rising-le 1 (editsIn (h .kept)) (d .next) (t .ground .rising) in
+      on (f .earlier)
+      (λ z. omega arith)
+      (λ u. bounds (λ k. k .replied) 1 (d .kept) (d .next) (e .earlier) tt (rw (t .kept) (t .ground .rising)) u .1)
+
+  pub edit-parted : (l : Bool) → Parted (editTo d e r) (editEntered h e l)
+  edit-parted l =
+      record {
+        ground = record {
+          base = t .ground .base;
+          base-holds = t .ground .base-holds;
+          rising = rw (edits-in-snoc (h .kept) (record { edit = e; late = l })) (rising-snoc 1 (editsIn (h .kept)) (d .next) e (t .ground .rising) (f .number) lower);
+          within = rw (edits-in-snoc (h .kept) (record { edit = e; late = l })) (within-snoc (h .sides) (editsIn (h .kept)) e (t .ground .within) (rw (t .sides) at (f .side)));
+        };
+        kept = edits-snoc (d .kept) (newKept e r) ∙ ap (λ es. snoc es e) (t .kept) ∙ sym (edits-in-snoc (h .kept) (record { edit = e; late = l }));
+        named = named-snoc 1 (d .kept) (newKept e r) (rw (t .kept, f .number) (t .ground .rising)) (f .earlier) (t .named);
+        sides = length-modify (e .side) (onValues (made (e .measure) (e .change))) (d .sides) ∙ t .sides;
+        sides-hold = all-modify (λ x. holds (d .rules) (x .values)) absentSide (e .side) (onValues (made (e .measure) (e .change))) (d .sides) (t .sides-hold) (f .hold);
+      }
+
+  more : (x : ℕ) → unsentOf x (editTo d e r .kept) ≡ unsentOf x (d .kept) + bit (eqb (e .side) x)
+  more x = count-snoc (λ k. isUnsent k && eqb (k .edit .side) x) (d .kept) (newKept e r)
+
+  pending-edited : T (pending (editTo d e r) (e .side))
+  pending-edited =
+      let i = ap bit (eq-eqb (e .side) (e .side) refl) in
+      let n = more (e .side) in
+      let k : 0 < unsentOf (e .side) (editTo d e r .kept) = omega arith in
+      or-right (not (sideAt (editTo d e r) (e .side) .arrived)) _ (lt→ltb 0 _ k)
+
+  arrived-edited : (x : ℕ) → sideAt (editTo d e r) x .arrived ≡ sideAt d x .arrived
+  arrived-edited x = nth-field (λ y. y .arrived) absentSide (onValues (made (e .measure) (e .change))) (e .side) (d .sides) x (λ y. refl)
+
+  pending-not-edited : (x : ℕ) → x ≢ e .side → pending (editTo d e r) x ≡ pending d x
+  pending-not-edited x k =
+      let i = ap bit (ne-eqb (e .side) x (λ j. k (sym j))) in
+      let n : unsentOf x (editTo d e r .kept) ≡ unsentOf x (d .kept) = let n = more x in omega arith in
+      rw (n, arrived-edited x)
+
+-- an edit made while joining has no reply before it is sent
+module _ (d : Content) (h : History) (e : Edit) (f : Fitting d e) (t : Parted d h) where
+  logged-edit : Logged d → Logged (editTo d e false)
+  logged-edit l n u r =
+      decide (eqb n (e .number))
+      (λ i. absurd (rw (eqb→eq n (e .number) i, lookup-new 1 (d .kept) (newKept e false) (rw (t .kept, f .number) (t .ground .rising))) at r))
+      (λ i.
+      let old = lookup-old n (d .kept) (newKept e false) (same-no n (e .number) i) in
+      rw (old, arrived-edited d h e false f t (lookup n (d .kept) .edit .side)) (l n (rw old at u) (rw old at r)))
+
+  pub edit-active : Active joining d h → Active joining (editTo d e false) (editEntered h e (lastSent (e .side) (h .moves)))
+  edit-active a =
+      let s = e .side in
+      let i = range (length (d .sides)) s (f .side) in
+      let d′ = editTo d e false in
+      let late = lastSent s (h .moves) in
+      let owes = pending-edited d h e false f t in
+      let others = pending-not-edited d h e false f t in
+      let seen : (x : ℕ) → sideAt d′ x .confirmed ≡ sideAt d x .confirmed = λ x. nth-field (λ y. y .confirmed) absentSide (onValues (made (e .measure) (e .change))) s (d .sides) x (λ y. refl) in
+      let counted = count-snoc isOpen (d .kept) (newKept e false) in
+      let longer = length-snoc (h .kept) (record { edit = e; late = late }) in
+      let lates = count-snoc (λ x. x .late) (h .kept) (record { edit = e; late = late }) in
+      let same = tally-same (unconfirmed d′) (unconfirmed d) (h .sides) (λ x p q. rw (seen x)) in
+      let twice = ap bit (a .late s) in
+      let owing : tally (pending d′) (h .sides) ≡ bit (not (pending d s)) + tally (pending d) (h .sides) = cases (pending d s)
+      (λ o.
+      let k = tally-same (pending d′) (pending d) (h .sides) (λ x p q. cases (eqb x s) (λ j. rw (eqb-true x s j) (yes-is _ owes ∙ sym o)) (λ j. others x (eqb-false x s j))) in
+      rw o (omega arith))
+      (λ o. let k = tally-less (pending d′) (pending d) (h .sides) s (i .0) (omega (arith, t .sides)) owes (is-no o) others in rw o (omega arith))
+      in
+      record {
+        left = omega (arith, a .left);
+        late = λ x. cases (eqb x s) (λ j. rw (j, eqb-true x s j, yes-is (pending d′ s) owes)) (λ j. rw (j, others x (eqb-false x s j)) (a .late x));
+        sides = λ x p q. rw (seen x) (a .sides x p q);
+        logged = logged-edit (a .logged);
+        progress = record {
+          draft = a .progress .draft;
+          draft-holds = a .progress .draft-holds;
+          each = a .progress .each;
+          places = let z = count-snoc isSettled (d .kept) (newKept e false) in let y = a .progress .places in omega arith;
+        };
+      }
+
+-- ---- join
+
+abbrev joinTo : Content → Content
+joinTo d = withDraft (d .base) (withSides (map reset) d)
+
+pub join-active : (d : Content) (h : History) (xs : List ℤ) → Parted d h → T (all isUnsent (d .kept)) → h .settlings ≡ [] → count (λ e. e .late) (h .kept) ≡ 0 → Parted (joinTo d) (entered join xs h) × Active joining (joinTo d) (entered join xs h)
+unfolding entered
+join-active d h xs t f z early =
+    let side : (x : ℕ) → sideAt (joinTo d) x ≡ reset (sideAt d x) = λ x. nth-map absentSide reset (d .sides) x refl in
+    let all-owe = tally-full (pending (joinTo d)) (h .sides) (λ x. rw (side x) tt) in
+    let none-agrees = tally-full (unconfirmed (joinTo d)) (h .sides) (λ x. rw (side x) tt) in
+    let counted = fresh-open (d .kept) f in
+    let shut = settled-count (d .kept) in
+    let long = sym (length-map (d .kept) (λ k. k .edit)) ∙ ap length (t .kept) ∙ length-map (h .kept) (λ e. e .edit) in (
+      record {
+        ground = t .ground;
+        kept = t .kept;
+        named = t .named;
+        sides = length-map (d .sides) reset ∙ t .sides;
+        sides-hold = rw (all-map (λ x. holds (d .rules) (x .values)) reset (d .sides) (λ x. refl)) (t .sides-hold);
+      },
+      record {
+        left = omega arith;
+        late = λ x. rw (side x);
+        sides = λ x p q. rw (side x) tt;
+        logged = λ n u r. rw (side (lookup n (d .kept) .edit .side)) tt;
+        progress = record { draft = rw z (t .ground .base); draft-holds = t .ground .base-holds; each = rw z tt; places = rw z (omega arith) };
+      },
+    )
+
+-- ---- by call
+
+decode : ℕ → Mode
+decode zero = blank
+decode (suc zero) = whole
+decode (suc (suc zero)) = split
+decode (suc (suc (suc zero))) = joining
+decode (suc (suc (suc (suc n)))) = closing
+
+coded : (m : Mode) → decode (modeNumber m) ≡ m
+unfolding decode
+coded blank = refl
+coded whole = refl
+coded split = refl
+coded joining = refl
+coded closing = refl
+
+-- the mode that a test found
+pub only : (k m : Mode) → T (is k m) → m ≡ k
+only k m t = sym (coded m) ∙ ap decode (eqb→eq (modeNumber m) (modeNumber k) t) ∙ coded k
+
+abbrev pub plan : Mode → Content → Plan
+plan m d = record { mode = m; content = d }
+
+abbrev pub AfterConsistent : Call → Mode → Content → History → Type 0
+AfterConsistent c m d h = Consistent (after c m d .mode) (after c m d .content) (entered c (gives c m d) h)
+
+within-more : (n : ℕ) (es : List Edit) → Within n es → Within (suc n) es
+within-more n [] w = tt
+within-more n (e ∷ es) w = let i = range n (e .side) (w .0) in (in-range (suc n) (e .side) (i .0) (omega arith), within-more n es (w .1))
+
+-- the earlier edit of a call that passes 25
+earlier-ok : (ks : List Kept) (client n : ℤ) → T (no25 (lookup (natural n) ks) client n .passes) → (natural n ≡ 0) ⊎ T (lookup (natural n) ks .replied)
+earlier-ok ks client (pos n) h = which (none n) _ h (λ z. inl (eqb→eq n 0 z)) (λ k. inr (both (lookup n ks .replied) _ k .0))
+earlier-ok ks client (negsuc n) h = inl refl
+
+module _ (d : Content) (h : History) where
+  single : (f : List ℤ → List ℤ) → Single d h → nth absentSide (modify 1 (onValues f) (d .sides)) 1 .values ≡ f (h .values)
+  single f t = ap (λ x. x .values) (nth-same absentSide (onValues f) 1 (d .sides) (omega arith) (omega (arith, t .alone))) ∙ ap f (t .values)
+
+  measure-consistent : (v : ℤ) → Consistent blank d h → AfterConsistent (measure v) blank d h
+  unfolding after entered gives
+  measure-consistent v t = record {
+    mode = t .mode;
+    rules = t .rules;
+    next = t .next;
+    reported = t .reported;
+    ordered = t .ordered;
+    stage = record { alone = length-modify 1 _ (d .sides) ∙ t .stage .alone; values = single (λ vs. snoc vs v) (t .stage) };
+  }
+
+  rule-consistent : (a c b f : ℤ) → Consistent blank d h → AfterConsistent (rule a c b f) blank d h
+  unfolding after entered gives
+  rule-consistent a c b f t = record {
+    mode = t .mode;
+    rules = ap (λ rs. snoc rs (ruleOf a c b f)) (t .rules);
+    next = t .next;
+    reported = t .reported;
+    ordered = t .ordered;
+    stage = t .stage;
+  }
+
+  open-consistent : T (holds (d .rules) (sideAt d 1 .values)) → Consistent blank d h → AfterConsistent open-plan blank d h
+  unfolding after entered gives
+  open-consistent hold t = record {
+    mode = refl;
+    rules = t .rules;
+    next = omega arith;
+    reported = t .reported;
+    ordered = t .ordered;
+    stage = (t .stage, refl, all-one (λ x. holds (d .rules) (x .values)) absentSide (d .sides) (t .stage .alone) hold);
+  }
+
+  split-holds : (s : ℕ) → T (oneTo (length (d .sides)) s) → SidesHold d → T (all (λ x. holds (d .rules) (x .values)) (snoc (d .sides) (freshSide (sideAt d s .values))))
+  split-holds s has hold =
+      let i = range (length (d .sides)) s has in
+      all-snoc (λ x. holds (d .rules) (x .values)) (d .sides) (freshSide (sideAt d s .values)) hold (all-nth (λ x. holds (d .rules) (x .values)) absentSide (d .sides) s hold (i .0) (i .1))
+
+  split-whole : (s : ℤ) → T (oneTo (length (d .sides)) (natural s)) → Consistent whole d h → AfterConsistent (split-side s) whole d h
+  unfolding after entered gives
+  split-whole s has t = rw (t .mode) (record {
+    mode = refl;
+    rules = t .rules;
+    next = t .next;
+    reported = λ n. refl;
+    ordered = tt;
+    stage = (
+      record {
+        ground = record {
+          base = t .stage .0 .values;
+          base-holds = all-nth (λ x. holds (d .rules) (x .values)) absentSide (d .sides) 1 (t .stage .2) (omega arith) (omega (arith, t .stage .0 .alone));
+          rising = t .next;
+          within = tt;
+        };
+        kept = refl;
+        named = λ n. inl refl;
+        sides = length-snoc (d .sides) _ ∙ ap suc (t .stage .0 .alone ∙ sym (t .stage .1));
+        sides-hold = split-holds (natural s) has (t .stage .2);
+      },
+      tt,
+      refl,
+      refl,
+    );
+  })
+
+  split-split : (s : ℤ) → T (oneTo (length (d .sides)) (natural s)) → Consistent split d h → AfterConsistent (split-side s) split d h
+  unfolding after entered gives
+  split-split s has t = let g = t .stage .0 .ground in rw (t .mode) (record {
+    mode = refl;
+    rules = t .rules;
+    next = t .next;
+    reported = t .reported;
+    ordered = t .ordered;
+    stage = (
+      record {
+        ground = record { base = g .base; base-holds = g .base-holds; rising = g .rising; within = within-more (h .sides) (editsIn (h .kept)) (g .within) };
+        kept = t .stage .0 .kept;
+        named = t .stage .0 .named;
+        sides = length-snoc (d .sides) _ ∙ ap suc (t .stage .0 .sides);
+        sides-hold = split-holds (natural s) has (t .stage .0 .sides-hold);
+      },
+      t .stage .1,
+      t .stage .2,
+      t .stage .3,
+    );
+  })
+
+  module _ (s client n m kind k : ℤ) (f : Fitting d (editOf (d .next) s client n m kind k)) where
+    abbrev made-edit : Edit
+    made-edit = editOf (d .next) s client n m kind k
+
+    edit-whole : Consistent whole d h → AfterConsistent (edit s client n m kind k) whole d h
+    unfolding after entered gives
+    edit-whole t =
+        let i = range (length (d .sides)) (natural s) (f .side) in
+        let one : natural s ≡ 1 = omega (arith, t .stage .0 .alone, i .0, i .1) in
+        let hold = all-modify (λ x. holds (d .rules) (x .values)) absentSide (natural s) (onValues (made (natural m) (changeOf kind k))) (d .sides) (t .stage .2) (f .hold) in
+        rw (t .mode) (record {
+          mode = refl;
+          rules = t .rules;
+          next = omega arith;
+          reported = t .reported;
+          ordered = t .ordered;
+          stage = (
+            record { alone = length-modify (natural s) _ (d .sides) ∙ t .stage .0 .alone; values = rw one (single (made (natural m) (changeOf kind k)) (t .stage .0)) },
+            t .stage .1,
+            hold,
+          );
+        })
+
+    edit-split : Consistent split d h → AfterConsistent (edit s client n m kind k) split d h
+    unfolding after entered gives
+    edit-split t = rw (t .mode) (record {
+      mode = refl;
+      rules = t .rules;
+      next = omega arith;
+      reported = reported-snoc (d .kept) (newKept made-edit true) (h .settlings) tt (t .reported);
+      ordered = t .ordered;
+      stage = (
+        edit-parted d h made-edit true f (t .stage .0) false,
+        all-snoc isUnsent (d .kept) (newKept made-edit true) (t .stage .1) tt,
+        t .stage .2,
+        (let z = count-snoc (λ e. e .late) (h .kept) (record { edit = made-edit; late = false }) in let y = t .stage .3 in omega arith),
+      );
+    })
+
+    edit-joining : Consistent joining d h → AfterConsistent (edit s client n m kind k) joining d h
+    unfolding after entered gives
+    edit-joining t = rw (t .mode) (record {
+      mode = refl;
+      rules = t .rules;
+      next = omega arith;
+      reported = reported-snoc (d .kept) (newKept made-edit false) (h .settlings) tt (t .reported);
+      ordered = t .ordered;
+      stage = (
+        edit-parted d h made-edit false f (t .stage .0) (lastSent (natural s) (h .moves)),
+        edit-active d h made-edit f (t .stage .0) (t .stage .1),
+      );
+    })
+
+-- ---- the stage of a joining or closing plan
+
+pub out : (m : Mode) (d : Content) (h : History) → T (active m) → Stage m d h → Parted d h × Active m d h
+out blank d h a s = absurd a
+out whole d h a s = absurd a
+out split d h a s = absurd a
+out joining d h a s = s
+out closing d h a s = s
+
+back : (m : Mode) (d : Content) (h : History) → T (active m) → Parted d h × Active m d h → Stage m d h
+back blank d h a s = absurd a
+back whole d h a s = absurd a
+back split d h a s = absurd a
+back joining d h a s = s
+back closing d h a s = s
+
+pub consistent-after : (c : Call) (m : Mode) (d : Content) (h : History) → Consistent m d h → Pass (checks c (plan m d)) → AfterConsistent c m d h
+unfolding after entered gives checks further
+consistent-after (measure v) m d h t k = let e = only blank m (k .0) in rw e (measure-consistent d h v (rw e at t))
+consistent-after (rule a c b f) m d h t k = let e = only blank m (k .0) in rw e (rule-consistent d h a c b f (rw e at t))
+consistent-after open-plan m d h t k = let e = only blank m (k .0) in open-consistent d h (k .1 .1 .0) (rw e at t)
+consistent-after (split-side s) m d h t k = which (is whole m) (is split m) (k .0)
+    (λ w. let e = only whole m w in rw e (split-whole d h s (k .1 .0) (rw e at t)))
+    (λ w. let e = only split m w in rw e (split-split d h s (k .1 .0) (rw e at t)))
+consistent-after (edit s client n x kind y) m d h t k =
+    let f : Fitting d (editOf (d .next) s client n x kind y) = record {
+      number = refl;
+      side = k .1 .0;
+      earlier = earlier-ok (d .kept) client n (k .1 .1 .1 .1 .1 .0);
+      hold = k .1 .1 .1 .1 .1 .1 .1 .1 .1 .1 .0;
+    } in
+    which (is whole m) (apart m) (k .0)
+    (λ w. let e = only whole m w in rw e (edit-whole d h s client n x kind y f (rw e at t)))
+    (λ v. which (is split m) (is joining m) v
+    (λ w. let e = only split m w in rw e (edit-split d h s client n x kind y f (rw e at t)))
+    (λ w. let e = only joining m w in rw e (edit-joining d h s client n x kind y f (rw e at t))))
+consistent-after join m d h t k =
+    let e = only split m (k .0) in
+    let t′ : Consistent split d h = rw e at t in
+    record { mode = refl; rules = t .rules; next = t .next; reported = t .reported; ordered = t .ordered; stage = join-active d h [] (t′ .stage .0) (t′ .stage .1) (t′ .stage .2) (t′ .stage .3) }
+consistent-after (send s) m d h t k =
+    let st = out m d h (k .0) (t .stage) in
+    let i = range (length (d .sides)) (natural s) (k .1 .0) in
+    record {
+      mode = t .mode;
+      rules = t .rules;
+      next = t .next;
+      reported = reported-sent (natural s) (d .kept) (h .settlings) (i .0) (t .reported);
+      ordered = t .ordered;
+      stage = back m _ _ (k .0) (send-active m d h (st .0) (st .1) s [] (k .1 .0) (k .1 .1 .0));
+    }
+consistent-after (replay n) m d h t k =
+    let st = out m d h (k .0) (t .stage) in
+    let waits = k .1 .1 .0 in
+    record {
+      mode = t .mode;
+      rules = t .rules;
+      next = t .next;
+      reported = replay-reported m d h (st .0) (st .1) (t .rules) n waits (t .reported);
+      ordered = (rw (edit-found (d .kept) (h .kept) (st .0 .kept) (natural n)) (earlier-settled m d h (st .0) (st .1) (t .reported) (natural n) (eqb→eq _ 0 (k .1 .0)) (k .1 .1 .1 .0)), t .ordered);
+      stage = back m _ _ (k .0) (replay-active m d h (st .0) (st .1) (t .rules) n waits);
+    }
+consistent-after stop m d h t k =
+    let e = only joining m (k .0) in
+    let t′ : Consistent joining d h = rw e at t in
+    record { mode = refl; rules = t .rules; next = t .next; reported = t .reported; ordered = t .ordered; stage = (t′ .stage .0, stop-active d h (t′ .stage .0) (t′ .stage .1) [] (eqb→eq _ 0 (k .1 .0))) }
+consistent-after (confirm s) m d h t k =
+    let e = only closing m (k .0) in
+    let t′ : Consistent closing d h = rw e at t in
+    record { mode = t .mode; rules = t .rules; next = t .next; reported = t .reported; ordered = t .ordered; stage = rw e (confirm-active d h (t′ .stage .0) (t′ .stage .1) s [] (k .1 .0) (k .1 .1 .0) (k .1 .1 .1 .0)) }
+consistent-after install m d h t k =
+    let e = only closing m (k .0) in
+    let t′ : Consistent closing d h = rw e at t in
+    let g = t′ .stage .1 .progress in
+    record { mode = refl; rules = t .rules; next = t .next; reported = t .reported; ordered = t .ordered; stage = (record { alone = refl; values = g .draft }, refl, and-in (holds (d .rules) (d .draft)) true (g .draft-holds) tt) }
+consistent-after (show s room) m d h t k = t
+consistent-after (fate-of n) m d h t k = t
+consistent-after left m d h t k = t

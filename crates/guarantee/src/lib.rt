@@ -1,0 +1,1 @@
+// Theorems only: what every list of calls guarantees (specs/), and why (proofs/).
