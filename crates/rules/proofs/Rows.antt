@@ -1,0 +1,96 @@
+-- Laws of rows, rules as arrays hold them, and the trial of a change. Assumes nothing.
+use Prim.Native.Nat.{ℕ, zero, suc, _+_, _-_, _<_, _≤_}
+use native.Mathlib.Omega.{arith}
+use mathlib.Core.Bool.{Bool, true, false, cond, _&&_, _||_}
+use mathlib.Core.Path.{_≡_, refl, sym, ap, _∙_, subst}
+use mathlib.Core.Logic.{_≢_}
+use mathlib.Core.List.{List, [], _∷_}
+use borrow.Author.Tests.{ltb-true, ltb-false}
+use lib.Dec.{T, ltb}
+use lib.IntN.{ℤ, pos}
+use lib.ListN.{length, getD, List·getD-eq-default}
+use Rattle.protocol.specs.Lists.{oneTo, nth, modify}
+use Rattle.protocol.specs.Plan.{Rule, Change, inRange, value, ruleHolds, holds, names, firmlyNamed, applied, made, fits, effective}
+use Rattle.protocol.proofs.Laws.{cases, range, is-yes, in-range, nth-same, nth-other}
+use Rattle.rules.specs.declared.Trial.{Trial}
+use Rattle.rules.specs.declared.Trial.the-variants.{Effective, OutOfRange, Broken}
+use Rattle.rules.specs.Rows.{row, withValue, pairHolds, holdsAt, holdsIn, namesPair, firmAt, firmIn, rulesIn, trialOf}
+use Rattle.rules.proofs.Spans.{length-span, nth-span, nth-past, all-span, any-span}
+
+-- ---- values of a row
+
+pub value-none : (vs : List ℤ) (m : ℕ) → m ≡ 0 → pos 0 ≡ value vs m
+unfolding value
+value-none vs m e = rw e
+
+pub value-row : (vs : List ℤ) (at n m : ℕ) → 0 < m → m - 1 < n → value (row vs at n) m ≡ getD vs (at + (m - 1)) (pos 0)
+unfolding value
+value-row vs at n zero h k = absurd (omega arith)
+value-row vs at n (suc m) h k =
+    let e : suc m - 1 ≡ m = omega arith in
+    nth-span (pos 0) at n (λ i. getD vs i (pos 0)) m (omega arith) ∙ ap (λ j. getD vs (at + j) (pos 0)) (sym e)
+
+pub value-outside : (vs : List ℤ) (at n m : ℕ) → 0 < m → n ≤ m - 1 → pos 0 ≡ value (row vs at n) m
+unfolding value
+value-outside vs at n zero h k = absurd (omega arith)
+value-outside vs at n (suc m) h k = sym (nth-past (pos 0) at n (λ i. getD vs i (pos 0)) m (omega arith))
+
+-- past the array's end
+pub value-beyond : (vs : List ℤ) (at n m : ℕ) → 0 < m → length vs ≤ at + (m - 1) → pos 0 ≡ value (row vs at n) m
+value-beyond vs at n m h k = cases (ltb (m - 1) n)
+    (λ e. sym (value-row vs at n m h (ltb-true (m - 1) n e) ∙ List·getD-eq-default vs (pos 0) {n = at + (m - 1)} k))
+    (λ e. value-outside vs at n m h (ltb-false (m - 1) n e))
+
+-- ---- values where one measure counts as another number
+
+modify-out : {A : Type 0} (m : ℕ) (f : A → A) (xs : List A) → oneTo (length xs) m ≡ false → modify m f xs ≡ xs
+modify-out zero f xs e = refl
+modify-out (suc m) f [] e = refl
+modify-out (suc zero) f (x ∷ xs) e = absurd (subst T e (in-range (suc (length xs)) 1 (omega arith) (omega arith)))
+modify-out (suc (suc m)) f (x ∷ xs) e = ap {B = List _} (λ ys. x ∷ ys) (modify-out (suc m) f xs (less (length xs) m e))
+  where
+    less : (k m : ℕ) → oneTo (suc k) (suc (suc m)) ≡ false → oneTo k (suc m) ≡ false
+    less k m e = cases (oneTo k (suc m))
+        (λ t. let r = range k (suc m) (is-yes t) in absurd (subst T e (in-range (suc k) (suc (suc m)) (omega arith) (omega (arith, r .1)))))
+        (λ t. t)
+
+module _ (m : ℕ) (x : ℤ) (vs : List ℤ) where
+  pub with-same : oneTo (length vs) m ≡ true → x ≡ value (withValue m x vs) m
+  unfolding value withValue
+  with-same e = let r = range (length vs) m (is-yes e) in sym (nth-same (pos 0) (λ y. x) m vs (r .0) (r .1))
+
+  pub with-other : (k : ℕ) → k ≢ m → value vs k ≡ value (withValue m x vs) k
+  unfolding value withValue
+  with-other k ne = sym (nth-other (pos 0) (λ y. x) m vs k ne)
+
+  pub with-out : oneTo (length vs) m ≡ false → (k : ℕ) → value vs k ≡ value (withValue m x vs) k
+  unfolding withValue
+  with-out e k = ap (λ ws. value ws k) (sym (modify-out m (λ y. x) vs e))
+
+modify-value : (f : ℤ → ℤ) (m : ℕ) (vs : List ℤ) → modify m f vs ≡ modify m (λ y. f (nth (pos 0) vs m)) vs
+modify-value f zero vs = refl
+modify-value f (suc m) [] = refl
+modify-value f (suc zero) (x ∷ vs) = refl
+modify-value f (suc (suc m)) (x ∷ vs) = ap {B = List ℤ} (λ zs. x ∷ zs) (modify-value f (suc m) vs)
+
+pub made-with : (m : ℕ) (ch : Change) (vs : List ℤ) → made m ch vs ≡ withValue m (applied ch (value vs m)) vs
+unfolding made withValue value applied
+made-with m ch vs = modify-value (applied ch) m vs
+
+-- ---- the rules of arrays are those of the protocol
+
+module _ (lower : List ℕ) (gap : List ℤ) (upper : List ℕ) (firm : List Bool) (n : ℕ) where
+  pub holds-is : (vs : List ℤ) → holds (rulesIn lower gap upper firm n) vs ≡ holdsIn lower gap upper n vs
+  unfolding holds holdsIn ruleHolds pairHolds
+  holds-is vs = all-span (ruleHolds vs) (holdsAt lower gap upper vs) 0 n _ (λ i. i) (λ k. refl)
+
+  pub firm-is : (m : ℕ) → firmlyNamed (rulesIn lower gap upper firm n) m ≡ firmIn lower upper firm n m
+  unfolding firmlyNamed firmIn names namesPair
+  firm-is m = any-span (λ r. r .firm && names m r) (firmAt lower upper firm m) 0 n _ (λ i. i) (λ k. refl)
+
+-- ---- the trial of a change, from its parts
+
+pub trial-parts : (test : List ℤ → Bool) (m : ℕ) (ch : Change) (vs : List ℤ)
+    → trialOf test m ch vs ≡ cond (inRange (applied ch (value vs m))) (cond (test (withValue m (applied ch (value vs m)) vs)) (Effective (applied ch (value vs m))) Broken) OutOfRange
+unfolding trialOf fits
+trial-parts test m ch vs = ap (λ ws. cond (inRange (applied ch (value vs m))) (cond (test ws) (Effective (applied ch (value vs m))) Broken) OutOfRange) (made-with m ch vs)

@@ -1,0 +1,21 @@
+use borrow.Author.Tests.{eq-eqb, ne-eqb}
+use Rattle.rules.specs.Rows.{namesPair}
+use borrow.Author.Needs.{needs}
+use Rattle.rules.proofs.names_firmly.Statement.{statement}
+use Rattle.rules.proofs.names_firmly.Tie as tie
+use Rattle.rules.proofs.names_firmly.Reads as reads
+use Rattle.rules.proofs.names_firmly.Lts as lts
+
+returns : tie.Need-returns
+unfolding namesPair
+returns c = rw ((c .before .if1 .taken), eq-eqb _ _ ((c .if2 .taken)))
+
+returns-2 : tie.Need-returns-2
+unfolding namesPair
+returns-2 c = rw ((c .before .if1 .taken), ne-eqb _ _ ((c .if2 .left)))
+
+returns-3 : tie.Need-returns-3
+returns-3 c = rw ((c .if1 .left))
+
+pub names-firmly-spec : {M : Type 1} → statement M
+names-firmly-spec = tie.close (tie.spec returns returns-2 returns-3)
