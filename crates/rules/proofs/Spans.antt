@@ -96,6 +96,10 @@ module _ {A : Type 0} (p : A → Bool) (f : ℕ → A) (n i : ℕ) where
   pub any-over : Walked (any p) f n i → n ≤ i → false ≡ any p (span 0 n f)
   any-over w h = sym (w .rest ∙ rw (span-over i n f h))
 
+pub bit-one : (b : Bool) → bit b ≤ 1
+bit-one true = omega arith
+bit-one false = omega arith
+
 -- k of the first i pass, and the rest are still to be counted
 pub record Counted {A : Type 0} (p : A → Bool) (f : ℕ → A) (n i k : ℕ) : Type 0 where
   pub most : k ≤ i
@@ -105,15 +109,11 @@ module _ {A : Type 0} (p : A → Bool) (f : ℕ → A) (n : ℕ) where
   pub count-begin : Counted p f n 0 0
   count-begin = let e = walk-begin (count p) f n .rest in record { most = omega arith; rest = omega arith }
 
-  pub count-next : (i k : ℕ) → Counted p f n i k → i < n → Counted p f n (i + 1) (k + bit (p (f i)))
-  count-next i k c h =
-      let e = ap (count p) (span-next i n f h) in
-      let b = bit-one (p (f i)) in
+  pub count-next : (i k b : ℕ) → Counted p f n i k → i < n → b ≡ bit (p (f i)) → Counted p f n (i + 1) (k + b)
+  count-next i k b c h e =
+      let r = ap (count p) (span-next i n f h) in
+      let o = bit-one (p (f i)) in
       record { most = omega (arith, c .most); rest = omega (arith, c .rest) }
-    where
-      bit-one : (b : Bool) → bit b ≤ 1
-      bit-one true = omega arith
-      bit-one false = omega arith
 
   pub count-over : (i k : ℕ) → Counted p f n i k → n ≤ i → k ≡ count p (span 0 n f)
   count-over i k c h = let e = ap (count p) (span-over i n f h) in omega (arith, c .rest)
@@ -141,3 +141,7 @@ all-span p q i (suc n) f g h = ap₂ (λ a b. a && b) (h i) (all-span p q (suc i
 pub any-span : {A B : Type 0} (p : A → Bool) (q : B → Bool) (i n : ℕ) (f : ℕ → A) (g : ℕ → B) → ((k : ℕ) → p (f k) ≡ q (g k)) → any p (span i n f) ≡ any q (span i n g)
 any-span p q i zero f g h = refl
 any-span p q i (suc n) f g h = ap₂ (λ a b. a || b) (h i) (any-span p q (suc i) n f g h)
+
+pub count-span : {A B : Type 0} (p : A → Bool) (q : B → Bool) (i n : ℕ) (f : ℕ → A) (g : ℕ → B) → ((k : ℕ) → p (f k) ≡ q (g k)) → count p (span i n f) ≡ count q (span i n g)
+count-span p q i zero f g h = refl
+count-span p q i (suc n) f g h = ap₂ (λ a b. bit a + b) (h i) (count-span p q (suc i) n f g h)

@@ -1,0 +1,227 @@
+// The state of a plan as flat data, what it shows (specs/View), and the functions on its parts that the calls share.
+ghost use mathlib.Core.Path.{_≡_};
+ghost use Prim.Native.Nat.{_≤_, _<_, min};
+ghost use Rattle.protocol.specs.Lists.{bit, count};
+ghost use Rattle.protocol.specs.Plan.{modeNumber, fateNumber, active};
+ghost use Rattle.state.specs.View.{modeOf, fateOf, keptAt, sidesIn, offsetOf, indexOf, endIn, keptIn, keptOf, noRecord};
+ghost use Rattle.state.specs.Parts.{testOf, positionOf, blankState, refusedAs};
+use change::Change;
+
+// 01's modes and fates.
+pub enum Mode { Blank, Whole, Split, Joining, Closing }
+
+pub enum Fate { Unsent, Waiting, Accepted, Revoked }
+
+// A kept edit: its change and its fate side by side. Its number is not stored: the kept edits have consecutive numbers.
+pub struct EditRecord {
+    pub change: Change,
+    pub fate: Fate,
+    pub side: u32,
+    pub client: u32,
+    pub earlier: u32,
+    pub measure: u32,
+    pub place: u32,
+    pub replied: bool,
+}
+
+// The mode and the counts. A blank or whole plan has one side, another as many more as were added. The kept edits' numbers
+// end below next while the plan is split, joining or closing, and below mark else.
+pub struct Head {
+    pub mode: Mode,
+    pub measures: u32,
+    pub rules: u32,
+    pub added: u32,
+    pub kept: u32,
+    pub next: u32,
+    pub mark: u32,
+    pub based: u32,
+    pub drafted: u32,
+}
+
+// Side s's values begin at 32 * (s - 1). Rule i says that measure lower[i] plus gap[i] is less than measure upper[i].
+pub struct State {
+    pub head: Head,
+    pub base: [i32; 32],
+    pub draft: [i32; 32],
+    pub values: [i32; 256],
+    pub arrived: [bool; 8],
+    pub confirmed: [bool; 8],
+    pub lower: [u32; 64],
+    pub gap: [i32; 64],
+    pub upper: [u32; 64],
+    pub firm: [bool; 64],
+    pub edits: [EditRecord; 256],
+}
+
+// What a call answers: a refusal, or no number, one or two.
+pub enum Answer { Refused(u32), Done, Number(u32), Pair(u32, u32) }
+
+pub struct Answered { pub state: State, pub answer: Answer }
+
+// A test of a kept edit.
+pub enum Test { UnsentOf(u32), Waiting, Open, Settled }
+
+pub fn mode_number(m: Mode) -> u32
+    ensures { λ r. ⌜ r ≡ modeNumber (modeOf m) ⌝ }
+{
+    match m {
+        Mode::Blank => 0,
+        Mode::Whole => 1,
+        Mode::Split => 2,
+        Mode::Joining => 3,
+        Mode::Closing => 4,
+    }
+}
+
+pub fn is_active(m: Mode) -> bool
+    ensures { λ t. ⌜ t ≡ active (modeOf m) ⌝ }
+{
+    let n = mode_number(m);
+    if n == 3 {
+        return true;
+    }
+    n == 4
+}
+
+pub fn fate_number(f: Fate) -> u32
+    ensures { λ r. ⌜ r ≡ fateNumber (fateOf f) ⌝ }
+{
+    match f {
+        Fate::Unsent => 1,
+        Fate::Waiting => 2,
+        Fate::Accepted => 3,
+        Fate::Revoked => 4,
+    }
+}
+
+pub fn side_count(h: Head) -> usize
+    ensures { λ r. ⌜ (r ≡ sidesIn h) × (r ≤ 8) ⌝ }
+{
+    let m = h.mode;
+    if mode_number(m) < 2 {
+        return 1;
+    }
+    rules::capped(h.added, 7) + 1
+}
+
+// A side's place among the flags. A number that is no side's has some place too.
+pub fn index(s: u32) -> usize
+    ensures { λ r. ⌜ (r ≡ indexOf s) × (r ≤ 7) ⌝ }
+{
+    if s == 0 {
+        return 0;
+    }
+    rules::capped(s - 1, 7)
+}
+
+// Where a side's values begin.
+pub fn offset(s: u32) -> usize
+    ensures { λ r. ⌜ (r ≡ offsetOf s) × (r ≤ 224) ⌝ }
+{
+    32 * index(s)
+}
+
+// The number that the kept edits' numbers end below.
+pub fn end(h: Head) -> u32
+    ensures { λ r. ⌜ r ≡ endIn h ⌝ }
+{
+    let m = h.mode;
+    if mode_number(m) < 2 {
+        return h.mark;
+    }
+    h.next
+}
+
+// The place, from 1, of the kept edit numbered n; 0 if it is not kept.
+pub fn position(h: Head, n: u32) -> usize
+    ensures { λ r. ⌜ (r ≡ positionOf (endIn h) (keptIn h) n) × (r ≤ 256) ⌝ }
+{
+    let e = end(h) as usize;
+    let k = rules::capped(h.kept, 256);
+    let m = n as usize;
+    if m == 0 {
+        if 0 < k {
+            if e <= k {
+                return 1;
+            }
+        }
+        return 0;
+    }
+    if m < e {
+        if e - m <= k {
+            return k - (e - m) + 1;
+        }
+    }
+    0
+}
+
+// 1 if an edit passes a test, else 0.
+pub fn satisfies(e: EditRecord, t: Test) -> u32
+    ensures { λ r. ⌜ r ≡ bit (testOf t (keptAt 0 e)) ⌝ }
+{
+    let f = e.fate;
+    let n = fate_number(f);
+    match t {
+        Test::UnsentOf(s) => {
+            if n == 1 {
+                if e.side == s {
+                    return 1;
+                }
+            }
+            0
+        }
+        Test::Waiting => if n == 2 { 1 } else { 0 },
+        Test::Open => if n < 3 { 1 } else { 0 },
+        Test::Settled => if n < 3 { 0 } else { 1 },
+    }
+}
+
+// How many of the kept edits pass a test.
+pub fn count(edits: [EditRecord; 256], h: Head, t: Test) -> u32
+    ensures { λ r. ⌜ (r ≡ count (testOf t) (keptOf h edits)) × (r ≤ 256) ⌝ }
+{
+    let k = rules::capped(h.kept, 256);
+    let mut n: u32 = 0;
+    let mut i: usize = 0;
+    while i < k {
+        let e = edits[i];
+        n += satisfies(e, t);
+        i += 1;
+    }
+    n
+}
+
+pub fn no_record() -> EditRecord
+    ensures { λ r. ⌜ r ≡ noRecord ⌝ }
+{
+    let change = Change::Set(0);
+    let fate = Fate::Unsent;
+    EditRecord { change, fate, side: 0, client: 0, earlier: 0, measure: 0, place: 0, replied: false }
+}
+
+// The blank plan with nothing drawn.
+pub fn blank() -> State
+    ensures { λ r. ⌜ r ≡ blankState ⌝ }
+{
+    let mode = Mode::Blank;
+    let head = Head { mode, measures: 0, rules: 0, added: 0, kept: 0, next: 1, mark: 1, based: 0, drafted: 0 };
+    let e = no_record();
+    let base = [0i32; 32];
+    let draft = [0i32; 32];
+    let values = [0i32; 256];
+    let arrived = [false; 8];
+    let confirmed = [false; 8];
+    let lower = [0u32; 64];
+    let gap = [0i32; 64];
+    let upper = [0u32; 64];
+    let firm = [false; 64];
+    let edits = [e; 256];
+    State { head, base, draft, values, arrived, confirmed, lower, gap, upper, firm, edits }
+}
+
+pub fn refuse(p: State, k: u32) -> Answered
+    ensures { λ r. ⌜ r ≡ refusedAs p k ⌝ }
+{
+    let answer = Answer::Refused(k);
+    Answered { state: p, answer }
+}
