@@ -1,1 +1,3 @@
 pub mod Views
+pub mod Logs
+pub mod Meeting

@@ -1,34 +1,76 @@
--- Laws of the view of a state: its sides, its kept edits, what is stored where. Assumes nothing.
+-- Laws of the view of a state: lengths, sides, kept edits, the whole. Assumes nothing.
 use Prim.Native.Nat.{ℕ, zero, suc, _+_, _*_, _-_, _<_, _≤_, min}
 use native.Mathlib.Omega.{arith}
 use mathlib.Core.Bool.{Bool, true, false, cond, _&&_, _||_}
-use mathlib.Core.Path.{_≡_, refl, sym, ap, _∙_}
+use mathlib.Core.Path.{_≡_, refl, sym, ap, ap₂, _∙_}
 use mathlib.Core.Logic.{_⊎_, inl, inr, _≢_}
 use mathlib.Core.List.{List, [], _∷_, map}
 use borrow.Author.Tests.{eqb-true, eqb-false, eq-eqb, ne-eqb, lt-ltb, le-ltb, le-leb, lt-leb, ltb-true, ltb-false, leb-true, leb-false}
-use lib.Dec.{eqb, leb, ltb}
+use lib.Dec.{T, eqb, leb, ltb}
+use lib.IntN.{ℤ}
 use lib.ListN.{length, getD, set, length-map}
-use Rattle.protocol.specs.Lists.{nth, modify}
-use Rattle.protocol.specs.Plan.{Fate, unsent, waiting, accepted, revoked, fateNumber, fateIs, Kept, absentEdit, lookup}
+use Rattle.protocol.specs.Lists.{oneTo, nth, modify, snoc}
+use Rattle.protocol.specs.Plan.{Rule, Side, Mode, modeNumber, Content, Plan, absentSide, sideAt, Fate, unsent, waiting, accepted, revoked, fateNumber, fateIs, Kept, absentEdit, lookup}
 use Rattle.protocol.specs.Calls.{update}
-use Rattle.protocol.proofs.Laws.{cases}
-use Rattle.rules.specs.Rows.{span}
-use Rattle.state.specs.declared.State.{State}
+use Rattle.protocol.proofs.Laws.{cases, range, is-yes}
+use Rattle.rules.specs.Rows.{span, row}
+use Rattle.rules.proofs.Spans.{length-span, span-same, span-snoc, nth-span, modify-span, getD-set, getD-other}
 use Rattle.state.specs.declared.EditRecord.{EditRecord}
+use Rattle.state.specs.declared.Head.{Head}
+use Rattle.state.specs.declared.State.{State}
 use Rattle.state.specs.declared.Test.{Test}
 use Rattle.state.specs.declared.Test.the-variants.{UnsentOf, Waiting, Open, Settled}
-use Rattle.state.specs.View.{keptAt}
+use Rattle.state.specs.View.{view, modeOf, sidesIn, sideOf, indexOf, offsetOf, measuresIn, endIn, keptIn, keptAt, logOf, keptOf, noRecord}
 use Rattle.state.specs.Parts.{testOf, positionOf}
 
-pub open-low : (f : Fate) → (fateIs unsent f || fateIs waiting f) ≡ ltb (fateNumber f) 3
-open-low unsent = refl
-open-low waiting = refl
-open-low accepted = refl
-open-low revoked = refl
+-- ---- lengths
 
--- a test looks at no number
-pub any-number : (t : Test) (m n : ℕ) (e : EditRecord) → testOf t (keptAt m e) ≡ testOf t (keptAt n e)
-any-number (UnsentOf s) m n e = refl
-any-number Waiting m n e = refl
-any-number Open m n e = refl
-any-number Settled m n e = refl
+pub record Sized (p : State) : Type 0 where
+  pub base : length (p .base) ≡ 32
+  pub draft : length (p .draft) ≡ 32
+  pub values : length (p .values) ≡ 256
+  pub arrived : length (p .arrived) ≡ 8
+  pub confirmed : length (p .confirmed) ≡ 8
+  pub lower : length (p .lower) ≡ 64
+  pub gap : length (p .gap) ≡ 64
+  pub upper : length (p .upper) ≡ 64
+  pub firm : length (p .firm) ≡ 64
+  pub edits : length (p .edits) ≡ 256
+
+-- what owning a struct tells of a field that is an array of structs: its length, under a map
+pub unmapped : (A B : Type 0) (f : A → B) (l : List A) (n : ℕ) → length (map f l) ≡ n → length l ≡ n
+unmapped A B f l n e = sym (length-map l f) ∙ e
+
+-- ---- a plan from its parts
+
+pub plan-same : {m m′ : Mode} {d d′ : Content} → m ≡ m′ → d .rules ≡ d′ .rules → d .next ≡ d′ .next → d .base ≡ d′ .base → d .draft ≡ d′ .draft → d .sides ≡ d′ .sides → d .kept ≡ d′ .kept
+    → _≡_ {A = Plan} (record { mode = m; content = d }) (record { mode = m′; content = d′ })
+plan-same m r n b d s k =
+    λ i. record { mode = m i; content = record { rules = r i; next = n i; base = b i; draft = d i; sides = s i; kept = k i } }
+
+-- ---- sides
+
+pub sides-most : (h : Head) → sidesIn h ≤ 8
+sides-most h = by (ltb (modeNumber (modeOf (h .mode))) 2)
+  where
+    by : (b : Bool) → cond b 1 (suc (min (h .added) 7)) ≤ 8
+    by true = omega arith
+    by false = omega arith
+
+pub sides-length : (p : State) → length (view p .content .sides) ≡ sidesIn (p .head)
+sides-length p = length-span 1 (sidesIn (p .head)) (sideOf p)
+
+pub side-at : (p : State) (s : ℕ) → 0 < s → s ≤ sidesIn (p .head) → sideAt (view p .content) s ≡ sideOf p s
+side-at p zero h k = absurd (omega arith)
+side-at p (suc s) h k = nth-span absentSide 1 (sidesIn (p .head)) (sideOf p) s (omega arith) ∙ (let e : 1 + s ≡ suc s = omega arith in ap (sideOf p) e)
+
+-- one side changed
+pub sides-modify : (s n : ℕ) (g : Side → Side) (f f′ : ℕ → Side) → 0 < s → s ≤ n → f′ s ≡ g (f s) → ((k : ℕ) → 0 < k → k ≤ n → k ≢ s → f′ k ≡ f k) → span 1 n f′ ≡ modify s g (span 1 n f)
+sides-modify zero n g f f′ p q same other = absurd (omega arith)
+sides-modify (suc s) n g f f′ p q same other =
+    let e : 1 + s ≡ suc s = omega arith in
+    modify-span 1 n s g f f′ (omega arith) (rw e same) (λ k a b ne. other k (omega arith) (omega arith) (λ z. ne (z ∙ sym e)))
+
+-- two sides have different places
+pub index-other : (s k : ℕ) → 0 < s → s ≤ 8 → 0 < k → k ≤ 8 → k ≢ s → indexOf k ≢ indexOf s
+index-other s k a b c d ne e = ne (omega arith)

@@ -18,6 +18,11 @@ answerOf Done = model.ok []
 answerOf (Number n) = model.ok (pos n ∷ [])
 answerOf (Pair a b) = model.ok (pos a ∷ pos b ∷ [])
 
+-- the refusal number of a verdict, 0 if it is fine: what a read-only check gives
+abbrev pub refusalOf : model.Verdict → ℕ
+refusalOf model.fine = 0
+refusalOf (model.refused k) = k
+
 abbrev pub SameIfRefused : Answer → State → State → Type 0
 SameIfRefused (Refused k) p q = q ≡ p
 SameIfRefused Done p q = Unit {0}

@@ -1,5 +1,5 @@
 -- What the functions on the parts of a state give. Assumes nothing.
-use Prim.Native.Nat.{ℕ, zero, suc, _-_}
+use Prim.Native.Nat.{ℕ, zero, suc, _-_, min}
 use mathlib.Core.Bool.{Bool, true, false, not, cond, _&&_}
 use mathlib.Core.List.{List, [], _∷_}
 use lib.IntN.{ℤ, pos}
@@ -7,6 +7,7 @@ use lib.Dec.{eqb, leb, ltb}
 use lib.ListN.{replicate}
 use Rattle.protocol.specs.Plan as model
 use Rattle.state.specs.declared.Mode.the-variants.{Blank}
+use Rattle.state.specs.declared.EditRecord.{EditRecord}
 use Rattle.state.specs.declared.State.{State}
 use Rattle.state.specs.declared.Test.{Test}
 use Rattle.state.specs.declared.Test.the-variants.{UnsentOf, Waiting, Open, Settled}
@@ -23,6 +24,13 @@ testOf Settled k = model.isSettled k
 -- the place, from 1, of number n among k consecutive numbers that end below e; 0: none
 unfoldable pub positionOf : ℕ → ℕ → ℕ → ℕ
 positionOf e k n = cond (eqb n 0) (cond (ltb 0 k && leb e k) 1 0) (cond (ltb n e && leb (e - n) k) (suc (k - (e - n))) 0)
+
+-- where the edit at a place from 1 stands, and the edit found there; place 0 is none
+abbrev pub placeOf : ℕ → ℕ
+placeOf i = min (i - 1) 255
+
+abbrev pub recordOf : ℕ → EditRecord → EditRecord
+recordOf i e = cond (eqb i 0) noRecord e
 
 abbrev pub blankState : State
 blankState =

@@ -4,7 +4,7 @@ ghost use Prim.Native.Nat.{_≤_, _<_, min};
 ghost use Rattle.protocol.specs.Lists.{bit, count};
 ghost use Rattle.protocol.specs.Plan.{modeNumber, fateNumber, active};
 ghost use Rattle.state.specs.View.{modeOf, fateOf, keptAt, sidesIn, offsetOf, indexOf, endIn, keptIn, keptOf, noRecord};
-ghost use Rattle.state.specs.Parts.{testOf, positionOf, blankState, refusedAs};
+ghost use Rattle.state.specs.Parts.{testOf, positionOf, placeOf, recordOf, blankState, refusedAs};
 use change::Change;
 
 // 01's modes and fates.
@@ -153,6 +153,27 @@ pub fn position(h: Head, n: u32) -> usize
         }
     }
     0
+}
+
+// Where the edit at a place from 1 stands; place 0 has some place too.
+pub fn place(i: usize) -> usize
+    ensures { λ r. ⌜ (r ≡ placeOf i) × (r < 256) ⌝ }
+{
+    if i == 0 {
+        return 0;
+    }
+    let j = i - 1;
+    if j < 255 { j } else { 255 }
+}
+
+// The edit found at a place from 1.
+pub fn found(i: usize, e: EditRecord) -> EditRecord
+    ensures { λ r. ⌜ r ≡ recordOf i e ⌝ }
+{
+    if i == 0 {
+        return no_record();
+    }
+    e
 }
 
 // 1 if an edit passes a test, else 0.

@@ -1,5 +1,5 @@
 use Rattle.rules.specs.Rows.{span}
-use Rattle.state.proofs.Views.{any-number}
+use Rattle.state.proofs.Logs.{any-number}
 use Rattle.rules.proofs.Spans.{bit-one}
 use Rattle.rules.proofs.Spans.{count-span}
 use mathlib.Core.Path.{refl}

@@ -1,6 +1,6 @@
 use borrow.Author.Tests.{eq-eqb, ne-eqb, lt-ltb, le-ltb}
 use Rattle.state.specs.View.{fateOf}
-use Rattle.state.proofs.Views.{open-low}
+use Rattle.state.proofs.Logs.{open-low}
 use borrow.Author.Needs.{needs}
 use Rattle.state.proofs.satisfies.Statement.{statement}
 use Rattle.state.proofs.satisfies.Tie as tie

@@ -1,0 +1,1 @@
+-- Laws of drawing a plan up. Assumes nothing.
