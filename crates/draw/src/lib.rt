@@ -34,8 +34,15 @@ fn with_measures(h: Head, n: u32) -> Head
 {
     let mode = h.mode;
     Head {
-        mode, measures: n, rules: h.rules, added: h.added, kept: h.kept, next: h.next, mark: h.mark,
-        based: h.based, drafted: h.drafted,
+        mode,
+        measures: n,
+        rules: h.rules,
+        added: h.added,
+        kept: h.kept,
+        next: h.next,
+        mark: h.mark,
+        based: h.based,
+        drafted: h.drafted,
     }
 }
 
@@ -97,8 +104,15 @@ fn with_rules(h: Head, n: u32) -> Head
 {
     let mode = h.mode;
     Head {
-        mode, measures: h.measures, rules: n, added: h.added, kept: h.kept, next: h.next, mark: h.mark,
-        based: h.based, drafted: h.drafted,
+        mode,
+        measures: h.measures,
+        rules: n,
+        added: h.added,
+        kept: h.kept,
+        next: h.next,
+        mark: h.mark,
+        based: h.based,
+        drafted: h.drafted,
     }
 }
 
@@ -131,8 +145,15 @@ fn with_open(h: Head) -> Head
 {
     let mode = Mode::Whole;
     Head {
-        mode, measures: h.measures, rules: h.rules, added: h.added, kept: h.kept, next: 1, mark: h.mark,
-        based: h.based, drafted: h.drafted,
+        mode,
+        measures: h.measures,
+        rules: h.rules,
+        added: h.added,
+        kept: h.kept,
+        next: 1,
+        mark: h.mark,
+        based: h.based,
+        drafted: h.drafted,
     }
 }
 

@@ -9,7 +9,7 @@ use lib.Dec.{T, ltb, ltb→lt}
 use lib.IntN.{ℤ}
 use Rattle.protocol.specs.Lists.{all}
 use Rattle.protocol.specs.Calls.{Call, Check, Verdict, fine, refused, first, checks, gives, after, ok, step}
-use Rattle.protocol.proofs.Laws.{cases, both}
+use Rattle.protocol.proofs.Laws.{cases, both, Pass, passed}
 use Rattle.state.specs.declared.State.{State}
 use Rattle.state.specs.declared.Answered.{Answered}
 use Rattle.state.specs.View.{view}
@@ -36,3 +36,6 @@ verdict-fine (c ∷ cs) k t e z =
     let b = both (ltb 0 (c .number)) (all (λ c. ltb 0 (c .number)) cs) t in
     let ih = verdict-fine cs k (b .1) in
     cases (c .passes) (λ y. rw y (ih (rw y at e) z)) (λ n. let p = ltb→lt 0 (c .number) (b .0) in let q : k ≡ c .number = rw n at e in absurd (omega arith))
+
+pub fine-pass : (cs : List Check) → first cs ≡ fine → Pass cs
+fine-pass cs e = passed cs (rw e tt)

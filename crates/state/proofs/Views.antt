@@ -1,15 +1,16 @@
 -- Laws of the view of a state: lengths, sides, kept edits, the whole. Assumes nothing.
 use Prim.Native.Nat.{ℕ, zero, suc, _+_, _*_, _-_, _<_, _≤_, min}
 use native.Mathlib.Omega.{arith}
-use mathlib.Core.Bool.{Bool, true, false, cond, _&&_, _||_}
+use mathlib.Core.Bool.{Bool, true, false, not, cond}
 use mathlib.Core.Path.{_≡_, refl, sym, ap, ap₂, _∙_}
 use mathlib.Core.Logic.{_⊎_, inl, inr, _≢_}
 use mathlib.Core.List.{List, [], _∷_, map}
 use borrow.Author.Tests.{eqb-true, eqb-false, eq-eqb, ne-eqb, lt-ltb, le-ltb, le-leb, lt-leb, ltb-true, ltb-false, leb-true, leb-false}
 use lib.Dec.{T, eqb, leb, ltb}
-use lib.IntN.{ℤ}
+use lib.IntN.{ℤ, pos}
 use lib.ListN.{length, getD, set, length-map}
-use Rattle.protocol.specs.Lists.{oneTo, nth, modify, snoc}
+use Rattle.protocol.specs.Lists.{bit, nth, modify, snoc}
+use native.Mathlib.Numerals.{add-one}
 use Rattle.protocol.specs.Plan.{Rule, Side, Mode, modeNumber, Content, Plan, absentSide, sideAt, Fate, unsent, waiting, accepted, revoked, fateNumber, fateIs, Kept, absentEdit, lookup}
 use Rattle.protocol.specs.Calls.{update}
 use Rattle.protocol.proofs.Laws.{cases, range, is-yes}
@@ -21,7 +22,7 @@ use Rattle.state.specs.declared.State.{State}
 use Rattle.state.specs.declared.Test.{Test}
 use Rattle.state.specs.declared.Test.the-variants.{UnsentOf, Waiting, Open, Settled}
 use Rattle.state.specs.View.{view, modeOf, sidesIn, sideOf, indexOf, offsetOf, measuresIn, endIn, keptIn, keptAt, logOf, keptOf, noRecord}
-use Rattle.state.specs.Parts.{testOf, positionOf}
+use Rattle.state.specs.Parts.{unsetIn}
 
 -- ---- lengths
 
@@ -74,3 +75,28 @@ sides-modify (suc s) n g f f′ p q same other =
 -- two sides have different places
 pub index-other : (s k : ℕ) → 0 < s → s ≤ 8 → 0 < k → k ≤ 8 → k ≢ s → indexOf k ≢ indexOf s
 index-other s k a b c d ne e = ne (omega arith)
+
+pub sides-least : (h : Head) → 1 ≤ sidesIn h
+sides-least h = by (ltb (modeNumber (modeOf (h .mode))) 2)
+  where
+    by : (b : Bool) → 1 ≤ cond b 1 (suc (min (h .added) 7))
+    by true = omega arith
+    by false = omega arith
+
+-- side 1's values, where a blank plan has its measures
+pub first-row : (p : State) → sideAt (view p .content) 1 .values ≡ row (p .values) 0 (measuresIn (p .head))
+first-row p = ap (λ x. x .values) (side-at p 1 (omega arith) (sides-least (p .head)))
+
+-- one value more in a row
+pub row-snoc : (vs : List ℤ) (at n : ℕ) (v : ℤ) → at + n < length vs → row (set vs (at + n) v) at (suc n) ≡ snoc (row vs at n) v
+row-snoc vs at n v h =
+    span-snoc at n (λ i. getD (set vs (at + n) v) i (pos 0))
+    ∙ ap₂ (λ xs x. snoc xs x) (span-same at n _ _ (λ k a b. getD-other vs (at + n) k v (pos 0) (λ e. omega arith))) (getD-set vs (at + n) v (pos 0) h)
+
+-- one flag more
+pub unset-next : (flags : List Bool) (i k b : ℕ) → i < 8 → k ≡ unsetIn flags i → b ≡ bit (not (getD flags i false)) → k + b ≡ unsetIn flags (i + 1)
+unset-next flags i k b h e f =
+    let at : indexOf (suc i) ≡ i = omega arith in
+    let n = ap (λ j. bit (not (getD flags j false))) at in
+    let m = ap (unsetIn flags) (add-one i) in
+    omega arith

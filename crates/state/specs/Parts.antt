@@ -4,7 +4,8 @@ use mathlib.Core.Bool.{Bool, true, false, not, cond, _&&_}
 use mathlib.Core.List.{List, [], _∷_}
 use lib.IntN.{ℤ, pos}
 use lib.Dec.{eqb, leb, ltb}
-use lib.ListN.{replicate}
+use lib.ListN.{getD, replicate}
+use Rattle.protocol.specs.Lists.{tally}
 use Rattle.protocol.specs.Plan as model
 use Rattle.state.specs.declared.Mode.the-variants.{Blank}
 use Rattle.state.specs.declared.EditRecord.{EditRecord}
@@ -13,7 +14,7 @@ use Rattle.state.specs.declared.Test.{Test}
 use Rattle.state.specs.declared.Test.the-variants.{UnsentOf, Waiting, Open, Settled}
 use Rattle.state.specs.declared.Answer.the-variants.{Refused}
 use Rattle.state.specs.declared.Answered.{Answered}
-use Rattle.state.specs.View.{noRecord}
+use Rattle.state.specs.View.{indexOf, noRecord}
 
 abbrev pub testOf : Test → model.Kept → Bool
 testOf (UnsentOf s) k = model.isUnsent k && eqb (k .edit .side) s
@@ -31,6 +32,10 @@ placeOf i = min (i - 1) 255
 
 abbrev pub recordOf : ℕ → EditRecord → EditRecord
 recordOf i e = cond (eqb i 0) noRecord e
+
+-- how many of n sides have a flag that is not set
+abbrev pub unsetIn : List Bool → ℕ → ℕ
+unsetIn flags n = tally (λ s. not (getD flags (indexOf s) false)) n
 
 abbrev pub blankState : State
 blankState =

@@ -1,16 +1,28 @@
 // The state of a plan as flat data, what it shows (specs/View), and the functions on its parts that the calls share.
 ghost use mathlib.Core.Path.{_≡_};
+ghost use mathlib.Core.Bool.{not};
 ghost use Prim.Native.Nat.{_≤_, _<_, min};
 ghost use Rattle.protocol.specs.Lists.{bit, count};
 ghost use Rattle.protocol.specs.Plan.{modeNumber, fateNumber, active};
 ghost use Rattle.state.specs.View.{modeOf, fateOf, keptAt, sidesIn, offsetOf, indexOf, endIn, keptIn, keptOf, noRecord};
-ghost use Rattle.state.specs.Parts.{testOf, positionOf, placeOf, recordOf, blankState, refusedAs};
+ghost use Rattle.state.specs.Parts.{testOf, positionOf, placeOf, recordOf, unsetIn, blankState, refusedAs};
 use change::Change;
 
 // 01's modes and fates.
-pub enum Mode { Blank, Whole, Split, Joining, Closing }
+pub enum Mode {
+    Blank,
+    Whole,
+    Split,
+    Joining,
+    Closing,
+}
 
-pub enum Fate { Unsent, Waiting, Accepted, Revoked }
+pub enum Fate {
+    Unsent,
+    Waiting,
+    Accepted,
+    Revoked,
+}
 
 // A kept edit: its change and its fate side by side. Its number is not stored: the kept edits have consecutive numbers.
 pub struct EditRecord {
@@ -54,12 +66,25 @@ pub struct State {
 }
 
 // What a call answers: a refusal, or no number, one or two.
-pub enum Answer { Refused(u32), Done, Number(u32), Pair(u32, u32) }
+pub enum Answer {
+    Refused(u32),
+    Done,
+    Number(u32),
+    Pair(u32, u32),
+}
 
-pub struct Answered { pub state: State, pub answer: Answer }
+pub struct Answered {
+    pub state: State,
+    pub answer: Answer,
+}
 
 // A test of a kept edit.
-pub enum Test { UnsentOf(u32), Waiting, Open, Settled }
+pub enum Test {
+    UnsentOf(u32),
+    Waiting,
+    Open,
+    Settled,
+}
 
 pub fn mode_number(m: Mode) -> u32
     ensures { λ r. ⌜ r ≡ modeNumber (modeOf m) ⌝ }
@@ -212,12 +237,42 @@ pub fn count(edits: [EditRecord; 256], h: Head, t: Test) -> u32
     n
 }
 
+// How many sides have a flag that is not set.
+pub fn unset(flags: &[bool; 8], h: Head) -> u32
+    ensures { λ r. ⌜ (r ≡ unsetIn (now (flags .entry)) (sidesIn h)) × (r ≤ 8) ⌝ }
+{
+    let n = side_count(h);
+    let mut k: u32 = 0;
+    let mut i: usize = 0;
+    while i < n {
+        let f = flags[i];
+        k += bit_unless(f);
+        i += 1;
+    }
+    k
+}
+
+fn bit_unless(b: bool) -> u32
+    ensures { λ r. ⌜ r ≡ bit (not b) ⌝ }
+{
+    if b { 0 } else { 1 }
+}
+
 pub fn no_record() -> EditRecord
     ensures { λ r. ⌜ r ≡ noRecord ⌝ }
 {
     let change = Change::Set(0);
     let fate = Fate::Unsent;
-    EditRecord { change, fate, side: 0, client: 0, earlier: 0, measure: 0, place: 0, replied: false }
+    EditRecord {
+        change,
+        fate,
+        side: 0,
+        client: 0,
+        earlier: 0,
+        measure: 0,
+        place: 0,
+        replied: false,
+    }
 }
 
 // The blank plan with nothing drawn.
@@ -225,7 +280,17 @@ pub fn blank() -> State
     ensures { λ r. ⌜ r ≡ blankState ⌝ }
 {
     let mode = Mode::Blank;
-    let head = Head { mode, measures: 0, rules: 0, added: 0, kept: 0, next: 1, mark: 1, based: 0, drafted: 0 };
+    let head = Head {
+        mode,
+        measures: 0,
+        rules: 0,
+        added: 0,
+        kept: 0,
+        next: 1,
+        mark: 1,
+        based: 0,
+        drafted: 0,
+    };
     let e = no_record();
     let base = [0i32; 32];
     let draft = [0i32; 32];
@@ -237,7 +302,19 @@ pub fn blank() -> State
     let upper = [0u32; 64];
     let firm = [false; 64];
     let edits = [e; 256];
-    State { head, base, draft, values, arrived, confirmed, lower, gap, upper, firm, edits }
+    State {
+        head,
+        base,
+        draft,
+        values,
+        arrived,
+        confirmed,
+        lower,
+        gap,
+        upper,
+        firm,
+        edits,
+    }
 }
 
 pub fn refuse(p: State, k: u32) -> Answered

@@ -1,0 +1,1 @@
+-- Laws of splitting and joining. Assumes nothing.
