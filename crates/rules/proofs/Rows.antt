@@ -1,5 +1,5 @@
 -- Laws of rows, rules as arrays hold them, and the trial of a change. Assumes nothing.
-use Prim.Native.Nat.{ℕ, zero, suc, _+_, _-_, _<_, _≤_}
+use Prim.Native.Nat.{ℕ, zero, suc, _+_, _-_, _<_, _≤_, min}
 use native.Mathlib.Omega.{arith}
 use mathlib.Core.Bool.{Bool, true, false, cond, _&&_, _||_}
 use mathlib.Core.Path.{_≡_, refl, sym, ap, _∙_, subst}
@@ -8,14 +8,14 @@ use mathlib.Core.List.{List, [], _∷_}
 use borrow.Author.Tests.{ltb-true, ltb-false}
 use lib.Dec.{T, ltb}
 use lib.IntN.{ℤ, pos}
-use lib.ListN.{length, getD, List·getD-eq-default}
+use lib.ListN.{length, getD, set, List·getD-eq-default}
 use Rattle.protocol.specs.Lists.{oneTo, nth, modify}
 use Rattle.protocol.specs.Plan.{Rule, Change, inRange, value, ruleHolds, holds, names, firmlyNamed, applied, made, fits, effective}
 use Rattle.protocol.proofs.Laws.{cases, range, is-yes, in-range, nth-same, nth-other}
 use Rattle.rules.specs.declared.Trial.{Trial}
 use Rattle.rules.specs.declared.Trial.the-variants.{Effective, OutOfRange, Broken}
 use Rattle.rules.specs.Rows.{row, withValue, pairHolds, holdsAt, holdsIn, namesPair, firmAt, firmIn, rulesIn, trialOf}
-use Rattle.rules.proofs.Spans.{length-span, nth-span, nth-past, all-span, any-span}
+use Rattle.rules.proofs.Spans.{span-same, nth-span, nth-past, modify-span, all-span, any-span, getD-set, getD-other}
 
 -- ---- values of a row
 
@@ -43,7 +43,7 @@ value-beyond vs at n m h k = cases (ltb (m - 1) n)
 
 -- ---- values where one measure counts as another number
 
-modify-out : {A : Type 0} (m : ℕ) (f : A → A) (xs : List A) → oneTo (length xs) m ≡ false → modify m f xs ≡ xs
+pub modify-out : {A : Type 0} (m : ℕ) (f : A → A) (xs : List A) → oneTo (length xs) m ≡ false → modify m f xs ≡ xs
 modify-out zero f xs e = refl
 modify-out (suc m) f [] e = refl
 modify-out (suc zero) f (x ∷ xs) e = absurd (subst T e (in-range (suc (length xs)) 1 (omega arith) (omega arith)))
@@ -94,3 +94,46 @@ pub trial-parts : (test : List ℤ → Bool) (m : ℕ) (ch : Change) (vs : List 
     → trialOf test m ch vs ≡ cond (inRange (applied ch (value vs m))) (cond (test (withValue m (applied ch (value vs m)) vs)) (Effective (applied ch (value vs m))) Broken) OutOfRange
 unfolding trialOf fits
 trial-parts test m ch vs = ap (λ ws. cond (inRange (applied ch (value vs m))) (cond (test ws) (Effective (applied ch (value vs m))) Broken) OutOfRange) (made-with m ch vs)
+
+-- what a trial found
+module _ (test : List ℤ → Bool) (m : ℕ) (ch : Change) (vs : List ℤ) where
+  pub trial-out : OutOfRange ≡ trialOf test m ch vs → fits m ch vs ≡ false
+  unfolding trialOf
+  trial-out e = by (fits m ch vs) (test (made m ch vs)) e
+    where
+      by : (f h : Bool) → OutOfRange ≡ cond f (cond h (Effective (applied ch (value vs m))) Broken) OutOfRange → f ≡ false
+      by true true e = cc
+      by true false e = cc
+      by false h e = refl
+
+  pub trial-broken : Broken ≡ trialOf test m ch vs → (fits m ch vs ≡ true) × (test (made m ch vs) ≡ false)
+  unfolding trialOf
+  trial-broken e = by (fits m ch vs) (test (made m ch vs)) e
+    where
+      by : (f h : Bool) → Broken ≡ cond f (cond h (Effective (applied ch (value vs m))) Broken) OutOfRange → (f ≡ true) × (h ≡ false)
+      by true true e = (refl, cc)
+      by true false e = (refl, refl)
+      by false h e = (cc, cc)
+
+  pub trial-effective : (x : ℤ) → Effective x ≡ trialOf test m ch vs → (fits m ch vs ≡ true) × (test (made m ch vs) ≡ true) × (x ≡ applied ch (value vs m))
+  unfolding trialOf
+  trial-effective x e = by (fits m ch vs) (test (made m ch vs)) e
+    where
+      by : (f h : Bool) → Effective x ≡ cond f (cond h (Effective (applied ch (value vs m))) Broken) OutOfRange → (f ≡ true) × (h ≡ true) × (x ≡ applied ch (value vs m))
+      by true true e = (refl, refl, cc)
+      by true false e = (refl, cc, cc)
+      by false h e = (cc, cc, cc)
+
+-- ---- a value stored in a row
+
+pub row-set : (vs : List ℤ) (at n m : ℕ) (x : ℤ) → 0 < m → m ≤ n → n ≤ 32 → at + n ≤ length vs → row (set vs (at + min (m - 1) 31) x) at n ≡ withValue m x (row vs at n)
+unfolding withValue
+row-set vs at n zero x a b c d = absurd (omega arith)
+row-set vs at n (suc j) x a b c d =
+    let e : at + min (suc j - 1) 31 ≡ at + j = omega arith in
+    ap (λ i. row (set vs i x) at n) e
+    ∙ modify-span at n j (λ y. x) (λ i. getD vs i (pos 0)) (λ i. getD (set vs (at + j) x) i (pos 0)) (omega arith) (getD-set vs (at + j) x (pos 0) (omega arith)) (λ i p q ne. getD-other vs (at + j) i x (pos 0) ne)
+
+-- a row that ends before, or begins after
+pub row-apart : (vs : List ℤ) (at n i : ℕ) (x : ℤ) → ((k : ℕ) → at ≤ k → k < at + n → k ≢ i) → row (set vs i x) at n ≡ row vs at n
+row-apart vs at n i x h = span-same at n _ _ (λ k p q. getD-other vs i k x (pos 0) (h k p q))

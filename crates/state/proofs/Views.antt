@@ -9,11 +9,11 @@ use borrow.Author.Tests.{eqb-true, eqb-false, eq-eqb, ne-eqb, lt-ltb, le-ltb, le
 use lib.Dec.{T, eqb, leb, ltb}
 use lib.IntN.{ℤ, pos}
 use lib.ListN.{length, getD, set, length-map}
-use Rattle.protocol.specs.Lists.{bit, nth, modify, snoc}
+use Rattle.protocol.specs.Lists.{bit, tally, nth, modify, snoc}
 use native.Mathlib.Numerals.{add-one}
-use Rattle.protocol.specs.Plan.{Rule, Side, Mode, modeNumber, Content, Plan, absentSide, sideAt, Fate, unsent, waiting, accepted, revoked, fateNumber, fateIs, Kept, absentEdit, lookup}
+use Rattle.protocol.specs.Plan.{Rule, Side, Mode, modeNumber, Content, Plan, absentSide, sideAt, sidesThat, Fate, unsent, waiting, accepted, revoked, fateNumber, fateIs, Kept, absentEdit, lookup}
 use Rattle.protocol.specs.Calls.{update}
-use Rattle.protocol.proofs.Laws.{cases, range, is-yes}
+use Rattle.protocol.proofs.Laws.{tally-same}
 use Rattle.rules.specs.Rows.{span, row}
 use Rattle.rules.proofs.Spans.{length-span, span-same, span-snoc, nth-span, modify-span, getD-set, getD-other}
 use Rattle.state.specs.declared.EditRecord.{EditRecord}
@@ -22,7 +22,8 @@ use Rattle.state.specs.declared.State.{State}
 use Rattle.state.specs.declared.Test.{Test}
 use Rattle.state.specs.declared.Test.the-variants.{UnsentOf, Waiting, Open, Settled}
 use Rattle.state.specs.View.{view, modeOf, sidesIn, sideOf, indexOf, offsetOf, measuresIn, endIn, keptIn, keptAt, logOf, keptOf, noRecord}
-use Rattle.state.specs.Parts.{unsetIn}
+use Rattle.state.specs.Parts.{positionOf, unsetIn, namedIn}
+use Rattle.state.proofs.Logs.{lookup-record}
 
 -- ---- lengths
 
@@ -100,3 +101,13 @@ unset-next flags i k b h e f =
     let n = ap (λ j. bit (not (getD flags j false))) at in
     let m = ap (unsetIn flags) (add-one i) in
     omega arith
+
+-- how many sides have a flag that is not set, as the protocol counts them
+pub flags-unset : (p : State) (flag : Side → Bool) (flags : List Bool) → ((s : ℕ) → flag (sideOf p s) ≡ getD flags (indexOf s) false) → sidesThat (λ s. not (flag (sideAt (view p .content) s))) (view p .content) ≡ unsetIn flags (sidesIn (p .head))
+flags-unset p flag flags h =
+    ap (tally (λ s. not (flag (sideAt (view p .content) s)))) (sides-length p)
+    ∙ tally-same _ _ (sidesIn (p .head)) (λ s a b. ap (λ x. not (flag x)) (side-at p s a b) ∙ ap not (h s))
+
+-- the edit that a number names, as the protocol finds it
+pub lookup-named : (p : State) (n : ℕ) → lookup n (view p .content .kept) ≡ keptAt (cond (eqb (positionOf (endIn (p .head)) (keptIn (p .head)) n) 0) 0 n) (namedIn p n)
+lookup-named p n = lookup-record (endIn (p .head)) (keptIn (p .head)) n (p .edits) (omega arith)

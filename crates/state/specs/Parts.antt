@@ -14,7 +14,7 @@ use Rattle.state.specs.declared.Test.{Test}
 use Rattle.state.specs.declared.Test.the-variants.{UnsentOf, Waiting, Open, Settled}
 use Rattle.state.specs.declared.Answer.the-variants.{Refused}
 use Rattle.state.specs.declared.Answered.{Answered}
-use Rattle.state.specs.View.{indexOf, noRecord}
+use Rattle.state.specs.View.{indexOf, endIn, keptIn, noRecord}
 
 abbrev pub testOf : Test → model.Kept → Bool
 testOf (UnsentOf s) k = model.isUnsent k && eqb (k .edit .side) s
@@ -32,6 +32,10 @@ placeOf i = min (i - 1) 255
 
 abbrev pub recordOf : ℕ → EditRecord → EditRecord
 recordOf i e = cond (eqb i 0) noRecord e
+
+-- the edit that a number names
+abbrev pub namedIn : State → ℕ → EditRecord
+namedIn p n = let i = positionOf (endIn (p .head)) (keptIn (p .head)) n in recordOf i (getD (p .edits) (placeOf i) noRecord)
 
 -- how many of n sides have a flag that is not set
 abbrev pub unsetIn : List Bool → ℕ → ℕ

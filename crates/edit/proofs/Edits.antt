@@ -1,0 +1,180 @@
+-- An edit's decision, carried out, is the protocol's step. Assumes nothing.
+use Prim.Native.Nat.{ℕ, zero, suc, min, _+_, _*_, _-_, _<_, _≤_}
+use native.Mathlib.Omega.{arith}
+use native.Mathlib.Numerals.{add-one}
+use mathlib.Core.Bool.{Bool, true, false, not, cond, _||_, _&&_}
+use mathlib.Core.Path.{_≡_, refl, sym, ap, _∙_}
+use mathlib.Core.Logic.{_≢_}
+use mathlib.Core.List.{List, [], _∷_}
+use lib.IntN.{ℤ, pos}
+use lib.Dec.{T, T-not, leb, ltb, nltb→le, eqb→eq}
+use lib.ListN.{length, getD, set}
+use lib.Seq.{set-getD}
+use borrow.Author.Tests.{leb-false}
+use Rattle.protocol.specs.Lists.{natural, oneTo, modify, snoc}
+use Rattle.protocol.specs.Plan as model
+use Rattle.protocol.specs.Plan.{is, whole, split, joining, modeNumber, allowed, applied, value, made, unsent, absentSide, sideAt, lookup}
+use Rattle.protocol.specs.Calls.{Call, edit, Check, Verdict, fine, refused, first, apart, checks, further, onValues, after, gives, ok, editOf, stepBy, step}
+use Rattle.protocol.proofs.Laws.{cases, yes-is, no-is, is-yes, which, range, Fine, Pass, passed}
+use Rattle.change.specs.declared.Change.{Change}
+use Rattle.change.specs.Change.{viewChange, madeOf}
+use Rattle.rules.specs.Rows.{span, row, withValue}
+use Rattle.rules.proofs.Spans.{length-span}
+use Rattle.rules.proofs.Rows.{made-with, row-set, row-apart}
+use Rattle.state.specs.declared.EditRecord.{EditRecord}
+use Rattle.state.specs.declared.Fate.the-variants.{Unsent}
+use Rattle.state.specs.declared.Head.{Head}
+use Rattle.state.specs.declared.State.{State}
+use Rattle.state.specs.View.{view, modeOf, single, sidesIn, sideOf, offsetOf, measuresIn, keptIn, endIn, keptAt, logOf, keptOf, rulesOf, noRecord}
+use Rattle.state.specs.Parts.{namedIn}
+use Rattle.state.specs.Meets.{answerOf, SameIfRefused, Meets}
+use Rattle.state.proofs.Views.{Sized, plan-same, sides-most, sides-length, side-at, sides-modify, lookup-named}
+use Rattle.state.proofs.Logs.{log-snoc}
+use Rattle.edit.specs.declared.Decision.{Decision}
+use Rattle.edit.specs.Edits.{editChecks, ruled, changeOf, changeIn, editRuling, editHead, editRecord, editDecision, spotOf, slotOf, editIn, stored}
+use Rattle.edit.proofs.Rulings.{made-change}
+
+-- two sides' rows do not meet
+rows-apart : (s k i j : ℕ) → 0 < s → s ≤ 8 → 0 < k → k ≤ 8 → k ≢ s → j < 32 → offsetOf k ≤ i → i < offsetOf k + 32 → i ≢ offsetOf s + j
+rows-apart s k i j a b c d ne e f g h = ne (omega arith)
+
+single-whole : (h : Head) → is whole (modeOf (h .mode)) ≡ true → single h ≡ true
+single-whole h w = rw (eqb→eq (modeNumber (modeOf (h .mode))) 1 (is-yes w))
+
+single-apart : (h : Head) → T (apart (modeOf (h .mode))) → single h ≡ false
+single-apart h t = which (is split (modeOf (h .mode))) (is joining (modeOf (h .mode))) t
+    (λ u. rw (eqb→eq (modeNumber (modeOf (h .mode))) 2 u))
+    (λ u. rw (eqb→eq (modeNumber (modeOf (h .mode))) 3 u))
+
+module _ (p : State) (z : Sized p) (s client n m kind k : ℤ) where
+  abbrev h : Head
+  h = p .head
+
+  abbrev mode : model.Mode
+  mode = modeOf (h .mode)
+
+  abbrev ch : model.Change
+  ch = changeOf (natural kind) k
+
+  abbrev call : Call
+  call = edit s client n m kind k
+
+  abbrev vs : List ℤ
+  vs = row (p .values) (offsetOf (natural s)) (measuresIn h)
+
+  abbrev Checks : List Check
+  Checks = editChecks mode (sidesIn h) (rulesOf p) (keptAt 0 (namedIn p (natural n))) (keptIn h) (h .next) vs (natural s) client n (natural m) ch
+
+  kept-length : length (keptOf h (p .edits)) ≡ keptIn h
+  kept-length = length-span 0 (keptIn h) (λ i. keptAt (endIn h - (keptIn h - i)) (getD (p .edits) i noRecord))
+
+  side-is : T (oneTo (sidesIn h) (natural s)) → sideAt (view p .content) (natural s) ≡ sideOf p (natural s)
+  side-is t = let r = range (sidesIn h) (natural s) t in side-at p (natural s) (r .0) (r .1)
+
+  -- the decision's checks are the protocol's
+  checks-same : first (checks call (view p)) ≡ first Checks
+  unfolding checks further
+  checks-same =
+      rw (sides-length p, kept-length, lookup-named p (natural n))
+      (cases (oneTo (sidesIn h) (natural s))
+      (λ t. ap (λ ws. first (editChecks mode (sidesIn h) (rulesOf p) (keptAt 0 (namedIn p (natural n))) (keptIn h) (h .next) ws (natural s) client n (natural m) ch)) (ap (λ x. x .values) (side-is (is-yes t))))
+      (λ t. rw t))
+
+  abbrev change : Change
+  change = changeIn (madeOf (natural kind) k)
+
+  abbrev x : ℤ
+  x = applied ch (value vs (natural m))
+
+  abbrev standing : EditRecord
+  standing = getD (p .edits) (slotOf h) noRecord
+
+  abbrev decided : Verdict → Decision
+  decided v = editDecision h (ruled v change x) (getD (p .values) (spotOf (natural s) (natural m)) (pos 0)) standing (natural s) (natural client) (natural n) (natural m)
+
+  abbrev next : Verdict → State
+  next v = stored p (spotOf (natural s) (natural m)) (slotOf h) (decided v)
+
+  -- the side's values are changed, and no other's
+  sides-next : Pass Checks → span 1 (sidesIn h) (sideOf (next fine)) ≡ modify (natural s) (onValues (made (natural m) ch)) (span 1 (sidesIn h) (sideOf p))
+  sides-next f =
+      let r = range (sidesIn h) (natural s) (f .1 .0) in
+      let most = sides-most h in
+      let i = range (length vs) (natural m) (f .1 .1 .1 .0) in
+      let long = length-span (offsetOf (natural s)) (measuresIn h) (λ j. getD (p .values) j (pos 0)) in
+      let l = z .values in
+      let same = row-set (p .values) (offsetOf (natural s)) (measuresIn h) (natural m) x (i .0) (omega (arith, i .1)) (omega arith) (omega (arith, r .0, r .1)) ∙ sym (made-with (natural m) ch vs) in
+      sides-modify (natural s) (sidesIn h) (onValues (made (natural m) ch)) (sideOf p) (sideOf (next fine)) (r .0) (r .1)
+      (λ j. record { values = same j; arrived = sideOf p (natural s) .arrived; confirmed = sideOf p (natural s) .confirmed })
+      (λ t a b ne. λ j. record {
+        values = row-apart (p .values) (offsetOf t) (measuresIn h) (spotOf (natural s) (natural m)) x (λ y u w. rows-apart (natural s) t y (min (natural m - 1) 31) (r .0) (omega (arith, r .1)) a (omega arith) ne (omega arith) u (omega arith)) j;
+        arrived = sideOf p t .arrived;
+        confirmed = sideOf p t .confirmed;
+      })
+
+  abbrev newKept : model.Change → model.Kept
+  newKept y =
+      record {
+        edit = record { number = h .next; side = natural s; client = natural client; earlier = natural n; measure = natural m; change = y };
+        fate = unsent;
+        replied = is split mode;
+        place = 0;
+      }
+
+  -- split or joining
+  apart-now : Pass Checks → is whole mode ≡ false → T (apart mode)
+  apart-now f w = which (is whole mode) (apart mode) (f .0) (λ t. absurd (T-not (is whole mode) (rw w tt) t)) (λ t. t)
+
+  room : Pass Checks → T (apart mode) → keptIn h < 256
+  room f t = by (apart mode) t (f .1 .1 .1 .1 .1 .1 .1 .0)
+    where
+      by : (b : Bool) → T b → T (not (b && leb 256 (keptIn h))) → keptIn h < 256
+      by true t u = leb-false 256 (keptIn h) (no-is (leb 256 (keptIn h)) u)
+      by false t u = absurd t
+
+  number : Pass Checks → h .next ≤ 999999
+  number f = nltb→le 999999 (h .next) (f .1 .1 .1 .1 .1 .1 .1 .1 .0)
+
+  abbrev kept-after : List model.Kept
+  kept-after = keptOf (editHead h) (set (p .edits) (slotOf h) (editRecord h standing (natural s) (natural client) (natural n) (natural m) change))
+
+  -- a whole plan keeps what it kept
+  kept-whole : is whole mode ≡ true → kept-after ≡ keptOf h (p .edits)
+  kept-whole w =
+      let e : endIn (editHead h) ≡ endIn h = rw (single-whole h w) in
+      let c : keptIn (editHead h) ≡ keptIn h = rw w in
+      let es : set (p .edits) (slotOf h) (editRecord h standing (natural s) (natural client) (natural n) (natural m) change) ≡ p .edits = rw w (set-getD (p .edits) (slotOf h) noRecord) in
+      λ i. logOf (e i) (c i) (es i)
+
+  -- a split or joining one keeps one more
+  kept-apart : Pass Checks → is whole mode ≡ false → kept-after ≡ snoc (keptOf h (p .edits)) (newKept ch)
+  kept-apart f w =
+      let t = apart-now f w in
+      let one = single-apart h t in
+      let q = room f t in
+      let o = number f in
+      let e : endIn (editHead h) ≡ suc (h .next) = rw one (omega arith) in
+      let c : keptIn (editHead h) ≡ suc (slotOf h) = rw w (omega arith) in
+      let e′ : h .next ≡ endIn h = rw one in
+      let c′ : slotOf h ≡ keptIn h = omega arith in
+      let r : EditRecord = record { change = change; fate = Unsent; side = natural s; client = natural client; earlier = natural n; measure = natural m; place = 0; replied = is split mode } in
+      let es : set (p .edits) (slotOf h) (editRecord h standing (natural s) (natural client) (natural n) (natural m) change) ≡ set (p .edits) (slotOf h) r = rw w in
+      (λ i. logOf (e i) (c i) (es i))
+      ∙ log-snoc (h .next) (slotOf h) (p .edits) r (let l = z .edits in omega arith)
+      ∙ (λ i. snoc (logOf (e′ i) (c′ i) (p .edits)) (newKept (made-change (natural kind) k (yes-is (allowed ch) (f .1 .1 .1 .1 .0)) i)))
+
+  kept-next : Pass Checks → kept-after ≡ after call mode (view p .content) .content .kept
+  unfolding after
+  kept-next f = cases (is whole mode) (λ w. kept-whole w ∙ rw w) (λ w. kept-apart f w ∙ rw w)
+
+  -- by the verdict on the checks
+  by : (v : Verdict) → (Fine v → Pass Checks) → (answerOf (decided v .answer) ≡ stepBy v call (view p) .answer) × (view (next v) ≡ stepBy v call (view p) .plan) × SameIfRefused (decided v .answer) p (next v)
+  unfolding gives after
+  by (refused j) f =
+      let same : next (refused j) ≡ p = rw (set-getD (p .values) (spotOf (natural s) (natural m)) (pos 0), set-getD (p .edits) (slotOf h) noRecord) in
+      (refl, ap view same, same)
+  by fine f = let g = f tt in (refl, plan-same refl refl (let o = number g in omega arith) refl refl (sides-next g) (kept-next g), tt)
+
+  pub edit-meets : let d = editIn p (natural s) client n (natural m) (natural kind) k in Meets call p (record { state = stored p (spotOf (natural s) (natural m)) (slotOf h) d; answer = d .answer })
+  unfolding step editRuling
+  edit-meets = let b = by (first Checks) (passed Checks) in record { answer = rw checks-same (b .0); plan = rw checks-same (b .1); same = b .2 }

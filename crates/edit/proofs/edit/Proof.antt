@@ -1,0 +1,158 @@
+use native.Mathlib.Omega.{arith}
+use Prim.Native.Nat.{_<_, min}
+use mathlib.Core.Path.{_≡_, sym, ap, _∙_, subst}
+use lib.IntN.{pos}
+use lib.ListN.{getD}
+use mir.Facts.{toZ-ofZ}
+use Rattle.exact.proofs.Ints.{fits32}
+use Rattle.protocol.specs.Lists.{natural}
+use Rattle.protocol.specs.Calls.{edit}
+use Rattle.state.specs.View.{endIn, keptIn, noRecord}
+use Rattle.state.specs.Parts.{positionOf, placeOf, recordOf, namedIn}
+use Rattle.state.specs.Meets.{Meets}
+use Rattle.state.proofs.Views.{Sized, unmapped}
+use Rattle.edit.specs.declared.Decision.{Decision}
+use Rattle.edit.specs.Edits.{editRuling, editDecision, spotOf, slotOf, editIn}
+use Rattle.edit.proofs.Edits.{edit-meets}
+use borrow.Author.Needs.{needs}
+use Rattle.edit.proofs.edit.Statement.{statement}
+use Rattle.edit.proofs.edit.Tie as tie
+use Rattle.edit.proofs.edit.Reads as reads
+use Rattle.edit.proofs.edit.Lts as lts
+use Rattle.edit.proofs.decide_edit.Reads as decide-edit-reads
+use Rattle.edit.proofs.spot.Reads as spot-reads
+use Rattle.exact.proofs.number.Reads as number-reads
+use Rattle.rules.proofs.capped.Reads as capped-reads
+use Rattle.state.proofs.found.Reads as found-reads
+use Rattle.state.proofs.place.Reads as place-reads
+use Rattle.state.proofs.position.Reads as position-reads
+
+sized : (c : tie.Start) → Sized (c .args .t1)
+sized c = record {
+  base = search needs;
+  draft = search needs;
+  values = search needs;
+  arrived = search needs;
+  confirmed = search needs;
+  lower = search needs;
+  gap = search needs;
+  upper = search needs;
+  firm = search needs;
+  edits = search unmapped;
+}
+
+number-requires : tie.Need-number-requires
+number-requires c κs = search needs
+
+position-requires : tie.Need-position-requires
+position-requires c κs = search needs
+
+place-requires : tie.Need-place-requires
+place-requires c κs = search needs
+
+mul-seen : tie.Need-mul-seen
+mul-seen c = search needs
+
+element-copy-out-seen : tie.Need-element-copy-out-seen
+element-copy-out-seen c = search needs
+
+found-requires : tie.Need-found-requires
+found-requires c κs = search needs
+
+number-requires-2 : tie.Need-number-requires-2
+number-requires-2 c κs = search needs
+
+number-requires-3 : tie.Need-number-requires-3
+number-requires-3 c κs = search needs
+
+spot-requires : tie.Need-spot-requires
+spot-requires c κs = search needs
+
+capped-requires : tie.Need-capped-requires
+capped-requires c κs = search needs
+
+mul-old : tie.Need-mul-old
+mul-old c = search needs
+
+element-copy-out-old : tie.Need-element-copy-out-old
+element-copy-out-old c = search needs
+
+mul-standing : tie.Need-mul-standing
+mul-standing c = search needs
+
+element-copy-out-standing : tie.Need-element-copy-out-standing
+element-copy-out-standing c = search needs
+
+number-requires-4 : tie.Need-number-requires-4
+number-requires-4 c κs = search needs
+
+decide-edit-requires : tie.Need-decide-edit-requires
+decide-edit-requires c κs = search needs
+
+mul-value : tie.Need-mul-value
+mul-value c =
+    omega (arith, (c .before .before .before .before .before .before .before .before .before .before .before .before .before .before .before .spot .ensures .1))
+
+element-set-from-value : tie.Need-element-set-from-value
+element-set-from-value c =
+    (c .before .before .before .before .before .before .before .before .before .before .before .before .before .before .before .spot .ensures .1)
+
+mul-entry : tie.Need-mul-entry
+mul-entry c =
+    let e = (c .before .before .before .before .before .before .before .before .before .before .before .before .before .before .capped .ensures) in omega arith
+
+element-set-from-entry : tie.Need-element-set-from-entry
+element-set-from-entry c =
+    let e = (c .before .before .before .before .before .before .before .before .before .before .before .before .before .before .capped .ensures) in omega arith
+
+returns : tie.Need-returns
+returns c =
+    let s = (c .before .before .before .before .before .before .before .before .before .before .before .before .before .before .before .before .before .before .before .before .before .before .before .before) in
+    let p = s .args .t1 in
+    let client = toZ-ofZ (s .fits .client) in
+    let after = toZ-ofZ (s .fits .after) in
+    let constant = toZ-ofZ (s .fits .constant) in
+    let number = (c .before .before .before .before .before .before .before .before .before .before .before .before .before .before .before .before .before .before .before .before .before .before .number .ensures) ∙ ap natural after in
+    let position = (c .before .before .before .before .before .before .before .before .before .before .before .before .before .before .before .before .before .before .before .before .before .position .ensures .0) ∙ ap (positionOf (endIn (p .head)) (keptIn (p .head))) number in
+    let seat = (c .before .before .before .before .before .before .before .before .before .before .before .before .before .before .before .before .before .before .before .before .place .ensures .0) ∙ ap placeOf position in
+    let named : (c .before .before .before .before .before .before .before .before .before .before .before .before .before .before .before .before .before .before .found .result) ≡ namedIn p (natural (s .args .after)) = (c .before .before .before .before .before .before .before .before .before .before .before .before .before .before .before .before .before .before .found .ensures) ∙ (λ j. recordOf (position j) (getD (p .edits) (seat j) noRecord)) in
+    let side = (c .before .before .before .before .before .before .before .before .before .before .before .before .before .before .before .before .before .number2 .ensures) ∙ ap natural (toZ-ofZ (s .fits .s)) in
+    let measure = (c .before .before .before .before .before .before .before .before .before .before .before .before .before .before .before .before .number3 .ensures) ∙ ap natural (toZ-ofZ (s .fits .m)) in
+    let kind = (c .before .before .before .before .number4 .ensures) ∙ ap natural (toZ-ofZ (s .fits .kind)) in
+    let spot = (c .before .before .before .before .before .before .before .before .before .before .before .before .before .before .before .spot .ensures .0) ∙ (λ j. spotOf (side j) (measure j)) in
+    let slot = (c .before .before .before .before .before .before .before .before .before .before .before .before .before .before .capped .ensures) in
+    let old = toZ-ofZ (fits32 (getD (p .values) ((c .before .before .before .before .before .before .before .before .before .before .before .before .before .before .before .spot .result)) (pos 0)) ((c .before .before .before .before .before .before .before .before .before .before .before .before .before .old .given))) ∙ ap (λ j. getD (p .values) j (pos 0)) spot in
+    let standing = ap (λ j. getD (p .edits) j noRecord) slot in
+    let d = (c .before .before .before .decide-edit .result) in
+    let e : d ≡ editIn p (natural (s .args .s)) (s .args .client) (s .args .after) (natural (s .args .m)) (natural (s .args .kind)) (s .args .constant) =
+    (c .before .before .before .decide-edit .ensures)
+    ∙ (λ j. editDecision (p .head) (editRuling (p .head) (p .lower) (p .gap) (p .upper) (p .firm) (p .values) (named j) (side j) (client j) (after j) (measure j) (kind j) (constant j)) (old j) (standing j) (side j) (natural (client j)) (natural (after j)) (measure j))
+    in
+    let value = toZ-ofZ (fits32 (d .value) ((c .before .struct-told .given .1 .0 .1))) in
+    rw (value, spot, slot, e) (edit-meets p (sized s) (s .args .s) (s .args .client) (s .args .after) (s .args .m) (s .args .kind) (s .args .constant))
+
+pub edit-spec : {M : Type 1} → statement M
+edit-spec =
+    tie.close
+    (tie.spec
+    number-requires
+    position-requires
+    place-requires
+    mul-seen
+    element-copy-out-seen
+    found-requires
+    number-requires-2
+    number-requires-3
+    spot-requires
+    capped-requires
+    mul-old
+    element-copy-out-old
+    mul-standing
+    element-copy-out-standing
+    number-requires-4
+    decide-edit-requires
+    mul-value
+    element-set-from-value
+    mul-entry
+    element-set-from-entry
+    returns)

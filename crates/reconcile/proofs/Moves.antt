@@ -1,1 +1,0 @@
--- Laws of splitting and joining. Assumes nothing.

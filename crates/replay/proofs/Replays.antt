@@ -1,0 +1,150 @@
+-- A replay's decision, carried out, is the protocol's step. Assumes nothing.
+use Prim.Native.Nat.{ℕ, zero, suc, min, _+_, _-_, _<_, _≤_}
+use native.Mathlib.Omega.{arith}
+use native.Mathlib.Numerals.{add-one}
+use mathlib.Core.Bool.{Bool, true, false, not, cond, _&&_}
+use mathlib.Core.Path.{_≡_, refl, sym, ap, _∙_}
+use mathlib.Core.Logic.{_⊎_, inl, inr}
+use mathlib.Core.List.{List, [], _∷_}
+use lib.IntN.{ℤ, pos}
+use lib.Dec.{T, eqb, eqb·suc-zero}
+use lib.ListN.{length, getD, set}
+use lib.Seq.{set-getD}
+use Rattle.protocol.specs.Lists.{natural, oneTo, count, modify}
+use Rattle.protocol.specs.Plan as model
+use Rattle.protocol.specs.Plan.{isWaiting, isSettled, effective, fits, holds, made, applied, value, lookup, absentEdit, sideAt, sidesThat}
+use Rattle.protocol.specs.Calls.{Call, replay, Check, Verdict, fine, refused, first, checks, further, replayable, settled, outcome, update, nextPlace, after, gives, ok, stepBy, step}
+use Rattle.protocol.proofs.Laws.{cases, is-yes, range, Fine, Pass, passed}
+use Rattle.change.specs.Change.{viewChange}
+use Rattle.rules.specs.Rows.{row, withValue, holdsIn}
+use Rattle.rules.proofs.Spans.{length-span}
+use Rattle.rules.proofs.Rows.{made-with, modify-out, holds-is, row-set}
+use Rattle.state.specs.declared.EditRecord.{EditRecord}
+use Rattle.state.specs.declared.Head.{Head}
+use Rattle.state.specs.declared.State.{State}
+use Rattle.state.specs.View.{view, modeOf, sidesIn, sideOf, indexOf, keptIn, endIn, keptAt, logOf, keptOf, rulesOf, noRecord}
+use Rattle.state.specs.Parts.{positionOf, placeOf, recordOf, unsetIn, namedIn}
+use Rattle.state.specs.Meets.{answerOf, SameIfRefused, Meets}
+use Rattle.state.proofs.Views.{Sized, plan-same, flags-unset, lookup-named}
+use Rattle.state.proofs.Logs.{Placed, placed, log-modify}
+use Rattle.replay.specs.declared.Decision.{Decision}
+use Rattle.replay.specs.Replays.{replayChecks, draftIn, effectiveIn, draftOutcome, settledBy, replayOutcome, settledRecord, replayDecision, pointOf, slotIn, replayIn, stored}
+
+module _ (p : State) (z : Sized p) (n : ℤ) where
+  abbrev h : Head
+  h = p .head
+
+  abbrev call : Call
+  call = replay n
+
+  abbrev e : EditRecord
+  e = namedIn p (natural n)
+
+  abbrev vs : List ℤ
+  vs = draftIn h (p .draft)
+
+  abbrev ch : model.Change
+  ch = viewChange (e .change)
+
+  abbrev Checks : List Check
+  Checks = replayChecks (modeOf (h .mode)) (unsetIn (p .arrived) (sidesIn h)) (keptAt 0 e) (keptAt 0 (namedIn p (e .earlier)))
+
+  -- the decision's checks are the protocol's
+  checks-same : first (checks call (view p)) ≡ first Checks
+  unfolding checks further
+  checks-same = rw (flags-unset p (λ x. x .arrived) (p .arrived) (λ s. refl), lookup-named p (natural n), lookup-named p (e .earlier))
+
+  -- and so is the trial
+  effect : replayable (view p .content) (natural n) ≡ effectiveIn (p .lower) (p .gap) (p .upper) (min (h .rules) 64) (e .measure) ch vs
+  unfolding replayable effective effectiveIn
+  effect = rw (lookup-named p (natural n)) (ap (λ b. fits (e .measure) ch vs && b) (holds-is (p .lower) (p .gap) (p .upper) (p .firm) (min (h .rules) 64) (made (e .measure) ch vs)))
+
+  abbrev b : Bool
+  b = effectiveIn (p .lower) (p .gap) (p .upper) (min (h .rules) 64) (e .measure) ch vs
+
+  abbrev old : ℤ
+  old = getD (p .draft) (pointOf (e .measure)) (pos 0)
+
+  abbrev x : ℤ
+  x = cond (b && oneTo (min (h .drafted) 32) (e .measure)) (applied ch (value vs (e .measure))) old
+
+  -- the draft, where the change takes effect on one of its measures and where not
+  draft-long : length vs ≡ min (h .drafted) 32
+  draft-long = length-span 0 (min (h .drafted) 32) (λ i. getD (p .draft) i (pos 0))
+
+  draft-changed : oneTo (min (h .drafted) 32) (e .measure) ≡ true → row (set (p .draft) (pointOf (e .measure)) (applied ch (value vs (e .measure)))) 0 (min (h .drafted) 32) ≡ made (e .measure) ch vs
+  draft-changed t =
+      let r = range (min (h .drafted) 32) (e .measure) (is-yes t) in
+      let l = z .draft in
+      let f : pointOf (e .measure) ≡ 0 + pointOf (e .measure) = omega arith in
+      ap (λ i. row (set (p .draft) i (applied ch (value vs (e .measure)))) 0 (min (h .drafted) 32)) f
+      ∙ row-set (p .draft) 0 (min (h .drafted) 32) (e .measure) (applied ch (value vs (e .measure))) (r .0) (r .1) (omega arith) (omega arith)
+      ∙ sym (made-with (e .measure) ch vs)
+
+  draft-kept : row (set (p .draft) (pointOf (e .measure)) old) 0 (min (h .drafted) 32) ≡ vs
+  draft-kept = ap (λ ws. row ws 0 (min (h .drafted) 32)) (set-getD (p .draft) (pointOf (e .measure)) (pos 0))
+
+  draft-out : oneTo (min (h .drafted) 32) (e .measure) ≡ false → vs ≡ made (e .measure) ch vs
+  unfolding made
+  draft-out t = sym (modify-out (e .measure) (applied ch) vs (ap (λ k. oneTo k (e .measure)) draft-long ∙ t))
+
+  draft-next : row (set (p .draft) (pointOf (e .measure)) x) 0 (min (h .drafted) 32) ≡ cond b (made (e .measure) ch vs) vs
+  draft-next = cases b
+      (λ u. rw u (cases (oneTo (min (h .drafted) 32) (e .measure)) (λ t. rw t (draft-changed t)) (λ t. rw t (draft-kept ∙ draft-out t))))
+      (λ u. rw u draft-kept)
+
+  abbrev standing : EditRecord
+  standing = getD (p .edits) (slotIn p (natural n)) noRecord
+
+  abbrev place : ℕ
+  place = count isSettled (keptOf h (p .edits)) + 1
+
+  -- the record is settled as the protocol settles it
+  settled-as : (w : Bool) (j m : ℕ) (r : EditRecord) → keptAt m (settledRecord r w j) ≡ settled w j (keptAt m r)
+  settled-as true j m r = refl
+  settled-as false j m r = refl
+
+  kept-next : Pass Checks → keptOf h (set (p .edits) (slotIn p (natural n)) (settledRecord standing b place)) ≡ update (natural n) (settled b (nextPlace (keptOf h (p .edits)))) (keptOf h (p .edits))
+  kept-next f = by (placed (endIn h) (keptIn h) (natural n) (p .edits))
+    where
+      by : Placed (endIn h) (keptIn h) (natural n) (p .edits) → keptOf h (set (p .edits) (slotIn p (natural n)) (settledRecord standing b place)) ≡ update (natural n) (settled b (nextPlace (keptOf h (p .edits)))) (keptOf h (p .edits))
+      by (inl q) = absurd (rw (q .0) at (f .1 .1 .0))
+      by (inr q) =
+          let j = q .0 in
+          let at : slotIn p (natural n) ≡ j = ap placeOf (q .2) ∙ (let i = q .1 in omega arith) in
+          let l = z .edits in
+          let i = q .1 in
+          (λ t. keptOf h (set (p .edits) (at t) (settledRecord (getD (p .edits) (at t) noRecord) b (add-one (count isSettled (keptOf h (p .edits))) t))))
+          ∙ log-modify (endIn h) (keptIn h) j (p .edits) (settledRecord (getD (p .edits) j noRecord) b (nextPlace (keptOf h (p .edits)))) (settled b (nextPlace (keptOf h (p .edits)))) (q .1) (omega arith) (settled-as b (nextPlace (keptOf h (p .edits))) _ (getD (p .edits) j noRecord))
+          ∙ sym (q .5 (settled b (nextPlace (keptOf h (p .edits)))))
+
+  abbrev decided : Verdict → Decision
+  decided v = replayDecision (settledBy v (draftOutcome h (p .lower) (p .gap) (p .upper) (p .draft) (e .measure) (e .change) old)) standing old place
+
+  abbrev next : Verdict → State
+  next v = stored p (pointOf (e .measure)) (slotIn p (natural n)) (decided v)
+
+  given : (w : Bool) → _≡_ {A = List ℤ} (pos (cond w 3 4) ∷ []) (pos (model.fateNumber (outcome w)) ∷ [])
+  given true = refl
+  given false = refl
+
+  -- by the verdict on the checks
+  by : (v : Verdict) → (Fine v → Pass Checks) → (answerOf (decided v .answer) ≡ stepBy v call (view p) .answer) × (view (next v) ≡ stepBy v call (view p) .plan) × SameIfRefused (decided v .answer) p (next v)
+  unfolding gives after draftOutcome
+  by (refused j) f =
+      let same : next (refused j) ≡ p = rw (set-getD (p .draft) (pointOf (e .measure)) (pos 0), set-getD (p .edits) (slotIn p (natural n)) noRecord) in
+      (refl, ap view same, same)
+  by fine f =
+      let g = f tt in
+      let found = lookup-named p (natural n) in (
+        rw effect (ap ok (given b)),
+        plan-same refl refl refl refl
+            (draft-next ∙ (λ i. cond (sym effect i) (made (sym found i .edit .measure) (sym found i .edit .change) vs) vs))
+            refl
+            (kept-next g ∙ (λ i. update (natural n) (settled (sym effect i) (nextPlace (keptOf h (p .edits)))) (keptOf h (p .edits)))),
+        tt,
+      )
+
+  pub replay-meets : Meets call p (record { state = stored p (pointOf (e .measure)) (slotIn p (natural n)) (replayIn p (natural n)); answer = replayIn p (natural n) .answer })
+  unfolding step replayOutcome
+  replay-meets = let r = by (first Checks) (passed Checks) in record { answer = rw checks-same (r .0); plan = rw checks-same (r .1); same = r .2 }
