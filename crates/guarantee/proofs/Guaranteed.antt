@@ -103,7 +103,7 @@ idle c p h e f = by (first (checks c p))
     by fine = (e, f (gives c (p .mode) (p .content)))
     by (refused n) = (refl, refl)
 
-reading : (c : Call) (p : Plan) (h : History) → T (reads c) → (following p c ≡ p) × (noting p h c ≡ h)
+pub reading : (c : Call) (p : Plan) (h : History) → T (reads c) → (following p c ≡ p) × (noting p h c ≡ h)
 unfolding after entered
 reading (measure v) p h r = absurd r
 reading (rule a c b f) p h r = absurd r

@@ -1,27 +1,28 @@
 -- Laws of the view of a state: lengths, sides, kept edits, the whole. Assumes nothing.
-use Prim.Native.Nat.{ℕ, zero, suc, _+_, _*_, _-_, _<_, _≤_, min}
+use Prim.Native.Nat.{ℕ, zero, suc, _+_, _<_, _≤_, min}
 use native.Mathlib.Omega.{arith}
 use mathlib.Core.Bool.{Bool, true, false, not, cond}
 use mathlib.Core.Path.{_≡_, refl, sym, ap, ap₂, _∙_}
-use mathlib.Core.Logic.{_⊎_, inl, inr, _≢_}
+use mathlib.Core.Logic.{_≢_}
 use mathlib.Core.List.{List, [], _∷_, map}
-use borrow.Author.Tests.{eqb-true, eqb-false, eq-eqb, ne-eqb, lt-ltb, le-ltb, le-leb, lt-leb, ltb-true, ltb-false, leb-true, leb-false}
-use lib.Dec.{T, eqb, leb, ltb}
+use borrow.Author.Needs.{needs}
+use denote.Laws.{Is}
+use denote.Struct.Declared as Declared
+use denote.Struct.Laws.{val}
+use lib.Dec.{eqb, ltb}
 use lib.IntN.{ℤ, pos}
 use lib.ListN.{length, getD, set, length-map}
-use Rattle.protocol.specs.Lists.{bit, tally, nth, modify, snoc}
+use Rattle.protocol.specs.Lists.{bit, tally, modify, snoc}
 use native.Mathlib.Numerals.{add-one}
-use Rattle.protocol.specs.Plan.{Rule, Side, Mode, modeNumber, Content, Plan, absentSide, sideAt, sidesThat, Fate, unsent, waiting, accepted, revoked, fateNumber, fateIs, Kept, absentEdit, lookup}
-use Rattle.protocol.specs.Calls.{update}
+use Rattle.protocol.specs.Plan.{Side, Mode, modeNumber, Content, Plan, absentSide, sideAt, sidesThat, lookup}
 use Rattle.protocol.proofs.Laws.{tally-same}
 use Rattle.rules.specs.Rows.{span, row}
 use Rattle.rules.proofs.Spans.{length-span, span-same, span-snoc, nth-span, modify-span, getD-set, getD-other}
-use Rattle.state.specs.declared.EditRecord.{EditRecord}
+use Rattle.state.proofs.State.{the-type}
+use Rattle.state.proofs.State.Laws.{the-laws}
 use Rattle.state.specs.declared.Head.{Head}
 use Rattle.state.specs.declared.State.{State}
-use Rattle.state.specs.declared.Test.{Test}
-use Rattle.state.specs.declared.Test.the-variants.{UnsentOf, Waiting, Open, Settled}
-use Rattle.state.specs.View.{view, modeOf, sidesIn, sideOf, indexOf, offsetOf, measuresIn, endIn, keptIn, keptAt, logOf, keptOf, noRecord}
+use Rattle.state.specs.View.{view, modeOf, sidesIn, sideOf, indexOf, measuresIn, endIn, keptIn, keptAt}
 use Rattle.state.specs.Parts.{positionOf, unsetIn, namedIn}
 use Rattle.state.proofs.Logs.{lookup-record}
 
@@ -111,3 +112,22 @@ flags-unset p flag flags h =
 -- the edit that a number names, as the protocol finds it
 pub lookup-named : (p : State) (n : ℕ) → lookup n (view p .content .kept) ≡ keptAt (cond (eqb (positionOf (endIn (p .head)) (keptIn (p .head)) n) 0) 0 n) (namedIn p n)
 lookup-named p n = lookup-record (endIn (p .head)) (keptIn (p .head)) n (p .edits) (omega arith)
+
+pub row-length : (vs : List ℤ) (at n : ℕ) → length (row vs at n) ≡ n
+row-length vs at n = length-span at n (λ i. getD vs i (pos 0))
+
+-- ---- what owning a state tells, as a parameter's `good` says it
+
+pub owned-sized : (p : State) → Is (Declared.row the-type) p (val the-type the-laws p ∷ []) → Sized p
+owned-sized p g = record {
+  base = search needs;
+  draft = search needs;
+  values = search needs;
+  arrived = search needs;
+  confirmed = search needs;
+  lower = search needs;
+  gap = search needs;
+  upper = search needs;
+  firm = search needs;
+  edits = search unmapped;
+}

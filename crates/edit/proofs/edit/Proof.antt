@@ -10,7 +10,7 @@ use Rattle.protocol.specs.Calls.{edit}
 use Rattle.state.specs.View.{endIn, keptIn, noRecord}
 use Rattle.state.specs.Parts.{positionOf, placeOf, recordOf, namedIn}
 use Rattle.state.specs.Meets.{Meets}
-use Rattle.state.proofs.Views.{Sized, unmapped}
+use Rattle.state.proofs.Views.{owned-sized}
 use Rattle.edit.specs.declared.Decision.{Decision}
 use Rattle.edit.specs.Edits.{editRuling, editDecision, spotOf, slotOf, editIn}
 use Rattle.edit.proofs.Edits.{edit-meets}
@@ -26,20 +26,6 @@ use Rattle.rules.proofs.capped.Reads as capped-reads
 use Rattle.state.proofs.found.Reads as found-reads
 use Rattle.state.proofs.place.Reads as place-reads
 use Rattle.state.proofs.position.Reads as position-reads
-
-sized : (c : tie.Start) → Sized (c .args .t1)
-sized c = record {
-  base = search needs;
-  draft = search needs;
-  values = search needs;
-  arrived = search needs;
-  confirmed = search needs;
-  lower = search needs;
-  gap = search needs;
-  upper = search needs;
-  firm = search needs;
-  edits = search unmapped;
-}
 
 number-requires : tie.Need-number-requires
 number-requires c κs = search needs
@@ -129,7 +115,7 @@ returns c =
     ∙ (λ j. editDecision (p .head) (editRuling (p .head) (p .lower) (p .gap) (p .upper) (p .firm) (p .values) (named j) (side j) (client j) (after j) (measure j) (kind j) (constant j)) (old j) (standing j) (side j) (natural (client j)) (natural (after j)) (measure j))
     in
     let value = toZ-ofZ (fits32 (d .value) ((c .before .struct-told .given .1 .0 .1))) in
-    rw (value, spot, slot, e) (edit-meets p (sized s) (s .args .s) (s .args .client) (s .args .after) (s .args .m) (s .args .kind) (s .args .constant))
+    rw (value, spot, slot, e) (edit-meets p (owned-sized p (s .good .0)) (s .args .s) (s .args .client) (s .args .after) (s .args .m) (s .args .kind) (s .args .constant))
 
 pub edit-spec : {M : Type 1} → statement M
 edit-spec =

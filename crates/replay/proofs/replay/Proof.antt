@@ -8,7 +8,7 @@ use Rattle.exact.proofs.Ints.{fits32}
 use Rattle.protocol.specs.Lists.{natural}
 use Rattle.state.specs.View.{endIn, keptIn, noRecord}
 use Rattle.state.specs.Parts.{positionOf, placeOf, recordOf, namedIn}
-use Rattle.state.proofs.Views.{Sized, unmapped}
+use Rattle.state.proofs.Views.{owned-sized}
 use Rattle.replay.specs.Replays.{replayOutcome, replayDecision, pointOf, slotIn, replayIn}
 use Rattle.replay.proofs.Replays.{replay-meets}
 use native.Mathlib.Omega.{arith}
@@ -26,20 +26,6 @@ use Rattle.state.proofs.found.Reads as found-reads
 use Rattle.state.proofs.place.Reads as place-reads
 use Rattle.state.proofs.position.Reads as position-reads
 use Rattle.state.proofs.unset.Reads as unset-reads
-
-sized : (c : tie.Start) → Sized (c .args .t1)
-sized c = record {
-  base = search needs;
-  draft = search needs;
-  values = search needs;
-  arrived = search needs;
-  confirmed = search needs;
-  lower = search needs;
-  gap = search needs;
-  upper = search needs;
-  firm = search needs;
-  edits = search unmapped;
-}
 
 number-requires : tie.Need-number-requires
 number-requires c κs = search needs
@@ -130,7 +116,7 @@ returns c =
     ∙ (λ j. replayDecision (replayOutcome (p .head) (p .lower) (p .gap) (p .upper) (p .draft) (missing j) (e j) (earlier j) (old j)) (getD (p .edits) (slot j) noRecord) (old j) (place j))
     in
     let amount = toZ-ofZ (fits32 (d .amount) ((c .before .struct-told .given .0 .1))) in
-    rw (amount, point, slot, same) (replay-meets p (sized s) (s .args .n))
+    rw (amount, point, slot, same) (replay-meets p (owned-sized p (s .good .0)) (s .args .n))
 
 pub replay-spec : {M : Type 1} → statement M
 replay-spec =

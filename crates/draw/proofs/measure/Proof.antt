@@ -1,0 +1,80 @@
+use native.Mathlib.Omega.{arith}
+use Prim.Native.Nat.{_<_}
+use mathlib.Core.Path.{_≡_, ap, _∙_}
+use lib.Dec.{ltb→lt}
+use mir.Facts.{toZ-ofZ}
+use Rattle.protocol.specs.Plan.{measureLimit}
+use Rattle.protocol.specs.Calls.{measure, first, ok}
+use Rattle.protocol.proofs.Laws.{yes-is}
+use Rattle.state.specs.View.{measuresIn}
+use Rattle.state.specs.Meets.{refusalOf}
+use Rattle.state.proofs.Views.{owned-sized}
+use Rattle.state.proofs.Meeting.{refused-meets, accepted-meets, verdict-refused, verdict-fine, fine-pass}
+use Rattle.draw.specs.Draw.{measureChecks}
+use Rattle.draw.proofs.Draws.{measure-checks, measure-given, measure-next}
+use borrow.Author.Needs.{needs}
+use Rattle.draw.proofs.measure.Statement.{statement}
+use Rattle.draw.proofs.measure.Tie as tie
+use Rattle.draw.proofs.measure.Reads as reads
+use Rattle.draw.proofs.measure.Lts as lts
+use Rattle.draw.proofs.measure_refusal.Reads as measure-refusal-reads
+use Rattle.draw.proofs.with_measures.Reads as with-measures-reads
+use Rattle.rules.proofs.capped.Reads as capped-reads
+use Rattle.state.proofs.refuse.Reads as refuse-reads
+
+-- what the check found, of the number that was handed on
+verdict : (c : tie.After-measure-refusal) → let s = c .before .before in c .measure-refusal .result ≡ refusalOf (first (measureChecks (s .args .p .head) (s .args .v)))
+verdict c = let s = c .before .before in c .measure-refusal .ensures ∙ ap (λ v. refusalOf (first (measureChecks (s .args .p .head) v))) (toZ-ofZ (s .fits .v))
+
+measure-refusal-requires : tie.Need-measure-refusal-requires
+measure-refusal-requires c κs = search needs
+
+refuse-requires : tie.Need-refuse-requires
+refuse-requires c κs = search needs
+
+returns : tie.Need-returns
+returns c =
+    let s = c .before .before .before .before in
+    rw (c .refuse .ensures) (refused-meets (measure (s .args .v)) (s .args .p) _ (measure-checks (s .args .p) (s .args .v) ∙ verdict-refused (first (measureChecks (s .args .p .head) (s .args .v))) _ (verdict (c .before .before)) (c .before .if1 .taken)))
+
+capped-requires : tie.Need-capped-requires
+capped-requires c κs = search needs
+
+cast-n : tie.Need-cast-n
+cast-n c = search needs
+
+add-n : tie.Need-add-n
+add-n c = search needs
+
+with-measures-requires : tie.Need-with-measures-requires
+with-measures-requires c κs = search needs
+
+mul-v : tie.Need-mul-v
+mul-v c = search needs
+
+element-set-from-v : tie.Need-element-set-from-v
+element-set-from-v c = search needs
+
+returns-2 : tie.Need-returns-2
+returns-2 c =
+    let s = c .before .before .before .before .before in
+    let v = s .args .v in
+    let e = verdict-fine (measureChecks (s .args .p .head) v) _ tt (verdict (c .before .before .before)) (c .before .before .if1 .left) in
+    let t = fine-pass (measureChecks (s .args .p .head) v) e in
+    let room : s .args .p .head .measures < 32 = let l = ltb→lt (measuresIn (s .args .p .head)) measureLimit (t .1 .0) in omega arith in
+    rw (c .with-measures .ensures, c .before .capped .ensures, toZ-ofZ (s .fits .v)) (accepted-meets (measure v) (s .args .p) _ (measure-checks (s .args .p) v ∙ e) (ap ok (measure-given (s .args .p) v room)) (measure-next (s .args .p) (owned-sized (s .args .p) (s .good .0)) v (yes-is _ (t .0)) room) tt)
+
+pub measure-spec : {M : Type 1} → statement M
+measure-spec =
+    tie.close
+    (tie.spec
+    measure-refusal-requires
+    refuse-requires
+    returns
+    capped-requires
+    cast-n
+    add-n
+    with-measures-requires
+    mul-v
+    element-set-from-v
+    returns-2)

@@ -1,0 +1,148 @@
+-- Laws of the reading calls: what each gives, from the arrays of the state. Assumes nothing.
+use Prim.Native.Nat.{ℕ, zero, suc, _+_, _-_, _<_, _≤_}
+use native.Mathlib.Omega.{arith}
+use native.Mathlib.Numerals.{add-one}
+use mathlib.Core.Bool.{Bool, true, not, _||_}
+use mathlib.Core.Path.{_≡_, refl, sym, ap, ap₂, _∙_}
+use mathlib.Core.Logic.{inl, inr, _≢_}
+use mathlib.Core.List.{List, [], _∷_, _++_}
+use borrow.Author.Tests.{eqb-true, eqb-false, eq-eqb, ne-eqb, lt-ltb, ltb-true, ltb-false, le-leb}
+use lib.Dec.{eqb, ltb, eqb·suc-zero}
+use lib.IntN.{ℤ, pos}
+use lib.ListN.{length, getD, set, take, drop, length-set}
+use Rattle.protocol.specs.Lists.{bit, natural, oneTo, tally, count}
+use Rattle.protocol.specs.Plan.{Kept, fateNumber, isOpen, sideAt, lookup, unsentOf, pending}
+use Rattle.protocol.specs.Calls.{show, fine, refused, first, checks, further, gives, step, fateIn, leftIn, shown}
+use Rattle.protocol.proofs.Laws.{cases, range, yes-is, is-yes, tally-same}
+use Rattle.rules.specs.Rows.{span, row}
+use Rattle.rules.proofs.Spans.{getD-set, getD-other}
+use Rattle.state.specs.declared.EditRecord.{EditRecord}
+use Rattle.state.specs.declared.Head.{Head}
+use Rattle.state.specs.declared.State.{State}
+use Rattle.state.specs.View.{view, sidesIn, indexOf, offsetOf, measuresIn, fateOf, keptAt, logOf, keptOf, noRecord}
+use Rattle.state.specs.Parts.{positionOf, placeOf, unsetIn}
+use Rattle.state.proofs.Views.{sides-most, sides-length, side-at, row-length}
+use Rattle.state.proofs.Meeting.{fine-pass}
+use Rattle.state.proofs.Logs.{Placed, placed}
+use Rattle.query.specs.Reads.{showChecks, pendingIn, unsentCounts, leftNumber}
+
+-- ---- fate
+
+abbrev fateAndPlace : Kept → List ℤ
+fateAndPlace k = pos (fateNumber (k .fate)) ∷ pos (k .place) ∷ []
+
+-- where some edit has the number, the call gives the fate and place of the one looked up
+fate-listed : (n i m j : ℕ) (f : ℕ → Kept) → j < m → f (i + j) .edit .number ≡ n → fateIn n (span i m f) ≡ fateAndPlace (lookup n (span i m f))
+fate-listed n i zero j f h e = absurd (omega arith)
+fate-listed n i (suc m) zero f h e =
+    let z : i + 0 ≡ i = omega arith in
+    rw (eq-eqb n (f i .edit .number) (sym (rw z at e)))
+fate-listed n i (suc m) (suc j) f h e =
+    let z : i + suc j ≡ suc i + j = omega arith in
+    let ih = fate-listed n (suc i) m j f (omega arith) (rw z at e) in
+    cases (eqb n (f i .edit .number)) (λ t. rw t) (λ t. rw t ih)
+
+fate-unlisted : (n i m : ℕ) (f : ℕ → Kept) → ((j : ℕ) → i ≤ j → j < i + m → f j .edit .number ≢ n) → fateIn n (span i m f) ≡ pos 0 ∷ pos 0 ∷ []
+fate-unlisted n i zero f h = refl
+fate-unlisted n i (suc m) f h =
+    rw (ne-eqb n (f i .edit .number) (λ e. h i (omega arith) (omega arith) (sym e))) (fate-unlisted n (suc i) m f (λ j a b. h j (omega arith) (omega arith)))
+
+-- a number that has no place is no kept edit's
+unplaced : (e k n j : ℕ) → positionOf e k n ≡ 0 → j < k → e - (k - j) ≢ n
+unfolding positionOf
+unplaced e k zero j z h w = let o : _≡_ {A = ℕ} 1 0 = rw (lt-ltb 0 k (omega arith), le-leb e k (omega arith)) at z in omega (arith, o)
+unplaced e k (suc n) j z h w =
+    let o : suc (k - (e - suc n)) ≡ 0 = rw (eqb·suc-zero n, lt-ltb (suc n) e (omega arith), le-leb (e - suc n) k (omega arith)) at z in
+    omega (arith, o)
+
+pub fate-none : (e k n : ℕ) (es : List EditRecord) → positionOf e k n ≡ 0 → fateIn n (logOf e k es) ≡ pos 0 ∷ pos 0 ∷ []
+fate-none e k n es z = fate-unlisted n 0 k _ (λ j a b. unplaced e k n j z (omega arith))
+
+pub fate-some : (e k n : ℕ) (es : List EditRecord) → k ≤ 256 → positionOf e k n ≢ 0 → let r = getD es (placeOf (positionOf e k n)) noRecord in fateIn n (logOf e k es) ≡ pos (fateNumber (fateOf (r .fate))) ∷ pos (r .place) ∷ []
+fate-some e k n es most h = by (placed e k n es)
+  where
+    by : Placed e k n es → let r = getD es (placeOf (positionOf e k n)) noRecord in fateIn n (logOf e k es) ≡ pos (fateNumber (fateOf (r .fate))) ∷ pos (r .place) ∷ []
+    by (inl q) = absurd (h (q .0))
+    by (inr q) =
+        let z : 0 + q .0 ≡ q .0 = omega arith in
+        let p : placeOf (suc (q .0)) ≡ q .0 = omega (arith, q .1, most) in
+        fate-listed n 0 k (q .0) (λ i. keptAt (e - (k - i)) (getD es i noRecord)) (q .1) (ap (λ i. e - (k - i)) z ∙ q .3)
+        ∙ ap fateAndPlace (q .4 ∙ ap (λ i. keptAt n (getD es i noRecord)) (sym p ∙ ap placeOf (sym (q .2))))
+
+-- ---- left
+
+-- one side more
+pub tally-next : (f : ℕ → Bool) (i k b : ℕ) → k ≡ tally f i → b ≡ bit (f (suc i)) → k + b ≡ tally f (i + 1)
+tally-next f i k b e g = let m = ap (tally f) (add-one i) in omega arith
+
+pub index-suc : (i : ℕ) → i < 8 → indexOf (suc i) ≡ i
+index-suc i h = omega arith
+
+counts-length : (h : Head) (es : List EditRecord) (n : ℕ) → length (unsentCounts h es n) ≡ 8
+unfolding unsentCounts
+counts-length h es zero = refl
+counts-length h es (suc n) = length-set (unsentCounts h es n) n (unsentOf (suc n) (keptOf h es)) ∙ counts-length h es n
+
+counts-at : (h : Head) (es : List EditRecord) (n i : ℕ) → n ≤ 8 → i < n → getD (unsentCounts h es n) i 0 ≡ unsentOf (suc i) (keptOf h es)
+unfolding unsentCounts
+counts-at h es zero i most l = absurd (omega arith)
+counts-at h es (suc n) i most l =
+    let ih = counts-at h es n i (omega arith) in
+    cases (eqb i n)
+    (λ t. rw (eqb-true i n t) (getD-set (unsentCounts h es n) n (unsentOf (suc n) (keptOf h es)) 0 (let c = counts-length h es n in omega arith)))
+    (λ t. let ne = eqb-false i n t in getD-other (unsentCounts h es n) n i (unsentOf (suc n) (keptOf h es)) 0 ne ∙ ih (below i n l ne))
+  where
+    below : (i n : ℕ) → i < suc n → i ≢ n → i < n
+    below i n l ne = cases (ltb i n) (λ t. ltb-true i n t) (λ t. absurd (ne (let b = ltb-false i n t in omega arith)))
+
+-- the counts that the code lends are those of the protocol
+pub counts-side : (h : Head) (es : List EditRecord) (s : ℕ) → 0 < s → s ≤ 8 → getD (unsentCounts h es 8) (indexOf s) 0 ≡ unsentOf s (keptOf h es)
+counts-side h es zero l m = absurd (omega arith)
+counts-side h es (suc s) l m = ap (λ i. getD (unsentCounts h es 8) i 0) (index-suc s (omega arith)) ∙ counts-at h es 8 s (omega arith) (omega arith)
+
+pub left-is : (p : State) → leftNumber (p .head) (p .arrived) (p .confirmed) (unsentCounts (p .head) (p .edits) 8) (count isOpen (keptOf (p .head) (p .edits))) ≡ leftIn (view p)
+left-is p = rw (sides-length p, waiting, unconfirmed)
+  where
+    waiting : pendingIn (p .arrived) (unsentCounts (p .head) (p .edits) 8) (sidesIn (p .head)) ≡ tally (pending (view p .content)) (sidesIn (p .head))
+    waiting = tally-same _ _ (sidesIn (p .head)) (λ s a b. ap₂ (λ x n. not x || ltb 0 n) (ap (λ x. x .arrived) (sym (side-at p s a b))) (counts-side (p .head) (p .edits) s a (let m = sides-most (p .head) in omega arith)))
+
+    unconfirmed : unsetIn (p .confirmed) (sidesIn (p .head)) ≡ tally (λ s. not (sideAt (view p .content) s .confirmed)) (sidesIn (p .head))
+    unconfirmed = tally-same _ _ (sidesIn (p .head)) (λ s a b. ap (λ x. not (x .confirmed)) (sym (side-at p s a b)))
+
+-- ---- show
+
+shown-row : (p : State) (s : ℤ) → oneTo (sidesIn (p .head)) (natural s) ≡ true → sideAt (view p .content) (natural s) .values ≡ row (p .values) (offsetOf (natural s)) (measuresIn (p .head))
+shown-row p s t = let r = range (sidesIn (p .head)) (natural s) (is-yes t) in ap (λ x. x .values) (side-at p (natural s) (r .0) (r .1))
+
+-- the length of a side's values is asked only of a side that there is
+pub show-checks : (p : State) (s : ℤ) (room : ℕ) → first (checks (show s room) (view p)) ≡ first (showChecks (p .head) (natural s) room)
+unfolding checks further
+show-checks p s room =
+    rw (sides-length p)
+    (cases (oneTo (sidesIn (p .head)) (natural s))
+    (λ t. rw (t, ap length (shown-row p s t), row-length (p .values) (offsetOf (natural s)) (measuresIn (p .head))))
+    (λ t. rw t))
+
+pub shown-refused : (p : State) (s : ℤ) (buffer : List ℤ) (k : ℕ) → first (showChecks (p .head) (natural s) (length buffer)) ≡ refused k → shown s (view p) buffer ≡ record { refusal = k; part = []; buffer = buffer }
+unfolding shown step
+shown-refused p s buffer k e = rw (show-checks p s (length buffer) ∙ e)
+
+pub shown-fine : (p : State) (s : ℤ) (buffer : List ℤ) → first (showChecks (p .head) (natural s) (length buffer)) ≡ fine
+    → let n = measuresIn (p .head) in let r = row (p .values) (offsetOf (natural s)) n in shown s (view p) buffer ≡ record { refusal = 0; part = r; buffer = r ++ drop n buffer }
+unfolding shown step gives
+shown-fine p s buffer e =
+    let t = fine-pass (showChecks (p .head) (natural s) (length buffer)) e in
+    rw (show-checks p s (length buffer) ∙ e, shown-row p s (yes-is _ (t .1 .0)), row-length (p .values) (offsetOf (natural s)) (measuresIn (p .head)))
+
+-- one value more in the buffer
+pub fill-next : (vs : List ℤ) (at i : ℕ) (buffer : List ℤ) (x : ℤ) → i < length buffer → x ≡ getD vs (at + i) (pos 0) → set (row vs at i ++ drop i buffer) i x ≡ row vs at (suc i) ++ drop (suc i) buffer
+fill-next vs at i [] x h e = absurd (omega arith)
+fill-next vs at zero (y ∷ ys) x h e = let z : at + 0 ≡ at = omega arith in ap {B = List ℤ} (λ v. v ∷ ys) (e ∙ ap (λ j. getD vs j (pos 0)) z)
+fill-next vs at (suc i) (y ∷ ys) x h e =
+    let z : at + suc i ≡ suc at + i = omega arith in
+    ap {B = List ℤ} (λ zs. getD vs at (pos 0) ∷ zs) (fill-next vs (suc at) i ys x (omega arith) (e ∙ ap (λ j. getD vs j (pos 0)) z))
+
+-- the part that is handed back
+pub front : (i n : ℕ) (f : ℕ → ℤ) (rest : List ℤ) → take n (span i n f ++ rest) ≡ span i n f
+front i zero f rest = refl
+front i (suc n) f rest = ap {B = List ℤ} (λ xs. f i ∷ xs) (front (suc i) n f rest)
