@@ -1,0 +1,24 @@
+use mathlib.Core.Path.{sym, _∙_}
+use borrow.Author.Tests.{ne-eqb}
+use borrow.Author.Needs.{needs}
+use Rattle.part.proofs.split_base.Statement.{statement}
+use Rattle.part.proofs.split_base.Tie as tie
+use Rattle.part.proofs.split_base.Reads as reads
+use Rattle.part.proofs.split_base.Lts as lts
+use Rattle.part.proofs.first_row.Reads as first-row-reads
+use Rattle.state.proofs.mode_number.Reads as mode-number-reads
+
+mode-number-requires : tie.Need-mode-number-requires
+mode-number-requires c κs = search needs
+
+first-row-requires : tie.Need-first-row-requires
+first-row-requires c κs = search needs
+
+returns : tie.Need-returns
+returns c = rw (sym ((c .before .before .mode-number .ensures)) ∙ (c .before .if1 .taken)) ((c .first-row .ensures))
+
+returns-2 : tie.Need-returns-2
+returns-2 c = rw (← ((c .before .mode-number .ensures)), ne-eqb _ 1 ((c .if1 .left)))
+
+pub split-base-spec : {M : Type 1} → statement M
+split-base-spec = tie.close (tie.spec mode-number-requires first-row-requires returns returns-2)

@@ -1,0 +1,178 @@
+// The calls that part a plan into sides and begin to join it: split, join (01, "The calls").
+// A call's read-only check, on what is lent to it, can be used by a caller that owns the state too.
+ghost use mathlib.Core.Path.{_≡_};
+ghost use Prim.Native.Nat.{_+_, _≤_};
+ghost use lib.ListN.{length};
+ghost use Rattle.protocol.specs.Calls.{split-side, join, first};
+ghost use Rattle.state.specs.Meets.{Meets, refusalOf};
+ghost use Rattle.part.specs.Parting.{splitChecks, splitHead, joinHead, copied, fronted, splitBase};
+use state::Answer;
+use state::Answered;
+use state::Head;
+use state::Mode;
+use state::State;
+
+pub fn split_refusal(h: Head, s: u32) -> u32
+    ensures { λ r. ⌜ r ≡ refusalOf (first (splitChecks h s)) ⌝ }
+{
+    let mode = h.mode;
+    let m = state::mode_number(mode);
+    if m == 0 {
+        return 31;
+    }
+    if 2 < m {
+        return 31;
+    }
+    let n = state::side_count(h);
+    if !rules::one_to(n, s) {
+        return 21;
+    }
+    if n < 8 {
+        return 0;
+    }
+    32
+}
+
+// ---- heads
+
+// One side more. The first split of a whole plan drops the kept edits and makes a base of side 1's measures.
+fn split_head(h: Head) -> Head
+    ensures { λ r. ⌜ r ≡ splitHead h ⌝ }
+{
+    let m = h.mode;
+    let mode = Mode::Split;
+    let added = state::side_count(h) as u32;
+    if state::mode_number(m) == 1 {
+        return Head {
+            mode,
+            measures: h.measures,
+            rules: h.rules,
+            added,
+            kept: 0,
+            next: h.next,
+            mark: h.mark,
+            based: h.measures,
+            drafted: h.drafted,
+        };
+    }
+    Head {
+        mode,
+        measures: h.measures,
+        rules: h.rules,
+        added,
+        kept: h.kept,
+        next: h.next,
+        mark: h.mark,
+        based: h.based,
+        drafted: h.drafted,
+    }
+}
+
+fn join_head(h: Head) -> Head
+    ensures { λ r. ⌜ r ≡ joinHead h ⌝ }
+{
+    let mode = Mode::Joining;
+    Head {
+        mode,
+        measures: h.measures,
+        rules: h.rules,
+        added: h.added,
+        kept: h.kept,
+        next: h.next,
+        mark: h.mark,
+        based: h.based,
+        drafted: h.based,
+    }
+}
+
+// ---- rows
+
+// The values of all sides, with 32 from a place of some values copied to a place.
+fn copy_row(into: [i32; 256], values: &[i32], from: usize, to: usize) -> [i32; 256]
+    requires { ⌜ (from + 32 ≤ length (now values)) × (to ≤ 224) ⌝ }
+    ensures { λ r. ⌜ r ≡ copied into (now (values .entry)) from to 32 ⌝ }
+{
+    let mut next = into;
+    let mut i: usize = 0;
+    while i < 32 {
+        let v = values[from + i];
+        next[to + i] = v;
+        i += 1;
+    }
+    next
+}
+
+// The first 32 values.
+fn first_row(values: &[i32; 256]) -> [i32; 32]
+    ensures { λ r. ⌜ r ≡ fronted (now (values .entry)) 32 ⌝ }
+{
+    let mut row = [0i32; 32];
+    let mut i: usize = 0;
+    while i < 32 {
+        let v = values[i];
+        row[i] = v;
+        i += 1;
+    }
+    row
+}
+
+// The first split of a whole plan makes side 1's row the base.
+fn split_base(h: Head, base: [i32; 32], values: &[i32; 256]) -> [i32; 32]
+    ensures { λ r. ⌜ r ≡ splitBase h base (now (values .entry)) ⌝ }
+{
+    let m = h.mode;
+    if state::mode_number(m) == 1 {
+        return first_row(values);
+    }
+    base
+}
+
+// ---- the calls
+
+pub fn split(p: State, s: i32) -> Answered
+    ensures { λ r. ⌜ Meets (split-side s) p r ⌝ }
+{
+    let h = p.head;
+    let from = exact::number(s);
+    let k = split_refusal(h, from);
+    if k != 0 {
+        return state::refuse(p, k);
+    }
+    let n = state::side_count(h);
+    let to = n as u32 + 1;
+    let head = split_head(h);
+    let old = p.base;
+    let base = split_base(h, old, &p.values);
+    let values = p.values;
+    let rows = copy_row(values, &p.values, state::offset(from), state::offset(to));
+    let i = state::index(to);
+    let mut q = p;
+    q.head = head;
+    q.base = base;
+    q.values = rows;
+    q.arrived[i] = false;
+    q.confirmed[i] = false;
+    let answer = Answer::Number(to);
+    Answered { state: q, answer }
+}
+
+pub fn join(p: State) -> Answered
+    ensures { λ r. ⌜ Meets join p r ⌝ }
+{
+    let h = p.head;
+    let mode = h.mode;
+    if state::mode_number(mode) != 2 {
+        return state::refuse(p, 31);
+    }
+    let head = join_head(h);
+    let draft = p.base;
+    let arrived = [false; 8];
+    let confirmed = [false; 8];
+    let mut q = p;
+    q.head = head;
+    q.draft = draft;
+    q.arrived = arrived;
+    q.confirmed = confirmed;
+    let answer = Answer::Done;
+    Answered { state: q, answer }
+}

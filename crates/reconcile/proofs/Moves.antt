@@ -1,0 +1,202 @@
+-- Laws of send, stop, confirm and install: the checks from what is lent, edits sent, the plan after each call. Assumes nothing.
+use Prim.Native.Nat.{ℕ, _+_, _<_, _≤_, min}
+use native.Mathlib.Omega.{arith}
+use mathlib.Core.Bool.{Bool, true, false, not, cond, _||_}
+use mathlib.Core.Path.{_≡_, refl, sym, ap, ap₂, _∙_}
+use mathlib.Core.Logic.{_≢_}
+use mathlib.Core.List.{List, [], _∷_, map}
+use borrow.Author.Tests.{eqb-true, eqb-false, ltb-true, ltb-false}
+use lib.Dec.{T, eqb, ltb, eqb→eq}
+use lib.IntN.{ℤ, pos}
+use lib.ListN.{length, getD, set, length-set}
+use Rattle.protocol.specs.Lists.{bit, none, oneTo, natural, tally, count, modify}
+use Rattle.protocol.specs.Plan.{modeNumber, closing, is, active, isWaiting, Side, sideAt, sidesThat, unsentOf}
+use Rattle.protocol.specs.Calls.{Call, Check, _unless_, _when_, first, refused, checks, further, after, gives, ok, stop, confirm, send, install, hasArrived, hasConfirmed, sent}
+use Rattle.protocol.proofs.Laws.{cases, range, is-yes, tally-same}
+use Rattle.rules.specs.Rows.{span}
+use Rattle.rules.proofs.Spans.{span-same, map-span, getD-set, getD-other}
+use Rattle.state.specs.declared.Answer.the-variants.{Done, Number}
+use Rattle.state.specs.declared.EditRecord.{EditRecord}
+use Rattle.state.specs.declared.Head.{Head}
+use Rattle.state.specs.declared.Mode.the-variants.{Closing}
+use Rattle.state.specs.declared.State.{State}
+use Rattle.state.specs.View.{view, modeOf, sidesIn, sideOf, indexOf, keptIn, keptAt, keptOf, noRecord}
+use Rattle.state.specs.Parts.{unsetIn}
+use Rattle.state.specs.Meets.{refusalOf, Meets}
+use Rattle.state.proofs.Views.{plan-same, sides-most, sides-length, side-at, sides-modify}
+use Rattle.part.specs.Parting.{copied}
+use Rattle.part.proofs.Steps.{Checked, accepts, stored, flag-set, flag-other}
+use Rattle.part.proofs.Copies.{row-copied}
+use Rattle.reconcile.specs.Moves.{sendChecks, turnChecks, stopChecks, confirmChecks, installChecks, inMode, installHead}
+
+-- ---- the checks of each call
+
+abbrev waitingIn : State → ℕ
+waitingIn p = count isWaiting (view p .content .kept)
+
+-- how many sides miss a flag
+unset-sides : (p : State) (flag : Side → Bool) (flags : List Bool) → ((s : ℕ) → flag (sideOf p s) ≡ getD flags (indexOf s) false)
+    → sidesThat (λ s. not (flag (sideAt (view p .content) s))) (view p .content) ≡ unsetIn flags (sidesIn (p .head))
+unset-sides p flag flags h =
+    ap (tally (λ s. not (flag (sideAt (view p .content) s)))) (sides-length p)
+    ∙ tally-same _ _ (sidesIn (p .head)) (λ s a b. ap (λ x. not (flag x)) (side-at p s a b) ∙ ap not (h s))
+
+-- stop and install, from the sides that miss a flag and the edits that wait
+module _ (c : Call) (p : State) (m j : ℕ) (flag : Side → Bool) (flags : List Bool) where
+  turn-checked : ((s : ℕ) → flag (sideOf p s) ≡ getD flags (indexOf s) false)
+      → first (checks c (view p)) ≡ first (turnChecks (p .head) m j (sidesThat (λ s. not (flag (sideAt (view p .content) s))) (view p .content)) (waitingIn p))
+      → {k missing waiting : ℕ} → waiting ≡ waitingIn p → missing ≡ unsetIn flags (sidesIn (p .head)) → k ≡ refusalOf (first (turnChecks (p .head) m j missing waiting))
+      → Checked c p (turnChecks (p .head) m j (unsetIn flags (sidesIn (p .head))) (waitingIn p)) k
+  turn-checked h same w u e = record {
+    same = same ∙ ap (λ n. first (turnChecks (p .head) m j n (waitingIn p))) (unset-sides p flag flags h);
+    found = e ∙ ap₂ (λ x y. refusalOf (first (turnChecks (p .head) m j x y))) u w;
+  }
+
+abbrev pub stopping : State → List Check
+stopping p = stopChecks (p .head) (unsetIn (p .arrived) (sidesIn (p .head))) (waitingIn p)
+
+abbrev pub installing : State → List Check
+installing p = installChecks (p .head) (unsetIn (p .confirmed) (sidesIn (p .head))) (waitingIn p)
+
+module _ (p : State) {k missing waiting : ℕ} (w : waiting ≡ waitingIn p) where
+  pub stop-checked : missing ≡ unsetIn (p .arrived) (sidesIn (p .head)) → k ≡ refusalOf (first (stopChecks (p .head) missing waiting)) → Checked stop p (stopping p) k
+  unfolding checks further
+  stop-checked u e = turn-checked stop p 3 34 (λ x. x .arrived) (p .arrived) (λ s. refl) refl w u e
+
+  pub install-checked : missing ≡ unsetIn (p .confirmed) (sidesIn (p .head)) → k ≡ refusalOf (first (installChecks (p .head) missing waiting)) → Checked install p (installing p) k
+  unfolding checks further
+  install-checked u e = turn-checked install p 4 40 (λ x. x .confirmed) (p .confirmed) (λ s. refl) refl w u e
+
+-- send and confirm, from the side's number, its place and the edits that it has unsent
+pub record Named (p : State) (s : ℤ) (side i n : ℕ) : Type 0 where
+  pub number : side ≡ natural s
+  pub place : i ≡ indexOf side
+  pub unsent : n ≡ unsentOf side (view p .content .kept)
+
+abbrev unsentBy : State → ℤ → ℕ
+unsentBy p s = unsentOf (natural s) (view p .content .kept)
+
+abbrev named : Bool → ℕ → ℕ → List Check → List Check
+named b k s cs = (31 unless b) ∷ (21 unless oneTo k s) ∷ cs
+
+if-true : {A : Type 0} (b : Bool) (x y z : A) → (b ≡ true → x ≡ y) → cond b x z ≡ cond b y z
+if-true true x y z h = h refl
+if-true false x y z h = refl
+
+-- a side is asked for its flag only once its number was found to be a side's
+module _ (c : Call) (p : State) (s : ℤ) (b : Bool) (flag : Side → Bool) (flags : List Bool) (f : Bool → ℕ → List Check) where
+  named-checked : ((x : ℕ) → flag (sideOf p x) ≡ getD flags (indexOf x) false)
+      → first (checks c (view p)) ≡ first (named b (length (view p .content .sides)) (natural s) (f (flag (sideAt (view p .content) (natural s))) (unsentBy p s)))
+      → {side i n k : ℕ} → Named p s side i n → k ≡ refusalOf (first (named b (sidesIn (p .head)) side (f (getD flags i false) n)))
+      → Checked c p (named b (sidesIn (p .head)) (natural s) (f (getD flags (indexOf (natural s)) false) (unsentBy p s))) k
+  named-checked h same {side = side} w e = record {
+    same =
+        same ∙ ap (λ n. first (named b n (natural s) (f (flag (sideAt (view p .content) (natural s))) (unsentBy p s)))) (sides-length p)
+        ∙ ap (λ v. cond b v (refused 31)) (if-true (oneTo (sidesIn (p .head)) (natural s)) _ _ (refused 21)
+        (λ t. let r = range (sidesIn (p .head)) (natural s) (is-yes t) in ap (λ x. first (f x (unsentBy p s))) (ap flag (side-at p (natural s) (r .0) (r .1)) ∙ h (natural s))));
+    found =
+        e ∙ ap₂ (λ x y. refusalOf (first (named b (sidesIn (p .head)) side (f (getD flags x false) y)))) (w .place) (w .unsent)
+        ∙ ap (λ x. refusalOf (first (named b (sidesIn (p .head)) x (f (getD flags (indexOf x) false) (unsentOf x (view p .content .kept)))))) (w .number);
+  }
+
+abbrev pub confirming : State → ℤ → List Check
+confirming p s = confirmChecks (p .head) (natural s) (sideOf p (natural s) .confirmed) (unsentBy p s)
+
+abbrev pub sending : State → ℤ → List Check
+sending p s = sendChecks (p .head) (natural s) (sideOf p (natural s) .arrived) (unsentBy p s)
+
+module _ (p : State) (s : ℤ) {side i n k : ℕ} (w : Named p s side i n) where
+  pub confirm-checked : k ≡ refusalOf (first (confirmChecks (p .head) side (getD (p .confirmed) i false) n)) → Checked (confirm s) p (confirming p s) k
+  unfolding checks further
+  confirm-checked e =
+      named-checked (confirm s) p s (is closing (view p .mode)) (λ x. x .confirmed) (p .confirmed) (λ x u. (39 when x) ∷ (38 unless none u) ∷ []) (λ x. refl) refl w e
+
+  pub send-checked : k ≡ refusalOf (first (sendChecks (p .head) side (getD (p .arrived) i false) n)) → Checked (send s) p (sending p s) k
+  unfolding checks further
+  send-checked e =
+      named-checked (send s) p s (active (view p .mode)) (λ x. x .arrived) (p .arrived) (λ x u. (33 unless (not x || ltb 0 u)) ∷ []) (λ x. refl) refl w e
+
+-- ---- edits sent
+
+pub bit-some : (b : Bool) → bit b ≢ 0 → b ≡ true
+bit-some true h = refl
+bit-some false h = absurd (h refl)
+
+-- the first i edits are sent, the rest are as before
+pub record Sent (s : ℕ) (before next : List EditRecord) (i : ℕ) : Type 0 where
+  pub size : length next ≡ 256
+  pub done : (j : ℕ) → j < i → (n : ℕ) → keptAt n (getD next j noRecord) ≡ sent s (keptAt n (getD before j noRecord))
+  pub rest : (j : ℕ) → i ≤ j → getD next j noRecord ≡ getD before j noRecord
+
+pub sent-begin : (s : ℕ) (es : List EditRecord) → length es ≡ 256 → Sent s es es 0
+sent-begin s es e = record { size = e; done = λ j a. absurd (omega arith); rest = λ j a. refl }
+
+pub sent-next : (s : ℕ) (before next : List EditRecord) (i : ℕ) (r : EditRecord) → i < 256 → Sent s before next i → ((n : ℕ) → keptAt n r ≡ sent s (keptAt n (getD next i noRecord))) → Sent s before (set next i r) (i + 1)
+sent-next s before next i r h w e = record { size = length-set next i r ∙ w .size; done = done; rest = λ j a. getD-other next i j r noRecord (λ z. omega arith) ∙ w .rest j (omega arith) }
+  where
+    done : (j : ℕ) → j < i + 1 → (n : ℕ) → keptAt n (getD (set next i r) j noRecord) ≡ sent s (keptAt n (getD before j noRecord))
+    done j a n =
+        cases (eqb j i)
+        (λ t. let l = w .size in rw (eqb-true j i t) (ap (keptAt n) (getD-set next i r noRecord (omega arith)) ∙ e n ∙ ap (λ x. sent s (keptAt n x)) (w .rest i (omega arith))))
+        (λ t. let ne = eqb-false j i t in ap (keptAt n) (getD-other next i j r noRecord ne) ∙ w .done j (below i j ne a) n)
+      where
+        below : (i j : ℕ) → j ≢ i → j < i + 1 → j < i
+        below i j ne a = cases (ltb j i) (λ t. ltb-true j i t) (λ t. absurd (ne (let u = ltb-false j i t in omega arith)))
+
+pub sent-over : (s : ℕ) (h : Head) (before next : List EditRecord) (i : ℕ) → keptIn h ≤ i → Sent s before next i → keptOf h next ≡ map (sent s) (keptOf h before)
+sent-over s h before next i k w =
+    span-same 0 (keptIn h) _ _ (λ j a b. w .done j (omega arith) _) ∙ sym (map-span (sent s) 0 (keptIn h) _)
+
+-- ---- the plan after each call
+
+abbrev pub stopTo : State → State
+stopTo p = stored p (inMode (p .head) Closing) (p .base) (p .draft) (p .values) (p .arrived) (p .confirmed) (p .edits)
+
+pub stop-accepts : (p : State) {k : ℕ} → Checked stop p (stopping p) k → k ≡ 0 → Meets stop p (record { state = stopTo p; answer = Done })
+unfolding after gives
+stop-accepts p w z = accepts _ w tt z refl (λ t. rw (eqb→eq (modeNumber (modeOf (p .head .mode))) 3 (t .0))) tt
+
+abbrev pub installTo : State → State
+installTo p = stored p (installHead (p .head)) (p .base) (p .draft) (copied (p .values) (p .draft) 0 0 32) (set (p .arrived) 0 false) (set (p .confirmed) 0 false) (p .edits)
+
+pub install-accepts : (p : State) {k : ℕ} → Checked install p (installing p) k → length (p .values) ≡ 256 → length (p .arrived) ≡ 8 → length (p .confirmed) ≡ 8 → k ≡ 0 → Meets install p (record { state = installTo p; answer = Done })
+unfolding after gives
+install-accepts p w v a c z =
+    accepts _ w tt z refl
+    (λ t. rw (eqb→eq (modeNumber (modeOf (p .head .mode))) 4 (t .0))
+    (plan-same refl refl refl refl refl (λ i. record { values = row-copied (p .values) (p .draft) 0 0 (min (p .head .drafted) 32) (omega arith) (omega arith) i; arrived = getD-set (p .arrived) 0 false false (omega arith) i; confirmed = getD-set (p .confirmed) 0 false false (omega arith) i } ∷ []) refl))
+    tt
+
+-- a side's flag set, whatever else a side is made of
+flag-sides : (h : Head) (s : ℕ) (flags : List Bool) (made : ℕ → Bool → Side) (g : Side → Side) → T (oneTo (sidesIn h) s) → length flags ≡ 8 → ((k : ℕ) (b : Bool) → made k true ≡ g (made k b))
+    → span 1 (sidesIn h) (λ k. made k (getD (set flags (indexOf s) true) (indexOf k) false)) ≡ modify s g (span 1 (sidesIn h) (λ k. made k (getD flags (indexOf k) false)))
+flag-sides h s flags made g t l e =
+    let m = sides-most h in
+    let r = range (sidesIn h) s t in
+    sides-modify s (sidesIn h) g _ _ (r .0) (r .1)
+    (ap (made s) (flag-set flags true s l) ∙ e s _)
+    (λ k a b ne. ap (made k) (flag-other flags true s k (r .0) (omega (arith, r .1)) a (omega arith) ne))
+
+at-place : {p : State} {s : ℤ} {side i n : ℕ} → Named p s side i n → i ≡ indexOf (natural s)
+at-place w = w .place ∙ ap indexOf (w .number)
+
+pub confirm-accepts : (p : State) (s : ℤ) {side i n k : ℕ} → Named p s side i n → Checked (confirm s) p (confirming p s) k → length (p .confirmed) ≡ 8 → k ≡ 0
+    → Meets (confirm s) p (record { state = stored p (p .head) (p .base) (p .draft) (p .values) (p .arrived) (set (p .confirmed) i true) (p .edits); answer = Done })
+unfolding after gives
+confirm-accepts p s w e l z =
+    rw (at-place w) (accepts _ e tt z refl
+    (λ t. plan-same refl refl refl refl refl
+    (flag-sides (p .head) (natural s) (p .confirmed) (λ x b. record { values = sideOf p x .values; arrived = sideOf p x .arrived; confirmed = b }) hasConfirmed (t .1 .0) l (λ x b. refl))
+    refl)
+    tt)
+
+pub send-accepts : (p : State) (s : ℤ) {side i n k : ℕ} → Named p s side i n → Checked (send s) p (sending p s) k → (es : List EditRecord) → keptOf (p .head) es ≡ map (sent side) (keptOf (p .head) (p .edits)) → length (p .arrived) ≡ 8 → k ≡ 0
+    → Meets (send s) p (record { state = stored p (p .head) (p .base) (p .draft) (p .values) (set (p .arrived) i true) (p .confirmed) es; answer = Number n })
+unfolding after gives
+send-accepts p s w e es f l z =
+    rw (at-place w) (accepts _ e tt z
+    (ap (λ x. ok (pos x ∷ [])) (w .unsent ∙ ap (λ x. unsentOf x (view p .content .kept)) (w .number)))
+    (λ t. plan-same refl refl refl refl refl
+    (flag-sides (p .head) (natural s) (p .arrived) (λ x b. record { values = sideOf p x .values; arrived = b; confirmed = sideOf p x .confirmed }) hasArrived (t .1 .0) l (λ x b. refl))
+    (f ∙ ap (λ x. map (sent x) (keptOf (p .head) (p .edits))) (w .number)))
+    tt)
