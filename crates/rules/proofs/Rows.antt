@@ -2,20 +2,22 @@
 use Prim.Native.Nat.{ℕ, zero, suc, _+_, _-_, _<_, _≤_, min}
 use native.Mathlib.Omega.{arith}
 use mathlib.Core.Bool.{Bool, true, false, cond, _&&_, _||_}
-use mathlib.Core.Path.{_≡_, refl, sym, ap, _∙_, subst}
+use mathlib.Core.Path.{_≡_, refl, sym, ap, ap₂, _∙_, subst}
 use mathlib.Core.Logic.{_≢_}
 use mathlib.Core.List.{List, [], _∷_}
-use borrow.Author.Tests.{ltb-true, ltb-false}
-use lib.Dec.{T, ltb}
-use lib.IntN.{ℤ, pos}
-use lib.ListN.{length, getD, set, List·getD-eq-default}
-use Rattle.protocol.specs.Lists.{oneTo, nth, modify}
+use borrow.Author.Tests.{ltb-true, ltb-false, eqb-true, eqb-false, eq-eqb, ne-eqb}
+use lib.Dec.{T, eqb, ltb}
+use lib.IntN.{ℤ, pos, _+ℤ_}
+use lib.ListN.{length, getD, set, take, drop, length-take, length-drop, List·getD-eq-default}
+use lib.Seq.{getD-take, getD-drop}
+use lib.Signed.{ltZ}
+use Rattle.protocol.specs.Lists.{oneTo, all, nth, modify}
 use Rattle.protocol.specs.Plan.{Rule, Change, inRange, value, ruleHolds, holds, names, firmlyNamed, applied, made, fits, effective}
 use Rattle.protocol.proofs.Laws.{cases, range, is-yes, in-range, nth-same, nth-other}
 use Rattle.rules.specs.declared.Trial.{Trial}
 use Rattle.rules.specs.declared.Trial.the-variants.{Effective, OutOfRange, Broken}
-use Rattle.rules.specs.Rows.{row, withValue, pairHolds, holdsAt, holdsIn, namesPair, firmAt, firmIn, rulesIn, trialOf}
-use Rattle.rules.proofs.Spans.{span-same, nth-span, nth-past, modify-span, all-span, any-span, getD-set, getD-other}
+use Rattle.rules.specs.Rows.{span, row, withValue, pairHolds, holdsAt, holdsIn, counts, countedHolds, countedAt, namesPair, firmAt, firmIn, rulesIn, trialOf}
+use Rattle.rules.proofs.Spans.{length-span, span-same, nth-span, nth-past, modify-span, all-span, any-span, getD-set, getD-other}
 
 -- ---- values of a row
 
@@ -137,3 +139,67 @@ row-set vs at n (suc j) x a b c d =
 -- a row that ends before, or begins after
 pub row-apart : (vs : List ℤ) (at n i : ℕ) (x : ℤ) → ((k : ℕ) → at ≤ k → k < at + n → k ≢ i) → row (set vs i x) at n ≡ row vs at n
 row-apart vs at n i x h = span-same at n _ _ (λ k p q. getD-other vs i k x (pos 0) (h k p q))
+
+-- ---- a row cut out of its array, where one measure counts as another number
+
+above : (k : ℕ) → k ≢ 0 → 0 < k
+above zero h = absurd (h refl)
+above (suc k) h = omega arith
+
+value-at : (vs : List ℤ) (k : ℕ) → 0 < k → value vs k ≡ getD vs (k - 1) (pos 0)
+unfolding value
+value-at vs zero h = absurd (omega arith)
+value-at vs (suc k) h = let e : k ≡ suc k - 1 = omega arith in ap (λ i. getD vs i (pos 0)) e
+
+-- the part of an array that a row of n values from a place covers
+abbrev pub cut : List ℤ → ℕ → ℕ → List ℤ
+cut vs at n = let s = min at (length vs) in take (s + min n (length vs - s) - s) (drop s vs)
+
+cut-value : (vs : List ℤ) (at n k : ℕ) → 0 < k → value (cut vs at n) k ≡ value (row vs at n) k
+cut-value vs at n k h =
+    let s = min at (length vs) in
+    let c = s + min n (length vs - s) - s in
+    cases (ltb (k - 1) c)
+    (λ e.
+    let i = ltb-true (k - 1) c e in
+    let a : s + (k - 1) ≡ at + (k - 1) = omega arith in
+    value-at (cut vs at n) k h ∙ getD-take c (drop s vs) (k - 1) (pos 0) i ∙ getD-drop s vs (k - 1) (pos 0) ∙ ap (λ j. getD vs j (pos 0)) a ∙ sym (value-row vs at n k h (omega arith)))
+    (λ e.
+    let i = ltb-false (k - 1) c e in
+    let l = length-take c (drop s vs) in
+    value-at (cut vs at n) k h
+    ∙ List·getD-eq-default (cut vs at n) (pos 0) {n = k - 1} (omega arith)
+    ∙ cases (ltb (k - 1) n) (λ f. let j = ltb-true (k - 1) n f in value-beyond vs at n k h (omega arith)) (λ f. value-outside vs at n k h (ltb-false (k - 1) n f)))
+
+counts-is : (vs : List ℤ) (at n m : ℕ) (x : ℤ) (k : ℕ) → counts (cond (oneTo n m) m 0) x (cut vs at n) k ≡ value (withValue m x (row vs at n)) k
+unfolding counts
+counts-is vs at n m x k =
+    let long = length-span at n (λ i. getD vs i (pos 0)) in
+    cases (eqb k 0)
+    (λ z. rw z (value-none (withValue m x (row vs at n)) k (eqb-true k 0 z)))
+    (λ z.
+    let p = above k (eqb-false k 0 z) in
+    rw z (cases (oneTo n m)
+    (λ t. rw t (cases (eqb k m)
+    (λ e. rw (e, eqb-true k m e) (with-same m x (row vs at n) (ap (λ j. oneTo j m) long ∙ t)))
+    (λ e. rw e (cut-value vs at n k p ∙ with-other m x (row vs at n) k (eqb-false k m e)))))
+    (λ t. rw (t, z) (cut-value vs at n k p ∙ with-out m x (row vs at n) (ap (λ j. oneTo j m) long ∙ t) k))))
+
+pub counted-is : (lower : List ℕ) (gap : List ℤ) (upper : List ℕ) (k : ℕ) (vs : List ℤ) (at n m : ℕ) (x : ℤ)
+    → all (countedAt lower gap upper (cond (oneTo n m) m 0) x (cut vs at n)) (span 0 k (λ i. i)) ≡ holdsIn lower gap upper k (withValue m x (row vs at n))
+unfolding holdsIn countedHolds pairHolds
+counted-is lower gap upper k vs at n m x =
+    all-span (countedAt lower gap upper (cond (oneTo n m) m 0) x (cut vs at n)) (holdsAt lower gap upper (withValue m x (row vs at n))) 0 k (λ i. i) (λ i. i)
+    (λ i. ap₂ (λ a b. ltZ (a +ℤ getD gap i (pos 0)) b) (counts-is vs at n m x (getD lower i 0)) (counts-is vs at n m x (getD upper i 0)))
+
+pub counts-none : (known : ℕ) (x : ℤ) (vs : List ℤ) (k : ℕ) → k ≡ 0 → pos 0 ≡ counts known x vs k
+unfolding counts
+counts-none known x vs k e = rw (eq-eqb k 0 e)
+
+pub counts-known : (known : ℕ) (x : ℤ) (vs : List ℤ) (k : ℕ) → k ≢ 0 → k ≡ known → x ≡ counts known x vs k
+unfolding counts
+counts-known known x vs k z e = rw (ne-eqb k 0 z, eq-eqb k known e)
+
+pub counts-other : (known : ℕ) (x : ℤ) (vs : List ℤ) (k : ℕ) → k ≢ 0 → k ≢ known → getD vs (k - 1) (pos 0) ≡ counts known x vs k
+unfolding counts
+counts-other known x vs k z e = rw (ne-eqb k 0 z, ne-eqb k known e) (sym (value-at vs k (above k z)))

@@ -36,6 +36,18 @@ holdsAt lower gap upper vs i = pairHolds vs (getD lower i 0) (getD gap i (pos 0)
 unfoldable pub holdsIn : List ℕ → List ℤ → List ℕ → ℕ → List ℤ → Bool
 holdsIn lower gap upper n vs = all (holdsAt lower gap upper vs) (span 0 n (λ i. i))
 
+-- the value of measure k where measure known, unless it is 0, counts as x; a rule tested so; rule i of three arrays
+unfoldable pub counts : ℕ → ℤ → List ℤ → ℕ → ℤ
+unfolding model.value
+counts known x vs k = cond (eqb k 0) (pos 0) (cond (eqb k known) x (model.value vs k))
+
+unfoldable pub countedHolds : ℕ → ℤ → List ℤ → ℕ → ℤ → ℕ → Bool
+unfolding counts
+countedHolds known x vs a c b = ltZ (counts known x vs a +ℤ c) (counts known x vs b)
+
+abbrev pub countedAt : List ℕ → List ℤ → List ℕ → ℕ → ℤ → List ℤ → ℕ → Bool
+countedAt lower gap upper known x vs i = countedHolds known x vs (getD lower i 0) (getD gap i (pos 0)) (getD upper i 0)
+
 unfoldable pub namesPair : ℕ → ℕ → ℕ → Bool
 namesPair a b m = eqb a m || eqb b m
 

@@ -4,8 +4,7 @@ use lib.IntN.{ℤ, _+ℤ_}
 use lib.Signed.{ltZ}
 use mir.Facts.{toZ-ofZ}
 use Rattle.exact.proofs.Ints.{wide, wide-fits, fits32, fits64}
-use Rattle.protocol.specs.Plan.{value}
-use Rattle.rules.specs.Rows.{row, withValue, pairHolds}
+use Rattle.rules.specs.Rows.{counts, countedHolds}
 use borrow.Author.Needs.{needs}
 use Rattle.rules.proofs.pair_holds.Statement.{statement}
 use Rattle.rules.proofs.pair_holds.Tie as tie
@@ -27,10 +26,10 @@ cast-result : tie.Need-cast-result
 cast-result c = wide-fits (fits32 ((c .counted2 .result)) ((c .counted2 .ok)))
 
 returns : tie.Need-returns
-unfolding pairHolds
+unfolding countedHolds
 returns c =
     let s = (c .before .before .before) in
-    let seen : ℕ → ℤ → ℤ = λ k y. value (withValue (s .args .m) y (row (s .args .values .now) (s .args .at) (s .args .n))) k in
+    let seen : ℕ → ℤ → ℤ = λ k y. counts (s .args .known) y (s .args .row .now) k in
     let x = toZ-ofZ (s .fits .x) in
     let low = toZ-ofZ (fits32 ((c .before .before .counted .result)) ((c .before .before .counted .ok))) ∙ (c .before .before .counted .ensures) ∙ ap (seen (s .args .a)) x in
     let high = wide (fits32 ((c .counted2 .result)) ((c .counted2 .ok))) ∙ (c .counted2 .ensures) ∙ ap (seen (s .args .b)) x in

@@ -1,104 +1,73 @@
-use borrow.Author.Needs.{needs}
-use native.Mathlib.Omega.{arith}
-use Prim.Native.Nat.{ℕ, _≤_, _<_, _-_, _+_, min}
-use mathlib.Core.Path.{_≡_, sym, ap, _∙_}
-use lib.IntN.{pos}
-use lib.ListN.{getD}
-use mir.Syntax.{w32}
-use mir.Val.{toZ, ofZ}
+use Prim.Native.Nat.{ℕ, _+_, _-_, min}
+use mathlib.Core.Path.{_≡_, ap, _∙_}
+use lib.ListN.{length, take, drop}
 use mir.Facts.{toZ-ofZ}
-use borrow.Author.Tests.{not-true, not-false}
-use Rattle.exact.proofs.Ints.{fits32}
 use Rattle.protocol.specs.Lists.{all}
-use Rattle.rules.specs.Rows.{row, withValue, pairHolds, holdsAt, holdsIn}
-use Rattle.rules.proofs.Spans.{Walked, walk-begin, all-next, all-stop, all-over}
+use Rattle.rules.specs.Rows.{span, countedAt}
+use Rattle.rules.proofs.Rows.{counted-is}
+use borrow.Author.Needs.{needs}
 use Rattle.rules.proofs.rules_hold.Statement.{statement}
 use Rattle.rules.proofs.rules_hold.Tie as tie
 use Rattle.rules.proofs.rules_hold.Reads as reads
 use Rattle.rules.proofs.rules_hold.Lts as lts
-use Rattle.rules.proofs.capped.Reads as capped-reads
-use Rattle.rules.proofs.pair_holds.Reads as pair-holds-reads
+use Rattle.rules.proofs.known_of.Reads as known-of-reads
+use Rattle.rules.proofs.lesser.Reads as lesser-reads
+use Rattle.rules.proofs.row_holds.Reads as row-holds-reads
 
-abbrev Inv-loop : tie.InvT-loop
-Inv-loop lower gap upper k values at n m x end i₀ i = Walked (all (holdsAt lower gap upper (withValue m (toZ w32 x) (row values at n)))) (λ j. j) (min k 64) i
+lesser-requires : tie.Need-lesser-requires
+lesser-requires c κs = search needs
 
-abbrev μ-loop : tie.MeasureT-loop
-μ-loop lower gap upper k values at n m x end i₀ i = end - i
+sub-lesser : tie.Need-sub-lesser
+sub-lesser c = search needs
 
--- the rule at hand, tested
-tested : (c : tie.After-pair-holds Inv-loop μ-loop)
-    → let s = c .before .before .before .before .before .before .before in
-    c .pair-holds .result ≡ holdsAt (s .args .lower .now) (s .args .gap .now) (s .args .upper .now) (withValue (s .args .m) (toZ w32 (ofZ w32 (s .args .x))) (row (s .args .values .now) (s .args .at) (s .args .n))) (c .before .before .before .before .before .loop .i)
-tested c =
-    let s = c .before .before .before .before .before .before .before in
-    let i = c .before .before .before .before .before .loop .i in
-    let vs = withValue (s .args .m) (toZ w32 (ofZ w32 (s .args .x))) (row (s .args .values .now) (s .args .at) (s .args .n)) in
-    c .pair-holds .ensures ∙ ap (λ g. pairHolds vs (getD (s .args .lower .now) i 0) g (getD (s .args .upper .now) i 0)) (toZ-ofZ (fits32 (getD (s .args .gap .now) i (pos 0)) (c .before .before .g .given)))
+lesser-requires-2 : tie.Need-lesser-requires-2
+lesser-requires-2 c κs = search needs
 
-capped-requires : tie.Need-capped-requires Inv-loop μ-loop
-capped-requires c κs = search needs
+add-end : tie.Need-add-end
+add-end c = search needs
 
-loop-holds : tie.Need-loop-holds Inv-loop μ-loop
-loop-holds c = walk-begin _ _ _
+mul-row-holds : tie.Need-mul-row-holds
+mul-row-holds c = search needs
 
-mul-a : tie.Need-mul-a Inv-loop μ-loop
-mul-a c = omega arith
+sub-row-holds : tie.Need-sub-row-holds
+sub-row-holds c = search needs
 
-element-copy-out-a : tie.Need-element-copy-out-a Inv-loop μ-loop
-element-copy-out-a c = omega arith
+part-row-holds-start : tie.Need-part-row-holds-start
+part-row-holds-start c = search needs
 
-mul-g : tie.Need-mul-g Inv-loop μ-loop
-mul-g c = omega arith
+part-row-holds-end : tie.Need-part-row-holds-end
+part-row-holds-end c = search needs
 
-element-copy-out-g : tie.Need-element-copy-out-g Inv-loop μ-loop
-element-copy-out-g c = omega arith
+known-of-requires : tie.Need-known-of-requires
+known-of-requires c κs = search needs
 
-mul-b : tie.Need-mul-b Inv-loop μ-loop
-mul-b c = omega arith
+row-holds-requires : tie.Need-row-holds-requires
+row-holds-requires c κs = search needs
 
-element-copy-out-b : tie.Need-element-copy-out-b Inv-loop μ-loop
-element-copy-out-b c = omega arith
-
-pair-holds-requires : tie.Need-pair-holds-requires Inv-loop μ-loop
-pair-holds-requires c κs = search needs
-
-returns : tie.Need-returns Inv-loop μ-loop
-unfolding holdsIn
+returns : tie.Need-returns
 returns c =
-    rw (← toZ-ofZ ((c .before .before .before .before .before .before .before .before .fits .x))) (all-stop _ _ _ _ ((c .before .before .before .before .before .before .loop .inv)) (omega arith) (sym (tested (c .before)) ∙ not-true _ ((c .if1 .taken))))
-
-add-i : tie.Need-add-i Inv-loop μ-loop
-add-i c = omega arith
-
-loop-less : tie.Need-loop-less Inv-loop μ-loop
-loop-less c = omega arith
-
-loop-again : tie.Need-loop-again Inv-loop μ-loop
-loop-again c =
-    all-next _ _ _ _ ((c .before .before .before .before .before .before .loop .inv)) (omega arith) (sym (tested (c .before)) ∙ not-false _ ((c .if1 .left)))
-
-returns-2 : tie.Need-returns-2 Inv-loop μ-loop
-unfolding holdsIn
-returns-2 c =
-    rw (← toZ-ofZ ((c .before .before .before .fits .x))) (all-over _ _ _ _ ((c .before .loop .inv)) (omega arith))
+    let s = (c .before .before .before .before .before) in
+    let a = s .args in
+    let vs = a .values .now in
+    let start = (c .before .before .before .before .lesser .ensures) in
+    let size : (c .before .before .before .lesser2 .result) ≡ min (a .n) (length vs - min (a .at) (length vs)) = (c .before .before .before .lesser2 .ensures) ∙ ap (λ i. min (a .n) (length vs - i)) start in
+    let x = toZ-ofZ (s .fits .x) in
+    (c .row-holds .ensures)
+    ∙ (λ i. all (countedAt (a .lower .now) (a .gap .now) (a .upper .now) ((c .before .known-of .ensures) i) (x i) (take (start i + size i - start i) (drop (start i) vs))) (span 0 (min (a .k) 64) (λ j. j)))
+    ∙ counted-is (a .lower .now) (a .gap .now) (a .upper .now) (min (a .k) 64) vs (a .at) (a .n) (a .m) (a .x)
 
 pub rules-hold-spec : {M : Type 1} → statement M
 rules-hold-spec =
     tie.close
     (tie.spec
-    Inv-loop
-    μ-loop
-    capped-requires
-    loop-holds
-    mul-a
-    element-copy-out-a
-    mul-g
-    element-copy-out-g
-    mul-b
-    element-copy-out-b
-    pair-holds-requires
-    returns
-    add-i
-    loop-less
-    loop-again
-    returns-2)
+    lesser-requires
+    sub-lesser
+    lesser-requires-2
+    add-end
+    mul-row-holds
+    sub-row-holds
+    part-row-holds-start
+    part-row-holds-end
+    known-of-requires
+    row-holds-requires
+    returns)
