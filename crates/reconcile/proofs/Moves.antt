@@ -9,10 +9,10 @@ use borrow.Author.Tests.{eqb-true, eqb-false, ltb-true, ltb-false}
 use lib.Dec.{T, eqb, ltb, eqb→eq}
 use lib.IntN.{ℤ, pos}
 use lib.ListN.{length, getD, set, length-set}
-use Rattle.protocol.specs.Lists.{bit, none, oneTo, natural, tally, count, modify}
+use Rattle.protocol.specs.Lists.{bit, none, oneTo, natural, count, modify}
 use Rattle.protocol.specs.Plan.{modeNumber, closing, is, active, isWaiting, Side, sideAt, sidesThat, unsentOf}
 use Rattle.protocol.specs.Calls.{Call, Check, _unless_, _when_, first, refused, checks, further, after, gives, ok, stop, confirm, send, install, hasArrived, hasConfirmed, sent}
-use Rattle.protocol.proofs.Laws.{cases, range, is-yes, tally-same}
+use Rattle.protocol.proofs.Laws.{cases, range, is-yes}
 use Rattle.rules.specs.Rows.{span}
 use Rattle.rules.proofs.Spans.{span-same, map-span, getD-set, getD-other}
 use Rattle.state.specs.declared.Answer.the-variants.{Done, Number}
@@ -23,7 +23,7 @@ use Rattle.state.specs.declared.State.{State}
 use Rattle.state.specs.View.{view, modeOf, sidesIn, sideOf, indexOf, keptIn, keptAt, keptOf, noRecord}
 use Rattle.state.specs.Parts.{unsetIn}
 use Rattle.state.specs.Meets.{refusalOf, Meets}
-use Rattle.state.proofs.Views.{plan-same, sides-most, sides-length, side-at, sides-modify}
+use Rattle.state.proofs.Views.{plan-same, sides-most, sides-length, side-at, sides-modify, flags-unset}
 use Rattle.part.specs.Parting.{copied}
 use Rattle.part.proofs.Steps.{Checked, accepts, stored, flag-set, flag-other}
 use Rattle.part.proofs.Copies.{row-copied}
@@ -34,13 +34,6 @@ use Rattle.reconcile.specs.Moves.{sendChecks, turnChecks, stopChecks, co
 abbrev waitingIn : State → ℕ
 waitingIn p = count isWaiting (view p .content .kept)
 
--- how many sides miss a flag
-unset-sides : (p : State) (flag : Side → Bool) (flags : List Bool) → ((s : ℕ) → flag (sideOf p s) ≡ getD flags (indexOf s) false)
-    → sidesThat (λ s. not (flag (sideAt (view p .content) s))) (view p .content) ≡ unsetIn flags (sidesIn (p .head))
-unset-sides p flag flags h =
-    ap (tally (λ s. not (flag (sideAt (view p .content) s)))) (sides-length p)
-    ∙ tally-same _ _ (sidesIn (p .head)) (λ s a b. ap (λ x. not (flag x)) (side-at p s a b) ∙ ap not (h s))
-
 -- stop and install, from the sides that miss a flag and the edits that wait
 module _ (c : Call) (p : State) (m j : ℕ) (flag : Side → Bool) (flags : List Bool) where
   turn-checked : ((s : ℕ) → flag (sideOf p s) ≡ getD flags (indexOf s) false)
@@ -48,7 +41,7 @@ module _ (c : Call) (p : State) (m j : ℕ) (flag : Side → Bool) (flags : List
       → {k missing waiting : ℕ} → waiting ≡ waitingIn p → missing ≡ unsetIn flags (sidesIn (p .head)) → k ≡ refusalOf (first (turnChecks (p .head) m j missing waiting))
       → Checked c p (turnChecks (p .head) m j (unsetIn flags (sidesIn (p .head))) (waitingIn p)) k
   turn-checked h same w u e = record {
-    same = same ∙ ap (λ n. first (turnChecks (p .head) m j n (waitingIn p))) (unset-sides p flag flags h);
+    same = same ∙ ap (λ n. first (turnChecks (p .head) m j n (waitingIn p))) (flags-unset p flag flags h);
     found = e ∙ ap₂ (λ x y. refusalOf (first (turnChecks (p .head) m j x y))) u w;
   }
 
