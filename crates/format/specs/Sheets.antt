@@ -1,0 +1,89 @@
+-- The answers to a sheet, and the buffer that they are put into (01, "The sheet program"). Assumes nothing.
+use Prim.Native.Nat.{ℕ, _+_, _*_, _-_}
+use mathlib.Core.Bool.{Bool, true, false, cond}
+use mathlib.Core.List.{List, [], _∷_, _++_}
+use mathlib.Core.Option.{Option, none, some}
+use lib.Dec.{leb, ltb}
+use lib.IntN.{ℤ}
+use lib.ListN.{length, drop}
+use Rattle.protocol.specs.Lists.{bit}
+use Rattle.protocol.specs.Plan.{Plan}
+use Rattle.protocol.specs.Calls.{Call, Answer, no, ok, Stepped, step, start}
+use Rattle.format.specs.Numbers.{digits, written, nought}
+use Rattle.format.specs.Lines.{lineFeed, space, lines, lineCall}
+
+-- ---- an answer's bytes: `ok` and the numbers given, or `ok 0`; `no` and the refusal
+
+abbrev pub spaced : List ℤ → List ℕ
+unfolding written
+spaced [] = []
+spaced (x ∷ xs) = space ∷ written x ++ spaced xs
+
+abbrev pub given : List ℤ → List ℕ
+given [] = space ∷ nought ∷ []
+given (x ∷ xs) = spaced (x ∷ xs)
+
+unfoldable pub text : Answer → List ℕ
+unfolding digits written
+text (no k) = 110 ∷ 111 ∷ space ∷ digits k ++ (lineFeed ∷ [])
+text (ok xs) = 111 ∷ 107 ∷ given xs ++ (lineFeed ∷ [])
+
+-- ---- a line made on a plan
+
+abbrev pub stepOf : Option Call → Plan → Stepped
+unfolding step
+stepOf none p = record { answer = no 51; plan = p }
+stepOf (some c) p = step c p
+
+unfoldable pub turn : List ℕ → Plan → Stepped
+unfolding step lineCall
+turn l p = stepOf (lineCall l) p
+
+-- one answer for each line
+unfoldable pub answers : Plan → List (List ℕ) → List (List ℕ)
+unfolding turn text
+answers p [] = []
+answers p (l ∷ ls) = let r = turn l p in text (r .answer) ∷ answers (r .plan) ls
+
+-- ---- the answers to a sheet
+
+abbrev pub sheetLimit : ℕ
+sheetLimit = 65536
+
+abbrev pub tooLong : List ℕ → Bool
+tooLong sheet = ltb sheetLimit (length sheet)
+
+unfoldable pub replies : List ℕ → List (List ℕ)
+unfolding text answers lines
+replies sheet = cond (tooLong sheet) (text (no 52) ∷ []) (answers start (lines sheet))
+
+-- ---- the buffer
+
+-- what goes in, and whether an answer did not fit
+pub record Fitted : Type 0 where
+  pub bytes : List ℕ
+  pub ended : Bool
+
+abbrev pub behind : List ℕ → Fitted → Fitted
+behind t f = record { bytes = t ++ f .bytes; ended = f .ended }
+
+-- each answer goes in whole; the first that does not fit ends the run
+unfoldable pub fitted : ℕ → List (List ℕ) → Fitted
+fitted room [] = record { bytes = []; ended = false }
+fitted room (t ∷ ts) = cond (leb (length t) room) (behind t (fitted (room - length t) ts)) (record { bytes = []; ended = true })
+
+-- bytes in front of a buffer, the rest as it was
+abbrev pub inFront : List ℕ → List ℕ → List ℕ
+inFront bs buffer = bs ++ drop (length bs) buffer
+
+-- the number handed back, and the buffer
+pub record Screened : Type 0 where
+  pub number : ℕ
+  pub buffer : List ℕ
+
+abbrev pub screened : Fitted → List ℕ → Screened
+screened f buffer = record { number = 2 * length (f .bytes) + bit (f .ended); buffer = inFront (f .bytes) buffer }
+
+unfoldable pub screen : List ℕ → List ℕ → Screened
+unfolding fitted replies
+screen sheet buffer = screened (fitted (length buffer) (replies sheet)) buffer
