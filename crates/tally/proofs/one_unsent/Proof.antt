@@ -1,0 +1,55 @@
+use mathlib.Core.Path.{_≡_, ap, ap₂, sym, _∙_}
+use Prim.Native.Nat.{_+_, min}
+use lib.ListN.{getD, set}
+use Rattle.state.specs.View.{indexOf}
+use borrow.Author.Needs.{needs}
+use Rattle.tally.proofs.one_unsent.Statement.{statement}
+use Rattle.tally.proofs.one_unsent.Tie as tie
+use Rattle.tally.proofs.one_unsent.Reads as reads
+use Rattle.tally.proofs.one_unsent.Lts as lts
+use Rattle.rules.proofs.capped.Reads as capped-reads
+use Rattle.state.proofs.index.Reads as index-reads
+
+index-requires : tie.Need-index-requires
+index-requires c κs = search needs
+
+mul-u : tie.Need-mul-u
+mul-u c = search needs
+
+element-copy-out-u : tie.Need-element-copy-out-u
+element-copy-out-u c = search needs
+
+capped-requires : tie.Need-capped-requires
+capped-requires c κs = search needs
+
+cast-n : tie.Need-cast-n
+cast-n c = search needs
+
+add-n : tie.Need-add-n
+add-n c = search needs
+
+mul-next : tie.Need-mul-next
+mul-next c = search needs
+
+element-write-next : tie.Need-element-write-next
+element-write-next c = search needs
+
+returns : tie.Need-returns
+returns c =
+    let t = (c .before .before .before .args .t1) in
+    let i = (c .before .before .index .ensures .0) in
+    λ k. record { unsent = set (t .unsent) (i k) (((c .capped .ensures) ∙ ap (λ j. min (getD (t .unsent) j 0) 255) i) k + 1); waiting = t .waiting; settled = t .settled }
+
+pub one-unsent-spec : {M : Type 1} → statement M
+one-unsent-spec =
+    tie.close
+    (tie.spec
+    index-requires
+    mul-u
+    element-copy-out-u
+    capped-requires
+    cast-n
+    add-n
+    mul-next
+    element-write-next
+    returns)
