@@ -100,18 +100,23 @@ pub counts-side : (h : Head) (es : List EditRecord) (s : ℕ) → 0 < s → s �
 counts-side h es zero l m = absurd (omega arith)
 counts-side h es (suc s) l m = ap (λ i. getD (unsentCounts h es 8) i 0) (index-suc s (omega arith)) ∙ counts-at h es 8 s (omega arith) (omega arith)
 
-pub left-is : (p : State) → leftNumber (p .head) (p .arrived) (p .confirmed) (unsentCounts (p .head) (p .edits) 8) (count isOpen (keptOf (p .head) (p .edits))) ≡ leftIn (view p)
-left-is p = rw (sides-length p, waiting, unconfirmed)
+-- the number left from counts that are the protocol's, whoever keeps them
+pub left-by : (p : State) (unsent : List ℕ) → ((s : ℕ) → 0 < s → s ≤ 8 → getD unsent (indexOf s) 0 ≡ unsentOf s (keptOf (p .head) (p .edits)))
+    → leftNumber (p .head) (p .arrived) (p .confirmed) unsent (count isOpen (keptOf (p .head) (p .edits))) ≡ leftIn (view p)
+left-by p unsent h = rw (sides-length p, waiting, unconfirmed)
   where
-    waiting : pendingIn (p .arrived) (unsentCounts (p .head) (p .edits) 8) (sidesIn (p .head)) ≡ tally (pending (view p .content)) (sidesIn (p .head))
-    waiting = tally-same _ _ (sidesIn (p .head)) (λ s a b. ap₂ (λ x n. not x || ltb 0 n) (ap (λ x. x .arrived) (sym (side-at p s a b))) (counts-side (p .head) (p .edits) s a (let m = sides-most (p .head) in omega arith)))
+    waiting : pendingIn (p .arrived) unsent (sidesIn (p .head)) ≡ tally (pending (view p .content)) (sidesIn (p .head))
+    waiting = tally-same _ _ (sidesIn (p .head)) (λ s a b. ap₂ (λ x n. not x || ltb 0 n) (ap (λ x. x .arrived) (sym (side-at p s a b))) (h s a (let m = sides-most (p .head) in omega arith)))
 
     unconfirmed : unsetIn (p .confirmed) (sidesIn (p .head)) ≡ tally (λ s. not (sideAt (view p .content) s .confirmed)) (sidesIn (p .head))
     unconfirmed = tally-same _ _ (sidesIn (p .head)) (λ s a b. ap (λ x. not (x .confirmed)) (sym (side-at p s a b)))
 
+pub left-is : (p : State) → leftNumber (p .head) (p .arrived) (p .confirmed) (unsentCounts (p .head) (p .edits) 8) (count isOpen (keptOf (p .head) (p .edits))) ≡ leftIn (view p)
+left-is p = left-by p (unsentCounts (p .head) (p .edits) 8) (counts-side (p .head) (p .edits))
+
 -- ---- show
 
-shown-row : (p : State) (s : ℤ) → oneTo (sidesIn (p .head)) (natural s) ≡ true → sideAt (view p .content) (natural s) .values ≡ row (p .values) (offsetOf (natural s)) (measuresIn (p .head))
+pub shown-row : (p : State) (s : ℤ) → oneTo (sidesIn (p .head)) (natural s) ≡ true → sideAt (view p .content) (natural s) .values ≡ row (p .values) (offsetOf (natural s)) (measuresIn (p .head))
 shown-row p s t = let r = range (sidesIn (p .head)) (natural s) (is-yes t) in ap (λ x. x .values) (side-at p (natural s) (r .0) (r .1))
 
 -- the length of a side's values is asked only of a side that there is

@@ -1,0 +1,74 @@
+-- A reading is the answer of the protocol, and the plan stays. Assumes nothing.
+use Prim.Native.Nat.{ℕ, _-_, _≤_, min}
+use native.Mathlib.Omega.{arith}
+use mathlib.Core.Path.{_≡_, refl, sym, ap, ap₂, _∙_}
+use mathlib.Core.Bool.{true, false}
+use mathlib.Core.List.{List, [], _∷_, _++_}
+use mathlib.Core.Option.{Option, none, some}
+use borrow.Author.Tests.{eqb-true, eqb-false}
+use lib.Dec.{eqb}
+use lib.IntN.{ℤ, pos}
+use lib.ListN.{getD}
+use Rattle.protocol.specs.Lists.{natural, count}
+use Rattle.protocol.specs.Plan.{fateNumber, isOpen, measureLimit}
+use Rattle.protocol.specs.Calls.{Call, show, fate-of, left, Verdict, fine, refused, first, checks, further, after, gives, step, Stepped, ok}
+use Rattle.protocol.proofs.Laws.{cases, yes-is}
+use Rattle.format.specs.Sheets.{stepOf}
+use Rattle.guarantee.proofs.Kept.{settled-count}
+use Rattle.rules.specs.Rows.{row}
+use Rattle.rules.proofs.Spans.{length-span}
+use Rattle.state.specs.declared.State.{State}
+use Rattle.state.specs.View.{view, fateOf, keptAt, endIn, keptIn, noRecord}
+use Rattle.state.specs.Parts.{positionOf, placeOf}
+use Rattle.state.specs.Meets.{answerOf}
+use Rattle.state.proofs.Meeting.{fine-pass}
+use Rattle.query.specs.Reads.{showChecks, leftNumber}
+use Rattle.query.proofs.Readings.{fate-none, fate-some, left-by, show-checks, shown-row}
+use Rattle.tally.specs.declared.Tallies.{Tallies}
+use Rattle.tally.specs.Tallies.{Counted}
+use Rattle.reads.specs.declared.Reading.{Reading}
+use Rattle.reads.specs.Readings.{readCall, alone, fateAnswer, showBy, showReading, readingOf, withRow}
+
+module _ (p : State) (t : Tallies) (h : Counted t (view p .content .kept)) where
+  abbrev pub placeIn : ℤ → ℕ
+  placeIn a = positionOf (endIn (p .head)) (keptIn (p .head)) (natural a)
+
+  abbrev pub readingIn : ℕ → ℤ → Reading
+  readingIn op a = readingOf op a (p .head) (placeIn a) (getD (p .edits) (placeOf (placeIn a)) noRecord) (p .arrived) (p .confirmed) (t .unsent) (t .settled)
+
+  -- what is wanted of a reading
+  Right : Reading → Stepped → Type 0
+  Right r s = (withRow (answerOf (r .answer)) (row (p .values) (r .from) (r .width)) ≡ s .answer) × (s .plan ≡ view p)
+
+  show-right : (a : ℤ) → Right (showReading (p .head) (natural a)) (step (show a measureLimit) (view p))
+  unfolding step gives after Right
+  show-right a = by (first (showChecks (p .head) (natural a) measureLimit)) refl
+    where
+      by : (v : Verdict) → first (showChecks (p .head) (natural a) measureLimit) ≡ v → Right (showBy v (p .head) (natural a)) (step (show a measureLimit) (view p))
+      by fine e =
+          let g = fine-pass (showChecks (p .head) (natural a) measureLimit) e in
+          rw (show-checks p a measureLimit ∙ e) (ap ok (sym (shown-row p a (yes-is _ (g .1 .0)))), refl)
+      by (refused k) e = rw (show-checks p a measureLimit ∙ e) (refl, refl)
+
+  fate-right : (a : ℤ) → Right (alone (fateAnswer (placeIn a) (getD (p .edits) (placeOf (placeIn a)) noRecord))) (step (fate-of a) (view p))
+  unfolding step checks further gives after Right
+  fate-right a = cases (eqb (placeIn a) 0)
+      (λ e. rw e (ap ok (sym (fate-none (endIn (p .head)) (keptIn (p .head)) (natural a) (p .edits) (eqb-true (placeIn a) 0 e))), refl))
+      (λ e. rw e (ap ok (sym (fate-some (endIn (p .head)) (keptIn (p .head)) (natural a) (p .edits) (omega arith) (eqb-false (placeIn a) 0 e))), refl))
+
+  left-right : (a : ℤ) → Right (readingIn 14 a) (step left (view p))
+  unfolding step checks further gives after Right
+  left-right a =
+      let ks = view p .content .kept in
+      let c = settled-count ks in
+      let l = length-span 0 (keptIn (p .head)) (λ i. keptAt (endIn (p .head) - (keptIn (p .head) - i)) (getD (p .edits) i noRecord)) in
+      let s = h .settled in
+      let rest : min (keptIn (p .head) - t .settled) 256 ≡ count isOpen ks = omega arith in
+      (ap (λ n. ok (pos n ∷ [])) (ap (leftNumber (p .head) (p .arrived) (p .confirmed) (t .unsent)) rest ∙ left-by p (t .unsent) (h .unsent)), refl)
+
+  pub reading-right : (op : ℕ) (a : ℤ) → (withRow (answerOf (readingIn op a .answer)) (row (p .values) (readingIn op a .from) (readingIn op a .width)) ≡ stepOf (readCall op a) (view p) .answer) × (stepOf (readCall op a) (view p) .plan ≡ view p)
+  unfolding Right step
+  reading-right op a =
+      cases (eqb op 12) (λ e. rw e (show-right a))
+      (λ e. rw e (cases (eqb op 13) (λ f. rw f (fate-right a))
+      (λ f. rw f (cases (eqb op 14) (λ g. rw g (left-right a)) (λ g. rw g (refl, refl))))))

@@ -1,0 +1,47 @@
+-- What the reading calls answer from what is lent to them. Assumes nothing.
+use Prim.Native.Nat.{ℕ, _-_, min}
+use mathlib.Core.Bool.{Bool, cond}
+use mathlib.Core.List.{List, [], _∷_, _++_}
+use mathlib.Core.Option.{Option, none, some}
+use lib.Dec.{eqb}
+use lib.IntN.{ℤ}
+use Rattle.protocol.specs.Lists.{natural}
+use Rattle.protocol.specs.Plan.{fateNumber, measureLimit}
+use Rattle.protocol.specs.Calls as model
+use Rattle.protocol.specs.Calls.{Call, show, fate-of, left, Verdict, fine, refused, first}
+use Rattle.rules.specs.Rows.{row}
+use Rattle.state.specs.declared.EditRecord.{EditRecord}
+use Rattle.state.specs.declared.Head.{Head}
+use Rattle.state.specs.declared.Answer.{Answer}
+use Rattle.state.specs.declared.Answer.the-variants.{Refused, Done, Number, Pair}
+use Rattle.state.specs.View.{fateOf, keptIn, offsetOf, measuresIn}
+use Rattle.query.specs.Reads.{showChecks, leftNumber}
+use Rattle.reads.specs.declared.Reading.{Reading}
+
+-- the reading calls by their number in the order of 01
+abbrev pub readCall : ℕ → ℤ → Option Call
+readCall op a = cond (eqb op 12) (some (show a measureLimit)) (cond (eqb op 13) (some (fate-of a)) (cond (eqb op 14) (some left) none))
+
+abbrev pub alone : Answer → Reading
+alone a = record { answer = a; from = 0; width = 0 }
+
+abbrev pub fateAnswer : ℕ → EditRecord → Answer
+fateAnswer i e = cond (eqb i 0) (Pair 0 0) (Pair (fateNumber (fateOf (e .fate))) (e .place))
+
+abbrev pub showBy : Verdict → Head → ℕ → Reading
+showBy fine h s = record { answer = Done; from = offsetOf s; width = measuresIn h }
+showBy (refused k) h s = alone (Refused k)
+
+abbrev pub showReading : Head → ℕ → Reading
+showReading h s = showBy (first (showChecks h s measureLimit)) h s
+
+abbrev pub readingOf : ℕ → ℤ → Head → ℕ → EditRecord → List Bool → List Bool → List ℕ → ℕ → Reading
+readingOf op a h i e arrived confirmed unsent settled =
+    cond (eqb op 12) (showReading h (natural a))
+    (cond (eqb op 13) (alone (fateAnswer i e))
+    (cond (eqb op 14) (alone (Number (leftNumber h arrived confirmed unsent (min (keptIn h - settled) 256)))) (alone (Refused 51))))
+
+-- the numbers that a reading gives: the answer's own and the values
+abbrev pub withRow : model.Answer → List ℤ → model.Answer
+withRow (model.no k) vs = model.no k
+withRow (model.ok xs) vs = model.ok (xs ++ vs)

@@ -1,0 +1,100 @@
+// The calls that only read (show, fate, left), and a line that cannot be read, answered from what the owner of a state lends.
+ghost use mathlib.Core.Path.{_≡_};
+ghost use Prim.Native.Nat.{_-_, min};
+ghost use Rattle.state.specs.View.{keptIn};
+ghost use Rattle.reads.specs.Readings.{fateAnswer, showReading, readingOf};
+use state::Answer;
+use state::EditRecord;
+use state::Head;
+
+// An answer, and where the values stand that it gives besides: none but for a show that is accepted.
+pub struct Reading {
+    pub answer: Answer,
+    pub from: usize,
+    pub width: usize,
+}
+
+// The fate and place of the edit found at a place from 1; place 0 is none.
+fn fate_answer(i: usize, e: EditRecord) -> Answer
+    ensures { λ r. ⌜ r ≡ fateAnswer i e ⌝ }
+{
+    if i == 0 {
+        return Answer::Pair(0, 0);
+    }
+    let f = e.fate;
+    Answer::Pair(state::fate_number(f), e.place)
+}
+
+// The side's values, where they stand. A sheet's show has room for 32.
+fn show_reading(h: Head, s: u32) -> Reading
+    ensures { λ r. ⌜ r ≡ showReading h s ⌝ }
+{
+    let k = query::show_refusal(h, s, 32);
+    if k != 0 {
+        let answer = Answer::Refused(k);
+        return Reading {
+            answer,
+            from: 0,
+            width: 0,
+        };
+    }
+    let answer = Answer::Done;
+    Reading {
+        answer,
+        from: state::offset(s),
+        width: rules::capped(h.measures, 32),
+    }
+}
+
+// How many of the kept edits are not settled.
+fn unsettled(h: Head, settled: u32) -> u32
+    ensures { λ r. ⌜ r ≡ keptIn h - settled ⌝ }
+{
+    let k = rules::capped(h.kept, 256) as u32;
+    if settled < k {
+        return k - settled;
+    }
+    0
+}
+
+// The call numbered op, with its number a: from the edit at place i that it names, and the counts of the kept edits.
+pub fn read<'a>(
+    op: u32,
+    a: i32,
+    h: Head,
+    i: usize,
+    e: EditRecord,
+    arrived: &'a [bool; 8],
+    confirmed: &'a [bool; 8],
+    unsent: &'a [u32; 8],
+    settled: u32,
+) -> Reading
+    ensures { λ r. ⌜ r ≡ readingOf op a h i e (now (arrived .entry)) (now (confirmed .entry)) (now (unsent .entry)) settled ⌝ }
+{
+    if op == 12 {
+        return show_reading(h, exact::number(a));
+    }
+    if op == 13 {
+        let answer = fate_answer(i, e);
+        return Reading {
+            answer,
+            from: 0,
+            width: 0,
+        };
+    }
+    if op == 14 {
+        let n = query::left_number(h, arrived, confirmed, unsent, unsettled(h, settled));
+        let answer = Answer::Number(n);
+        return Reading {
+            answer,
+            from: 0,
+            width: 0,
+        };
+    }
+    let answer = Answer::Refused(51);
+    Reading {
+        answer,
+        from: 0,
+        width: 0,
+    }
+}
