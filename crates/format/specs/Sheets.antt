@@ -31,12 +31,10 @@ text (ok xs) = 111 ∷ 107 ∷ given xs ++ (lineFeed ∷ [])
 -- ---- a line made on a plan
 
 abbrev pub stepOf : Option Call → Plan → Stepped
-unfolding step
 stepOf none p = record { answer = no 51; plan = p }
 stepOf (some c) p = step c p
 
 unfoldable pub turn : List ℕ → Plan → Stepped
-unfolding step lineCall
 turn l p = stepOf (lineCall l) p
 
 -- one answer for each line
