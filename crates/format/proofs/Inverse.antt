@@ -1,16 +1,15 @@
 -- Reading and writing are inverse. Assumes nothing.
-use Prim.Native.Nat.{ℕ, zero, suc, _+_, _*_, _-_, _/_, _%_, _^_, _<_, _≤_}
+use Prim.Native.Nat.{ℕ, zero, suc, _+_, _*_, _-_, _/_, _%_, _<_, _≤_}
 use native.Mathlib.Omega.{arith}
 use native.Mathlib.Nat.{pow-le-pow-right}
-use mathlib.Core.Bool.{Bool, true, false, not, cond, _&&_, _||_}
+use mathlib.Core.Bool.{Bool, true, false, not, _&&_, _||_}
 use mathlib.Core.Path.{_≡_, refl, sym, ap, _∙_}
-use mathlib.Core.List.{List, [], _∷_, _++_}
+use mathlib.Core.List.{List, [], _∷_}
 use mathlib.Core.Option.{Option, none, some}
 use borrow.Author.Tests.{eqb-true, eqb-false, ne-eqb, leb-true, le-leb, not-true}
 use lib.Dec.{leb, eqb}
 use lib.IntN.{ℤ, pos, negsuc}
 use lib.ListN.{length}
-use lib.Signed.{leZ}
 use Rattle.protocol.specs.Lists.{all, snoc, neg, within}
 use Rattle.protocol.proofs.Laws.{cases}
 use Rattle.format.specs.Numbers.{minus, nought, isDigit, decimal, isMagnitude, isNought, number, digits, written}
@@ -66,10 +65,10 @@ magnitude b bs e =
     let l = leb-true (suc (length bs)) 9 (h .1) in
     record { leading = eqb-false b nought (not-true (eqb b nought) (k .0)); first = d .0; others = d .1; short = omega arith }
 
-no-magnitude : _≡_ {A = Bool} false true → ⊥
+pub no-magnitude : _≡_ {A = Bool} false true → ⊥
 no-magnitude z = let o : _≡_ {A = ℕ} 0 1 = cc in omega arith
 
-decimal-first : (b : ℕ) (bs : List ℕ) → decimal 0 (b ∷ bs) ≡ decimal (b - nought) bs
+pub decimal-first : (b : ℕ) (bs : List ℕ) → decimal 0 (b ∷ bs) ≡ decimal (b - nought) bs
 decimal-first b bs = let e : 10 * 0 + (b - nought) ≡ b - nought = omega arith in ap (λ n. decimal n bs) e
 
 pub magnitude-below : (w : List ℕ) → isMagnitude w ≡ true → decimal 0 w < 1000000000

@@ -1,0 +1,4 @@
+pub mod Cuts
+pub mod Scans
+pub mod Names
+pub mod Calls

@@ -1,0 +1,121 @@
+-- What the reader answers, in the terms of the sheet. Assumes nothing.
+use Prim.Native.Nat.{ℕ, zero, suc, _+_, _*_}
+use mathlib.Core.Bool.{cond, _&&_}
+use mathlib.Core.List.{List, [], _∷_}
+use mathlib.Core.Option.{Option, none, some}
+use mathlib.Core.Path.{_≡_}
+use lib.Dec.{eqb, leb}
+use lib.IntN.{ℤ, pos}
+use lib.ListN.{length, drop}
+use Rattle.protocol.specs.Lists.{all}
+use Rattle.protocol.specs.Plan.{measureLimit}
+use Rattle.protocol.specs.Calls.{Call, measure, rule, open-plan, split-side, edit, join, send, replay, stop, confirm, install, show, fate-of, left}
+use Rattle.format.specs.Numbers.{isDigit, decimal, isMagnitude, number}
+use Rattle.format.specs.Lines.{space, Shape, given, takes, Form, forms, sameBytes}
+use Rattle.reader.specs.declared.Number.{Number}
+use Rattle.reader.specs.declared.Number.the-variants.{Value, Unreadable}
+use Rattle.reader.specs.declared.Magnitude.{Magnitude}
+use Rattle.reader.specs.declared.Magnitude.the-variants.{Of, Nothing}
+use Rattle.reader.specs.declared.Line.{Line}
+use Rattle.reader.specs.declared.Call as declared
+use Rattle.reader.specs.declared.Name.{Name}
+use Rattle.reader.specs.Cut.{upTo}
+
+-- ---- a number
+
+-- the word that begins at a place of a line
+abbrev pub wordAt : List ℕ → ℕ → List ℕ
+wordAt line at = upTo space (drop at line)
+
+abbrev pub found : Option ℤ → ℕ → Number
+found none next = Unreadable
+found (some x) next = Value x next
+
+unfoldable pub numberAt : List ℕ → ℕ → Number
+unfolding number
+numberAt line at = found (number (wordAt line at)) (at + length (wordAt line at))
+
+unfoldable pub magnitudeAt : List ℕ → ℕ → Magnitude
+magnitudeAt line at = cond (isMagnitude (wordAt line at)) (Of (decimal 0 (wordAt line at)) (at + length (wordAt line at))) Nothing
+
+-- a magnitude whose digits write n so far, k of them behind the first: the digits of bs follow, which begins at a place
+unfoldable pub followed : ℕ → ℕ → ℕ → List ℕ → Magnitude
+followed k n at bs = cond (all isDigit bs && leb (k + length bs) 8) (Of (decimal n bs) (at + length bs)) Nothing
+
+-- ---- a name
+
+abbrev pub next : ℕ → ℕ
+next zero = 0
+next (suc n) = suc (suc n)
+
+-- which form, from 1, has the name; 0: none
+abbrev pub place : List ℕ → List Form → ℕ
+place name [] = 0
+place name (f ∷ fs) = cond (sameBytes name (f .name)) 1 (next (place name fs))
+
+-- which call has the name, from 1; 0: none
+unfoldable pub opOf : List ℕ → ℕ
+opOf name = place name forms
+
+-- what a name's bytes are packed into: 1 and the bytes as digits of base 256
+abbrev pub packedBehind : ℕ → List ℕ → ℕ
+packedBehind n [] = n
+packedBehind n (b ∷ bs) = packedBehind (n * 256 + b) bs
+
+abbrev pub placeOfCode : ℕ → List Form → ℕ
+placeOfCode code [] = 0
+placeOfCode code (f ∷ fs) = cond (eqb code (packedBehind 1 (f .name))) 1 (next (placeOfCode code fs))
+
+abbrev pub shapeNth : ℕ → List Form → Option Shape
+shapeNth n [] = none
+shapeNth zero (f ∷ fs) = none
+shapeNth (suc zero) (f ∷ fs) = some (f .shape)
+shapeNth (suc (suc n)) (f ∷ fs) = shapeNth (suc n) fs
+
+-- how many numbers a shape takes
+abbrev pub arity : Shape → ℕ
+arity (given c) = 0
+arity (takes f) = suc (arity (f (pos 0)))
+
+abbrev pub arityOf : Option Shape → ℕ
+arityOf none = 0
+arityOf (some s) = arity s
+
+-- what the call numbered op takes, and how many numbers that is
+unfoldable pub shapeAt : ℕ → Option Shape
+shapeAt op = shapeNth op forms
+
+unfoldable pub takenBy : ℕ → ℕ
+unfolding shapeAt
+takenBy op = arityOf (shapeAt op)
+
+unfoldable pub callOfCode : ℕ → declared.Call
+unfolding takenBy
+callOfCode code = record { op = placeOfCode code forms; count = takenBy (placeOfCode code forms) }
+
+-- a name that is a call's is read to its end
+pub record Named (line : List ℕ) (r : Name) : Type 0 where
+  pub op : r .op ≡ opOf (wordAt line 0)
+  pub count : r .count ≡ takenBy (r .op)
+  pub end : (r .op ≡ 0 → ⊥) → r .end ≡ length (wordAt line 0)
+
+-- ---- a line
+
+-- the call of a line that was read; none: it cannot be read
+abbrev pub lineIn : Line → Option Call
+lineIn l =
+    cond (eqb (l .op) 1) (some (measure (l .a)))
+    (cond (eqb (l .op) 2) (some (rule (l .a) (l .b) (l .c) (l .d)))
+    (cond (eqb (l .op) 3) (some open-plan)
+    (cond (eqb (l .op) 4) (some (split-side (l .a)))
+    (cond (eqb (l .op) 5) (some (edit (l .a) (l .b) (l .c) (l .d) (l .e) (l .f)))
+    (cond (eqb (l .op) 6) (some join)
+    (cond (eqb (l .op) 7) (some (send (l .a)))
+    (cond (eqb (l .op) 8) (some (replay (l .a)))
+    (cond (eqb (l .op) 9) (some stop)
+    (cond (eqb (l .op) 10) (some (confirm (l .a)))
+    (cond (eqb (l .op) 11) (some install)
+    (cond (eqb (l .op) 12) (some (show (l .a) measureLimit))
+    (cond (eqb (l .op) 13) (some (fate-of (l .a)))
+    (cond (eqb (l .op) 14) (some left)
+    none)))))))))))))

@@ -1,0 +1,257 @@
+// Reads one line of a sheet (01, "The sheet program"): a call's name and its numbers, with one space between.
+ghost use mathlib.Core.Path.{_≡_};
+ghost use Prim.Native.Nat.{_+_, _<_, _≤_, min};
+ghost use mathlib.Core.Option.{none};
+ghost use lib.ListN.{length, drop};
+ghost use Rattle.format.specs.Lines.{lineFeed, lineCall};
+ghost use Rattle.reader.specs.Cut.{upTo};
+ghost use Rattle.reader.specs.Reads.{wordAt, numberAt, magnitudeAt, followed, callOfCode, Named, lineIn};
+
+// A number with the place behind it, or a word that is none.
+pub enum Number {
+    Value(i32, usize),
+    Unreadable,
+}
+
+// A number's digits without its sign, the first not 0.
+enum Magnitude {
+    Of(u32, usize),
+    Nothing,
+}
+
+// Which of the fourteen calls, from 1 (0: none), and how many numbers it takes.
+struct Call {
+    op: u32,
+    count: usize,
+}
+
+// A line's call, and where its name ends.
+struct Name {
+    op: u32,
+    count: usize,
+    end: usize,
+}
+
+// A call and its numbers. op is 0 for a line that cannot be read, else the call's place in document 01's list, from 1.
+// Numbers that the call does not take are 0.
+pub struct Line {
+    pub op: u32,
+    pub a: i32,
+    pub b: i32,
+    pub c: i32,
+    pub d: i32,
+    pub e: i32,
+    pub f: i32,
+}
+
+// The place of the first line feed from a place on, or the sheet's length.
+pub fn line_end(sheet: &[u8], at: usize) -> usize
+    ensures { λ r. ⌜ r ≡ min at (length (now (sheet .entry))) + length (upTo lineFeed (drop at (now (sheet .entry)))) ⌝ }
+{
+    if sheet.len() <= at {
+        return sheet.len();
+    }
+    let mut i = at;
+    while i < sheet.len() {
+        if sheet[i] == 10 {
+            return i;
+        }
+        i += 1;
+    }
+    i
+}
+
+// ---- numbers
+
+// The digits that follow a first one, from a place on: at most 8.
+fn further(line: &[u8], from: usize, first: u32) -> Magnitude
+    requires { ⌜ (first < 10) × (from ≤ length (now line)) ⌝ }
+    ensures { λ r. ⌜ r ≡ followed 0 first from (wordAt (now (line .entry)) from) ⌝ }
+{
+    let mut n = first;
+    let mut i = from;
+    while i < line.len() {
+        let b = line[i];
+        if b == 32 {
+            return Magnitude::Of(n, i);
+        }
+        if b < 48 {
+            return Magnitude::Nothing;
+        }
+        if 57 < b {
+            return Magnitude::Nothing;
+        }
+        if 8 <= i - from {
+            return Magnitude::Nothing;
+        }
+        n = 10 * n + (b - 48) as u32;
+        i += 1;
+    }
+    Magnitude::Of(n, i)
+}
+
+// 1 to 9 digits of which the first is not 0.
+fn read_digits(line: &[u8], at: usize) -> Magnitude
+    ensures { λ r. ⌜ r ≡ magnitudeAt (now (line .entry)) at ⌝ }
+{
+    if line.len() <= at {
+        return Magnitude::Nothing;
+    }
+    let b = line[at];
+    if b < 49 {
+        return Magnitude::Nothing;
+    }
+    if 57 < b {
+        return Magnitude::Nothing;
+    }
+    further(line, at + 1, (b - 48) as u32)
+}
+
+// The number written by the word that begins at a place.
+pub fn read_number(line: &[u8], at: usize) -> Number
+    ensures { λ r. ⌜ r ≡ numberAt (now (line .entry)) at ⌝ }
+{
+    if line.len() <= at {
+        return Number::Unreadable;
+    }
+    let b = line[at];
+    if b == 48 {
+        if line.len() <= at + 1 {
+            return Number::Value(0, at + 1);
+        }
+        if line[at + 1] == 32 {
+            return Number::Value(0, at + 1);
+        }
+        return Number::Unreadable;
+    }
+    if b == 45 {
+        let size = read_digits(line, at + 1);
+        let Magnitude::Of(n, next) = size else {
+            return Number::Unreadable;
+        };
+        return Number::Value(-(n as i32), next);
+    }
+    let size = read_digits(line, at);
+    let Magnitude::Of(n, next) = size else {
+        return Number::Unreadable;
+    };
+    Number::Value(n as i32, next)
+}
+
+// ---- names
+
+// The call of a name, packed: a 1 and the name's bytes are the digits of the code in base 256.
+fn call_of(code: u64) -> Call
+    ensures { λ r. ⌜ r ≡ callOfCode code ⌝ }
+{
+    match code {
+        0x16d656173757265 => Call { op: 1, count: 1 }, // measure
+        0x172756c65 => Call { op: 2, count: 4 }, // rule
+        0x16f70656e => Call { op: 3, count: 0 }, // open
+        0x173706c6974 => Call { op: 4, count: 1 }, // split
+        0x165646974 => Call { op: 5, count: 6 }, // edit
+        0x16a6f696e => Call { op: 6, count: 0 }, // join
+        0x173656e64 => Call { op: 7, count: 1 }, // send
+        0x17265706c6179 => Call { op: 8, count: 1 }, // replay
+        0x173746f70 => Call { op: 9, count: 0 }, // stop
+        0x1636f6e6669726d => Call { op: 10, count: 1 }, // confirm
+        0x1696e7374616c6c => Call { op: 11, count: 0 }, // install
+        0x173686f77 => Call { op: 12, count: 1 }, // show
+        0x166617465 => Call { op: 13, count: 1 }, // fate
+        0x16c656674 => Call { op: 14, count: 0 }, // left
+        _ => Call { op: 0, count: 0 },
+    }
+}
+
+fn read_name(line: &[u8]) -> Name
+    ensures { λ r. ⌜ Named (now (line .entry)) r ⌝ }
+{
+    let mut code: u64 = 1;
+    let mut i: usize = 0;
+    while i < line.len() {
+        let b = line[i];
+        if b == 32 {
+            let call = call_of(code);
+            return Name {
+                op: call.op,
+                count: call.count,
+                end: i,
+            };
+        }
+        if 7 <= i {
+            return Name {
+                op: 0,
+                count: 0,
+                end: i,
+            };
+        }
+        code = code * 256 + b as u64;
+        i += 1;
+    }
+    let call = call_of(code);
+    Name {
+        op: call.op,
+        count: call.count,
+        end: i,
+    }
+}
+
+// ---- lines
+
+fn unreadable() -> Line
+    ensures { λ r. ⌜ lineIn r ≡ none ⌝ }
+{
+    Line {
+        op: 0,
+        a: 0,
+        b: 0,
+        c: 0,
+        d: 0,
+        e: 0,
+        f: 0,
+    }
+}
+
+pub fn read_line(line: &[u8]) -> Line
+    ensures { λ r. ⌜ lineIn r ≡ lineCall (now (line .entry)) ⌝ }
+{
+    let name = read_name(line);
+    let op = name.op;
+    if op == 0 {
+        return unreadable();
+    }
+    let count = name.count;
+    let mut xs = [0i32; 6];
+    let mut k: usize = 0;
+    let mut at = name.end;
+    while at < line.len() {
+        let n = read_number(line, at + 1);
+        let Number::Value(x, next) = n else {
+            return unreadable();
+        };
+        if k == count {
+            return unreadable();
+        }
+        xs[k] = x;
+        k += 1;
+        at = next;
+    }
+    if k != count {
+        return unreadable();
+    }
+    let a = xs[0];
+    let b = xs[1];
+    let c = xs[2];
+    let d = xs[3];
+    let e = xs[4];
+    let f = xs[5];
+    Line {
+        op,
+        a,
+        b,
+        c,
+        d,
+        e,
+        f,
+    }
+}
