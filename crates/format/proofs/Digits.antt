@@ -49,11 +49,14 @@ ten k = omega arith
 length-snoc : {A : Type 0} (xs : List A) (x : A) → length (snoc xs x) ≡ suc (length xs)
 length-snoc xs x = let e = length-append xs (x ∷ []) in omega arith
 
-length-more : (n : ℕ) → 10 ≤ n → length (digits n) ≡ suc (length (digits (n / 10)))
+pub length-more : (n : ℕ) → 10 ≤ n → length (digits n) ≡ suc (length (digits (n / 10)))
 length-more n h = ap length (digits-more n h) ∙ length-snoc (digits (n / 10)) (nought + n % 10)
 
 pub length-one : (n : ℕ) → n < 10 → length (digits n) ≡ 1
 length-one n h = ap length (digits-one n h)
+
+pub length-some : (n : ℕ) → 0 < length (digits n)
+length-some = by-digits (λ n. 0 < length (digits n)) (λ n h. let e = length-one n h in omega arith) (λ n h i. let e = length-more n h in omega arith)
 
 pub length-most : (k n : ℕ) → n < 10 ^ suc k → length (digits n) ≤ suc k
 length-most zero n h = let e = length-one n (omega arith) in omega arith
@@ -67,7 +70,7 @@ length-most (suc k) n h =
 length-least : (k n : ℕ) → 10 ^ suc k ≤ n → suc (suc k) ≤ length (digits n)
 length-least zero n h =
     let e = length-more n h in
-    let p : 1 ≤ length (digits (n / 10)) = by-digits (λ m. 1 ≤ length (digits m)) (λ m l. let f = length-one m l in omega arith) (λ m l i. let f = length-more m l in omega arith) (n / 10) in
+    let p = length-some (n / 10) in
     omega arith
 length-least (suc k) n h =
     let t = ten (suc k) in

@@ -1,0 +1,70 @@
+-- Laws of the parts of a line, and of a line that goes in whole or not at all. Assumes nothing.
+use Prim.Native.Nat.{ℕ, _+_, _<_, _≤_}
+use native.Mathlib.Omega.{arith}
+use native.Mathlib.Nat.{zero-add}
+use mathlib.Core.Path.{_≡_, refl, sym, ap, ap₂, _∙_}
+use mathlib.Core.List.{List, [], _∷_, _++_, append-assoc, append-nil}
+use borrow.Author.Tests.{le-leb, lt-leb}
+use lib.IntN.{ℤ, pos}
+use lib.ListN.{length, length-append}
+use lib.Seq.{sets}
+use Rattle.format.specs.Numbers.{digits}
+use Rattle.format.specs.Lines.{space, lineFeed}
+use Rattle.format.specs.Sheets.{spaced}
+use Rattle.format.proofs.Digits.{digits-one}
+use Rattle.format.proofs.Texts.{written-pos, spaced-none, spaced-more, text-no, text-ok, text-done}
+use Rattle.state.specs.declared.Answer.{Answer}
+use Rattle.state.specs.declared.Answer.the-variants.{Refused, Done, Number, Pair}
+use Rattle.writer.specs.Writes.{lineOf, putIn, putLength, headOf, partsOf}
+use Rattle.writer.proofs.Puts.{sets-append, sets-front}
+
+-- ---- a line is its parts
+
+pub line-refused : (k : ℕ) (row : List ℤ) → lineOf (Refused k) row ≡ partsOf (Refused k) []
+unfolding lineOf
+line-refused k row = text-no k ∙ sym (ap (λ bs. headOf (Refused k) ++ bs ++ (lineFeed ∷ [])) spaced-none ∙ ap (λ bs. bs ++ (lineFeed ∷ [])) (append-nil (headOf (Refused k))))
+
+pub line-nothing : (row : List ℤ) → length row ≡ 0 → lineOf Done row ≡ partsOf (Number 0) row
+unfolding lineOf
+line-nothing [] e = text-done ∙ sym (ap₂ (λ ds bs. (111 ∷ 107 ∷ space ∷ ds) ++ bs ++ (lineFeed ∷ [])) (digits-one 0 (omega arith)) spaced-none)
+line-nothing (x ∷ xs) e = absurd (omega arith)
+
+pub line-done : (row : List ℤ) → (length row ≡ 0 → ⊥) → lineOf Done row ≡ partsOf Done row
+unfolding lineOf
+line-done [] h = absurd (h refl)
+line-done (x ∷ xs) h = text-ok x xs
+
+pub line-number : (n : ℕ) (row : List ℤ) → lineOf (Number n) row ≡ partsOf (Number n) row
+unfolding lineOf
+line-number n row =
+    text-ok (pos n) row ∙ ap (λ bs. (111 ∷ 107 ∷ bs) ++ (lineFeed ∷ [])) (spaced-more (pos n) row ∙ ap (λ ds. space ∷ ds ++ spaced row) (written-pos n))
+
+pub line-pair : (a b : ℕ) (row : List ℤ) → lineOf (Pair a b) row ≡ partsOf (Pair a b) row
+unfolding lineOf
+line-pair a b row =
+    let second = spaced-more (pos b) row ∙ ap (λ ds. space ∷ ds ++ spaced row) (written-pos b) in
+    let both = spaced-more (pos a) (pos b ∷ row) ∙ ap₂ (λ ds bs. space ∷ ds ++ bs) (written-pos a) second in
+    text-ok (pos a) (pos b ∷ row)
+    ∙ ap (λ bs. (111 ∷ 107 ∷ bs) ++ (lineFeed ∷ [])) both
+    ∙ ap (λ bs. (111 ∷ 107 ∷ space ∷ bs) ++ (lineFeed ∷ [])) (sym (append-assoc (digits a) (space ∷ digits b) (spaced row)))
+
+-- ---- whole or not at all
+
+pub not-put : (line area : List ℕ) → length area < length line → (area ≡ putIn line area) × (0 ≡ putLength line area)
+not-put line area h = rw (lt-leb (length line) (length area) h) (refl, refl)
+
+pub is-put : (line area after : List ℕ) (n : ℕ) → length line ≤ length area → after ≡ sets area 0 line → n ≡ length line → (after ≡ putIn line area) × (n ≡ putLength line area)
+is-put line area after n h e f = rw (le-leb (length line) (length area) h) (e ∙ sets-front area line h, f)
+
+-- bytes put behind others
+pub put-behind : (area first second : List ℕ) (at : ℕ) (xs ys : List ℕ) → first ≡ sets area 0 xs → at ≡ length xs → second ≡ sets first at ys → second ≡ sets area 0 (xs ++ ys)
+put-behind area first second at xs ys e f g =
+    let h : at ≡ 0 + length xs = f ∙ sym (zero-add (length xs)) in
+    g ∙ ap₂ (λ l k. sets l k ys) e h ∙ sym (sets-append area 0 xs ys)
+
+pub parts-length : (answer : Answer) (row : List ℤ) → length (partsOf answer row) ≡ length (headOf answer) + length (spaced row) + 1
+parts-length answer row = length-append (headOf answer ++ spaced row) (lineFeed ∷ []) ∙ ap (λ n. n + 1) (length-append (headOf answer) (spaced row))
+
+-- what was put in is the line of an answer whose parts they are
+pub put-line : (answer : Answer) (row : List ℤ) (parts area after : List ℕ) (n : ℕ) → lineOf answer row ≡ parts → (after ≡ putIn parts area) × (n ≡ putLength parts area) → (after ≡ putIn (lineOf answer row) area) × (n ≡ putLength (lineOf answer row) area)
+put-line answer row parts area after n e p = (p .0 ∙ ap (λ t. putIn t area) (sym e), p .1 ∙ ap (λ t. putLength t area) (sym e))

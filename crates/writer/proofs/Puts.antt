@@ -1,0 +1,116 @@
+-- Laws of bytes put at a place, one store after the other. Assumes nothing.
+use Prim.Native.Nat.{ℕ, suc, _+_, _-_, _/_, _%_, _<_, _≤_}
+use native.Mathlib.Omega.{arith}
+use native.Mathlib.Nat.{zero-add}
+use mathlib.Core.Path.{_≡_, refl, sym, ap, ap₂, _∙_}
+use mathlib.Core.List.{List, [], _∷_, _++_}
+use native.Mathlib.Numerals.{add-one}
+use lib.IntN.{ℤ, pos}
+use lib.ListN.{length, getD, set, drop, length-set, length-append, drop-of-length-le}
+use lib.Seq.{sets, sets-eq, set-comm, length-sets, drop-cons}
+use Rattle.protocol.specs.Lists.{snoc}
+use Rattle.format.specs.Numbers.{digits, written}
+use Rattle.format.specs.Sheets.{spaced, inFront}
+use Rattle.format.specs.Lines.{space}
+use Rattle.format.proofs.Texts.{spaced-none, spaced-more}
+use Rattle.format.proofs.Digits.{digits-one, digits-more, length-one, length-more, length-some}
+
+module _ {A : Type 0} where
+  pub sets-append : (l : List A) (i : ℕ) (xs ys : List A) → sets l i (xs ++ ys) ≡ sets (sets l i xs) (i + length xs) ys
+  sets-append l i [] ys = let e : i ≡ i + 0 = omega arith in ap (λ k. sets l k ys) e
+  sets-append l i (x ∷ xs) ys =
+      let e : suc i + length xs ≡ i + suc (length xs) = omega arith in
+      sets-append (set l i x) (suc i) xs ys ∙ ap (λ k. sets (sets (set l i x) (suc i) xs) k ys) e
+
+  -- a store behind them may come first
+  sets-later : (l : List A) (i : ℕ) (xs : List A) (j : ℕ) (b : A) → i + length xs ≤ j → sets (set l j b) i xs ≡ set (sets l i xs) j b
+  sets-later l i [] j b h = refl
+  sets-later l i (x ∷ xs) j b h =
+      ap (λ m. sets m (suc i) xs) (set-comm l j i b x (λ e. omega arith)) ∙ sets-later (set l i x) (suc i) xs j b (omega arith)
+
+  -- the last byte first
+  pub sets-snoc : (l : List A) (i : ℕ) (xs : List A) (x : A) → sets l i (snoc xs x) ≡ sets (set l (i + length xs) x) i xs
+  sets-snoc l i xs x = sets-append l i xs (x ∷ []) ∙ sym (sets-later l i xs (i + length xs) x (omega arith))
+
+pub sets-front : (area line : List ℕ) → length line ≤ length area → sets area 0 line ≡ inFront line area
+sets-front area line h = let e = zero-add (length line) in sets-eq line area 0 (omega arith) ∙ ap (λ k. line ++ drop k area) e
+
+-- ---- digits, from the last to the first
+
+-- what is left to write are the digits of m, up to a place
+abbrev pub Writing : ℕ → ℕ → List ℕ → List ℕ → ℕ → ℕ → Type 0
+Writing n at area₀ area m i =
+    (i ≤ length area) × (length area ≡ length area₀) × (i ≡ at + length (digits m)) × (sets area₀ at (digits n) ≡ sets area at (digits m))
+
+pub writing-begin : (n at : ℕ) (area : List ℕ) (i : ℕ) → i ≡ at + length (digits n) → at + length (digits n) ≤ length area → Writing n at area area n i
+writing-begin n at area i e h = (omega arith, refl, e, refl)
+
+module _ (n at : ℕ) (area₀ area : List ℕ) (m i : ℕ) (r : Writing n at area₀ area m i) where
+  pub writing-above : at < i
+  writing-above = let l = length-some m in omega (arith, r .2)
+
+  pub writing-next : 10 ≤ m → Writing n at area₀ (set area (i - 1) (48 + m % 10)) (m / 10) (i - 1)
+  writing-next h =
+      let l = length-more m h in
+      let ds = digits (m / 10) in
+      let e : i - 1 ≡ at + length ds = omega (arith, r .2) in
+      let s = length-set area (i - 1) (48 + m % 10) in (
+        omega (arith, r .0),
+        s ∙ r .1,
+        e,
+        r .3 ∙ ap (sets area at) (digits-more m h) ∙ sets-snoc area at ds (48 + m % 10) ∙ ap (λ j. sets (set area j (48 + m % 10)) at ds) (sym e),
+      )
+
+  pub writing-last : m < 10 → set area (i - 1) (48 + m) ≡ sets area₀ at (digits n)
+  writing-last h =
+      let e : i - 1 ≡ at = let l = length-one m h in omega (arith, r .2) in
+      sym (r .3 ∙ ap (sets area at) (digits-one m h) ∙ ap (λ j. set area j (48 + m)) (sym e))
+
+-- a byte in front of others
+pub sets-more : (area : List ℕ) (at b : ℕ) (bs : List ℕ) → sets (set area at b) (at + 1) bs ≡ sets area at (b ∷ bs)
+sets-more area at b bs = ap (λ k. sets (set area at b) k bs) (add-one at)
+
+-- what was put in leaves the length
+pub put-length : (after area : List ℕ) (at : ℕ) (bs : List ℕ) → after ≡ sets area at bs → length after ≡ length area
+put-length after area at bs e = ap length e ∙ length-sets area at bs
+
+-- ---- a row, value by value
+
+-- what is left to write are the values from i on
+abbrev pub Rowing : List ℤ → ℕ → List ℕ → List ℕ → ℕ → ℕ → Type 0
+Rowing row at area₀ area end i =
+    (i ≤ length row) × (length area ≡ length area₀) × (end + length (spaced (drop i row)) ≡ at + length (spaced row)) × (sets area₀ at (spaced row) ≡ sets area end (spaced (drop i row)))
+
+module _ (row : List ℤ) (at : ℕ) (area₀ area : List ℕ) (end i : ℕ) (r : Rowing row at area₀ area end i) where
+  module _ (h : i < length row) where
+    value : List ℕ
+    value = written (getD row i (pos 0))
+
+    here : spaced (drop i row) ≡ space ∷ value ++ spaced (drop (i + 1) row)
+    unfolding value
+    here = rw (add-one i, drop-cons row i (pos 0) h) (spaced-more (getD row i (pos 0)) (drop (suc i) row))
+
+    whole : length (spaced (drop i row)) ≡ suc (length (written (getD row i (pos 0))) + length (spaced (drop (i + 1) row)))
+    unfolding value
+    whole = ap length here ∙ ap suc (length-append value (spaced (drop (i + 1) row)))
+
+    pub rowing-room : at + length (spaced row) ≤ length area₀ → end + suc (length (written (getD row i (pos 0)))) ≤ length area
+    rowing-room p = let w = whole in omega (arith, r .1, r .2)
+
+    pub rowing-next : (after : List ℕ) (next : ℕ) → after ≡ sets (set area end 32) (end + 1) (written (getD row i (pos 0))) → next ≡ end + 1 + length (written (getD row i (pos 0))) → Rowing row at area₀ after next (i + 1)
+    unfolding value
+    rowing-next after next e f =
+        let w = whole in
+        let put = e ∙ sets-more area end 32 value in
+        let n : end + suc (length value) ≡ next = omega arith in (
+          omega arith,
+          ap length put ∙ length-sets area end (space ∷ value) ∙ r .1,
+          (let g = r .2 in omega arith),
+          r .3 ∙ ap (sets area end) here ∙ sets-append area end (space ∷ value) (spaced (drop (i + 1) row)) ∙ ap₂ (λ l k. sets l k (spaced (drop (i + 1) row))) (sym put) n,
+        )
+
+  pub rowing-over : length row ≤ i → (area ≡ sets area₀ at (spaced row)) × (end ≡ at + length (spaced row))
+  rowing-over h =
+      let e : spaced (drop i row) ≡ [] = ap spaced (drop-of-length-le row {i = i} h) ∙ spaced-none in
+      let l = ap length e in
+      (sym (r .3 ∙ ap (sets area end) e), (let g = r .2 in omega arith))

@@ -1,0 +1,139 @@
+use mathlib.Core.List.{List, _∷_, [], _++_}
+use Prim.Native.Nat.{ℕ, _+_, _-_, _<_, _≤_}
+use lib.ListN.{length-append, length, length-set}
+use native.Mathlib.Omega.{arith}
+use mathlib.Core.Bool.{true, false}
+use mathlib.Core.Path.{_≡_, refl, sym, ap, _∙_}
+use lib.Dec.{leb}
+use lib.Seq.{sets}
+use borrow.Author.Tests.{not-true, not-false, leb-true, leb-false}
+use Rattle.format.specs.Lines.{lineFeed}
+use Rattle.format.specs.Sheets.{spaced}
+use Rattle.writer.specs.Writes.{headOf, partsOf}
+use Rattle.writer.proofs.Puts.{put-length}
+use Rattle.writer.proofs.Parts.{not-put, is-put, put-behind, parts-length}
+use borrow.Author.Needs.{needs}
+use Rattle.writer.proofs.put_parts.Statement.{statement}
+use Rattle.writer.proofs.put_parts.Tie as tie
+use Rattle.writer.proofs.put_parts.Reads as reads
+use Rattle.writer.proofs.put_parts.Lts as lts
+use Rattle.writer.proofs.head_width.Reads as head-width-reads
+use Rattle.writer.proofs.put_head.Reads as put-head-reads
+use Rattle.writer.proofs.put_row.Reads as put-row-reads
+use Rattle.writer.proofs.row_fits.Reads as row-fits-reads
+
+-- how long the line is, against the room there is
+module _ (c : tie.After-row-fits) where
+  abbrev s : tie.Start
+  s = c .before .before .before .before
+
+  test : c .row-fits .result ≡ leb (length (spaced (s .args .row .now))) (length (s .args .area .now) - length (headOf (s .args .answer)) - 1)
+  test = c .row-fits .ensures ∙ ap (λ w. leb (length (spaced (s .args .row .now))) (length (s .args .area .now) - w - 1)) (c .before .before .head-width .ensures)
+
+  too-long : c .row-fits .result ≡ false → length (s .args .area .now) < length (partsOf (s .args .answer) (s .args .row .now))
+  too-long e =
+      let l = parts-length (s .args .answer) (s .args .row .now) in
+      let m = leb-false (length (spaced (s .args .row .now))) (length (s .args .area .now) - length (headOf (s .args .answer)) - 1) (sym test ∙ e) in
+      omega (arith, l, m)
+
+  fitting : c .row-fits .result ≡ true → length (partsOf (s .args .answer) (s .args .row .now)) ≤ length (s .args .area .now)
+  fitting e =
+      let l = parts-length (s .args .answer) (s .args .row .now) in
+      let m = leb-true (length (spaced (s .args .row .now))) (length (s .args .area .now) - length (headOf (s .args .answer)) - 1) (sym test ∙ e) in
+      let w = c .before .before .head-width .ensures in
+      omega (arith, l, m, w, c .before .if1 .left)
+
+-- the head and the row stand in the area, and the line feed has room behind them
+module _ (c : tie.After-put-head) where
+  abbrev h : tie.Start
+  h = c .before .before .before .before .before .before .before
+
+  fits-whole : length (partsOf (h .args .answer) (h .args .row .now)) ≤ length (h .args .area .now)
+  fits-whole = fitting (c .before .before .before) (not-false _ (c .before .before .if2 .left))
+
+  head-length : length (c .put-head .last .1 .0) ≡ length (h .args .area .now)
+  head-length = put-length (c .put-head .last .1 .0) (h .args .area .now) 0 (headOf (h .args .answer)) (c .put-head .ensures .0)
+
+module _ (c : tie.After-put-row) where
+  abbrev p : tie.After-put-head
+  p = c .before .before .before .before
+
+  abbrev front : List ℕ
+  front = headOf (h p .args .answer) ++ spaced (h p .args .row .now)
+
+  row-put : c .put-row .last .1 .1 .0 ≡ sets (h p .args .area .now) 0 front
+  row-put = put-behind (h p .args .area .now) _ _ (p .put-head .result) (headOf (h p .args .answer)) (spaced (h p .args .row .now)) (p .put-head .ensures .0) (p .put-head .ensures .1) (c .put-row .ensures .0)
+
+  row-end : c .put-row .result ≡ length front
+  row-end = let l = length-append (headOf (h p .args .answer)) (spaced (h p .args .row .now)) in omega (arith, l, p .put-head .ensures .1, c .put-row .ensures .1)
+
+  row-length : length (c .put-row .last .1 .1 .0) ≡ length (h p .args .area .now)
+  row-length = put-length (c .put-row .last .1 .1 .0) (h p .args .area .now) 0 front row-put
+
+  whole-length : length (partsOf (h p .args .answer) (h p .args .row .now)) ≡ c .put-row .result + 1
+  whole-length = length-append front (lineFeed ∷ []) ∙ ap (λ n. n + 1) (sym row-end)
+
+head-width-requires : tie.Need-head-width-requires
+head-width-requires c κs = search needs
+
+returns : tie.Need-returns
+returns c =
+    let s = (c .before .before .before .args) in
+    let l = parts-length (s .answer) (s .row .now) in
+    not-put (partsOf (s .answer) (s .row .now)) (s .area .now) (omega (arith, l, (c .before .head-width .ensures)))
+
+sub-row-fits : tie.Need-sub-row-fits
+sub-row-fits c = search needs
+
+sub-row-fits-2 : tie.Need-sub-row-fits-2
+sub-row-fits-2 c = search needs
+
+row-fits-requires : tie.Need-row-fits-requires
+row-fits-requires c κs = search needs
+
+returns-2 : tie.Need-returns-2
+returns-2 c =
+    not-put (partsOf (c .before .before .before .before .before .args .answer) (c .before .before .before .before .before .args .row .now)) (c .before .before .before .before .before .args .area .now) (too-long (c .before) (not-true _ (c .if2 .taken)))
+
+put-head-requires : tie.Need-put-head-requires
+put-head-requires c κs = search needs
+
+put-row-requires : tie.Need-put-row-requires
+put-row-requires c κs =
+    let q = (c .before .before .before) in
+    let l = parts-length (h q .args .answer) (h q .args .row .now) in
+    omega (arith, l, fits-whole q, head-length q, q .put-head .ensures .1)
+
+slice-write-area : tie.Need-slice-write-area
+slice-write-area c =
+    omega (arith, row-length (c .before .before), whole-length (c .before .before), fits-whole (c .before .before .before .before .before .before))
+
+add-result : tie.Need-add-result
+add-result c =
+    omega (arith, row-length (c .before .before), whole-length (c .before .before), fits-whole (c .before .before .before .before .before .before))
+
+same-length : tie.Need-same-length
+same-length c =
+    length-set (c .before .before .put-row .last .1 .1 .0) (c .before .before .put-row .result) 10 ∙ row-length (c .before .before)
+
+returns-3 : tie.Need-returns-3
+returns-3 c =
+    let q = (c .before .before) in
+    is-put (partsOf (c .before .before .before .before .before .before .before .before .before .before .before .before .before .args .answer) (c .before .before .before .before .before .before .before .before .before .before .before .before .before .args .row .now)) (c .before .before .before .before .before .before .before .before .before .before .before .before .before .args .area .now) _ _ (fits-whole (c .before .before .before .before .before .before)) (put-behind (c .before .before .before .before .before .before .before .before .before .before .before .before .before .args .area .now) _ _ (c .before .before .put-row .result) (front q) (lineFeed ∷ []) (row-put q) (row-end q) refl) (sym (whole-length q))
+
+pub put-parts-spec : {M : Type 1} → statement M
+put-parts-spec =
+    tie.close
+    (tie.spec
+    head-width-requires
+    returns
+    sub-row-fits
+    sub-row-fits-2
+    row-fits-requires
+    returns-2
+    put-head-requires
+    put-row-requires
+    slice-write-area
+    add-result
+    same-length
+    returns-3)

@@ -1,0 +1,45 @@
+-- The line of an answer, and the area that it is put into. Assumes nothing.
+use Prim.Native.Nat.{ℕ}
+use mathlib.Core.Bool.{Bool, cond}
+use mathlib.Core.List.{List, [], _∷_, _++_}
+use lib.Dec.{leb}
+use lib.IntN.{ℤ}
+use lib.ListN.{length}
+use Rattle.protocol.specs.Calls as model
+use Rattle.format.specs.Numbers.{digits}
+use Rattle.format.specs.Lines.{space, lineFeed}
+use Rattle.format.specs.Sheets.{spaced, text, inFront}
+use Rattle.state.specs.declared.Answer.{Answer}
+use Rattle.state.specs.declared.Answer.the-variants.{Refused, Done, Number, Pair}
+use Rattle.state.specs.Meets.{answerOf}
+
+-- the numbers given, and those of a row behind them
+abbrev pub withRow : model.Answer → List ℤ → model.Answer
+withRow (model.no k) row = model.no k
+withRow (model.ok xs) row = model.ok (xs ++ row)
+
+unfoldable pub lineOf : Answer → List ℤ → List ℕ
+unfolding text
+lineOf answer row = text (withRow (answerOf answer) row)
+
+-- a line goes in whole, in front, or not at all
+abbrev pub fits : List ℕ → List ℕ → Bool
+fits line area = leb (length line) (length area)
+
+abbrev pub putIn : List ℕ → List ℕ → List ℕ
+putIn line area = cond (fits line area) (inFront line area) area
+
+abbrev pub putLength : List ℕ → List ℕ → ℕ
+putLength line area = cond (fits line area) (length line) 0
+
+-- ---- the parts of a line
+
+-- `no` or `ok`, and the answer's own numbers
+abbrev pub headOf : Answer → List ℕ
+headOf (Refused k) = 110 ∷ 111 ∷ space ∷ digits k
+headOf Done = 111 ∷ 107 ∷ []
+headOf (Number n) = 111 ∷ 107 ∷ space ∷ digits n
+headOf (Pair a b) = 111 ∷ 107 ∷ space ∷ digits a ++ (space ∷ digits b)
+
+abbrev pub partsOf : Answer → List ℤ → List ℕ
+partsOf answer row = headOf answer ++ spaced row ++ (lineFeed ∷ [])

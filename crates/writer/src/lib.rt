@@ -1,0 +1,218 @@
+// Writes one answer line (01, "The sheet program"): `ok` and the numbers given, `ok 0` where there are none, or `no` and the refusal.
+ghost use mathlib.Core.Path.{_≡_};
+ghost use mathlib.Core.List.{_∷_, _++_};
+ghost use Prim.Native.Nat.{_+_, _≤_};
+ghost use lib.Dec.{leb};
+ghost use lib.IntN.{natAbs};
+ghost use lib.ListN.{length};
+ghost use lib.Seq.{sets};
+ghost use Rattle.format.specs.Numbers.{digits, written};
+ghost use Rattle.format.specs.Lines.{space};
+ghost use Rattle.format.specs.Sheets.{spaced};
+ghost use Rattle.writer.specs.Writes.{lineOf, putIn, putLength, headOf, partsOf};
+use state::Answer;
+
+// ---- a number
+
+// How many digits a number has.
+fn width(n: u32) -> usize
+    ensures { λ r. ⌜ (r ≡ length (digits n)) × (r ≤ 10) ⌝ }
+{
+    if n < 10 {
+        return 1;
+    }
+    if n < 100 {
+        return 2;
+    }
+    if n < 1000 {
+        return 3;
+    }
+    if n < 10000 {
+        return 4;
+    }
+    if n < 100000 {
+        return 5;
+    }
+    if n < 1000000 {
+        return 6;
+    }
+    if n < 10000000 {
+        return 7;
+    }
+    if n < 100000000 {
+        return 8;
+    }
+    if n < 1000000000 {
+        return 9;
+    }
+    10
+}
+
+// The digits of n from a place on, written from the last to the first; the place behind them.
+fn put_digits(n: u32, at: usize, area: &mut [u8]) -> usize
+    requires { ⌜ at + length (digits n) ≤ length (now area) ⌝ }
+    ensures { λ r. ⌜ (now (area .exit) ≡ sets (now (area .entry)) at (digits n)) × (r ≡ at + length (digits n)) ⌝ }
+{
+    let end = at + width(n);
+    let mut m = n;
+    let mut i = end;
+    while 10 <= m {
+        i -= 1;
+        area[i] = (48 + m % 10) as u8;
+        m = m / 10;
+    }
+    area[i - 1] = (48 + m) as u8;
+    end
+}
+
+// A space and the digits of n.
+fn put_spaced(n: u32, at: usize, area: &mut [u8]) -> usize
+    requires { ⌜ at + length (space ∷ digits n) ≤ length (now area) ⌝ }
+    ensures { λ r. ⌜ (now (area .exit) ≡ sets (now (area .entry)) at (space ∷ digits n)) × (r ≡ at + length (space ∷ digits n)) ⌝ }
+{
+    area[at] = 32;
+    put_digits(n, at + 1, area)
+}
+
+// A number without its sign.
+fn size(x: i32) -> u32
+    ensures { λ r. ⌜ r ≡ natAbs x ⌝ }
+{
+    if x < 0 {
+        return (-(x as i64)) as u32;
+    }
+    x as u32
+}
+
+fn signed_width(x: i32) -> usize
+    ensures { λ r. ⌜ (r ≡ length (written x)) × (r ≤ 11) ⌝ }
+{
+    if x < 0 {
+        return 1 + width(size(x));
+    }
+    width(size(x))
+}
+
+fn put_signed(x: i32, at: usize, area: &mut [u8]) -> usize
+    requires { ⌜ at + length (written x) ≤ length (now area) ⌝ }
+    ensures { λ r. ⌜ (now (area .exit) ≡ sets (now (area .entry)) at (written x)) × (r ≡ at + length (written x)) ⌝ }
+{
+    if x < 0 {
+        area[at] = 45;
+        return put_digits(size(x), at + 1, area);
+    }
+    put_digits(size(x), at, area)
+}
+
+// ---- a row
+
+// Whether the values of a row, each behind a space, have room.
+fn row_fits(row: &[i32], room: usize) -> bool
+    ensures { λ t. ⌜ t ≡ leb (length (spaced (now (row .entry)))) room ⌝ }
+{
+    let mut left = room;
+    let mut i: usize = 0;
+    while i < row.len() {
+        let x = row[i];
+        let w = signed_width(x);
+        if left <= w {
+            return false;
+        }
+        left -= w + 1;
+        i += 1;
+    }
+    true
+}
+
+fn put_row<'a>(row: &'a [i32], at: usize, area: &mut [u8]) -> usize
+    requires { ⌜ at + length (spaced (now row)) ≤ length (now area) ⌝ }
+    ensures { λ r. ⌜ (now (area .exit) ≡ sets (now (area .entry)) at (spaced (now (row .entry)))) × (r ≡ at + length (spaced (now (row .entry)))) ⌝ }
+{
+    let mut end = at;
+    let mut i: usize = 0;
+    while i < row.len() {
+        let x = row[i];
+        area[end] = 32;
+        end = put_signed(x, end + 1, area);
+        i += 1;
+    }
+    end
+}
+
+// ---- a line
+
+fn head_width(answer: Answer) -> usize
+    ensures { λ r. ⌜ r ≡ length (headOf answer) ⌝ }
+{
+    match answer {
+        Answer::Refused(k) => 3 + width(k),
+        Answer::Done => 2,
+        Answer::Number(n) => 3 + width(n),
+        Answer::Pair(a, b) => 4 + width(a) + width(b),
+    }
+}
+
+fn put_head(answer: Answer, area: &mut [u8]) -> usize
+    requires { ⌜ length (headOf answer) ≤ length (now area) ⌝ }
+    ensures { λ r. ⌜ (now (area .exit) ≡ sets (now (area .entry)) 0 (headOf answer)) × (r ≡ length (headOf answer)) ⌝ }
+{
+    match answer {
+        Answer::Refused(k) => {
+            area[0] = 110;
+            area[1] = 111;
+            put_spaced(k, 2, area)
+        }
+        Answer::Done => {
+            area[0] = 111;
+            area[1] = 107;
+            2
+        }
+        Answer::Number(n) => {
+            area[0] = 111;
+            area[1] = 107;
+            put_spaced(n, 2, area)
+        }
+        Answer::Pair(a, b) => {
+            area[0] = 111;
+            area[1] = 107;
+            let at = put_spaced(a, 2, area);
+            put_spaced(b, at, area)
+        }
+    }
+}
+
+// The parts of a line are measured before the first byte is written.
+fn put_parts(answer: Answer, row: &[i32], area: &mut [u8]) -> usize
+    ensures { λ r. ⌜ (now (area .exit) ≡ putIn (partsOf answer (now (row .entry))) (now (area .entry))) × (r ≡ putLength (partsOf answer (now (row .entry))) (now (area .entry))) ⌝ }
+{
+    let w = head_width(answer);
+    let room = area.len();
+    if room <= w {
+        return 0;
+    }
+    if !row_fits(row, room - w - 1) {
+        return 0;
+    }
+    let at = put_head(answer, area);
+    let end = put_row(row, at, area);
+    area[end] = 10;
+    end + 1
+}
+
+// The line of an answer whose numbers are its own and those of a row behind them, put into the front of an area that has room for it.
+// Gives the line's length, or 0 where it does not fit and the area is left as it was.
+pub fn put(answer: Answer, row: &[i32], area: &mut [u8]) -> usize
+    ensures { λ r. ⌜ (now (area .exit) ≡ putIn (lineOf answer (now (row .entry))) (now (area .entry))) × (r ≡ putLength (lineOf answer (now (row .entry))) (now (area .entry))) ⌝ }
+{
+    match answer {
+        Answer::Refused(k) => put_parts(Answer::Refused(k), &row[..0], area),
+        Answer::Done => {
+            if row.len() == 0 {
+                return put_parts(Answer::Number(0), row, area);
+            }
+            put_parts(Answer::Done, row, area)
+        }
+        Answer::Number(n) => put_parts(Answer::Number(n), row, area),
+        Answer::Pair(a, b) => put_parts(Answer::Pair(a, b), row, area),
+    }
+}
