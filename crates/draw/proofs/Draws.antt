@@ -1,14 +1,15 @@
 -- Laws of drawing a plan up: the checks from the head alone, and the plan after each call. Assumes nothing.
-use Prim.Native.Nat.{ℕ, suc, _+_, _<_, min}
+use Prim.Native.Nat.{ℕ, zero, suc, _+_, _<_, min}
 use native.Mathlib.Omega.{arith}
 use mathlib.Core.Bool.{true, false}
 use mathlib.Core.Path.{_≡_, refl, sym, ap, ap₂, _∙_}
 use mathlib.Core.Logic.{_≢_}
 use mathlib.Core.List.{List, [], _∷_}
+use borrow.Author.Tests.{ne-eqb}
 use lib.IntN.{ℤ, pos}
 use lib.Dec.{eqb→eq}
 use lib.ListN.{length, getD, set}
-use Rattle.protocol.specs.Lists.{natural, snoc}
+use Rattle.protocol.specs.Lists.{natural, none, snoc}
 use Rattle.protocol.specs.Plan.{Rule, blank, is, modeNumber}
 use Rattle.protocol.specs.Calls.{measure, rule, open-plan, first, checks, further, firstValues, onValues, ruleOf, after, gives}
 use Rattle.protocol.proofs.Laws.{is-yes}
@@ -149,6 +150,11 @@ unfolding gives
 rule-given p a c b f h = let e = rules-length p in let n : min (p .head .rules) 63 + 1 ≡ suc (length (rulesOf p)) = omega arith in ap {B = List ℤ} (λ k. pos k ∷ []) n
 
 -- ---- open
+
+-- a count that is not 0 is not 0 when it is capped
+pub some-left : (n : ℕ) → n ≢ 0 → none (min n 32) ≡ false
+some-left zero h = absurd (h refl)
+some-left (suc n) h = ne-eqb (min (suc n) 32) 0 (λ e. omega arith)
 
 -- no measure is numbered 0
 pub no-value : (x : ℤ) (vs : List ℤ) → withValue 0 x vs ≡ vs

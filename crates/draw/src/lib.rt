@@ -175,11 +175,20 @@ pub fn open_plan(p: State) -> Answered
     if state::mode_number(mode) != 0 {
         return state::refuse(p, 31);
     }
-    let n = rules::capped(h.measures, 32);
-    if n == 0 {
+    if h.measures == 0 {
         return state::refuse(p, 16);
     }
-    if !rules::rules_hold(&p.lower, &p.gap, &p.upper, h.rules, &p.values, 0, n, 0, 0) {
+    if !rules::rules_hold(
+        &p.lower,
+        &p.gap,
+        &p.upper,
+        h.rules,
+        &p.values,
+        0,
+        h.measures,
+        0,
+        0,
+    ) {
         return state::refuse(p, 17);
     }
     let head = with_open(h);

@@ -133,8 +133,17 @@ fn change_ruling<'a>(
     if 999999 < h.next {
         return Ruling::Refused(30);
     }
-    let n = rules::capped(h.measures, 32);
-    let tried = rules::try_change(lower, gap, upper, h.rules, values, at, n, m, change);
+    let tried = rules::try_change(
+        lower,
+        gap,
+        upper,
+        h.rules,
+        values,
+        at,
+        h.measures,
+        m,
+        change,
+    );
     match tried {
         Trial::Effective(x) => Ruling::Granted(change, x),
         Trial::OutOfRange => Ruling::Refused(28),

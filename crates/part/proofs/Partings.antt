@@ -13,7 +13,7 @@ use Rattle.protocol.specs.Lists.{oneTo, natural, snoc}
 use Rattle.protocol.specs.Plan.{Plan, modeNumber, whole, split, is, Side, sideAt}
 use Rattle.protocol.specs.Calls.{first, checks, further, after, gives, ok, join, split-side, reset, freshSide, firstValues, withBase, withKept, withSides}
 use Rattle.protocol.proofs.Laws.{range, which}
-use Rattle.rules.specs.Rows.{span, row}
+use Rattle.rules.specs.Rows.{span, row, copiedIn}
 use Rattle.rules.proofs.Spans.{span-same, span-snoc, map-span}
 use Rattle.state.specs.declared.Answer.the-variants.{Done, Number}
 use Rattle.state.specs.declared.Head.{Head}
@@ -23,9 +23,9 @@ use Rattle.state.specs.Parts.{refusedAs}
 use Rattle.state.specs.Meets.{refusalOf, Meets}
 use Rattle.state.proofs.Views.{plan-same, sides-length, side-at, first-row}
 use Rattle.state.proofs.Meeting.{refused-meets, accepted-meets}
-use Rattle.part.specs.Parting.{splitChecks, splitHead, joinHead, copied, fronted, splitBase}
+use Rattle.part.specs.Parting.{splitChecks, splitHead, joinHead, splitBase}
 use Rattle.part.proofs.Steps.{Checked, accepts, stored, flag-set, flag-other}
-use Rattle.part.proofs.Copies.{row-copied, row-beside}
+use Rattle.rules.proofs.Copies.{row-copied, row-beside}
 
 -- ---- join
 
@@ -68,7 +68,7 @@ split-checked p s w e = record { same = rw (sides-length p); found = e ∙ ap (�
 
 abbrev pub splitTo : State → ℕ → ℕ → ℕ → State
 splitTo p from to i =
-    stored p (splitHead (p .head)) (splitBase (p .head) (p .base) (p .values)) (p .draft) (copied (p .values) (p .values) from to 32) (set (p .arrived) i false) (set (p .confirmed) i false) (p .edits)
+    stored p (splitHead (p .head)) (splitBase (p .head) (p .base) (p .values)) (p .draft) (copiedIn (p .values) (p .values) from to 32) (set (p .arrived) i false) (set (p .confirmed) i false) (p .edits)
 
 split-sides : (p : State) (s : ℕ) → T (oneTo (sidesIn (p .head)) s) → sidesIn (p .head) < 8 → length (p .values) ≡ 256 → length (p .arrived) ≡ 8 → length (p .confirmed) ≡ 8
     → let n = suc (sidesIn (p .head)) in
@@ -87,40 +87,39 @@ split-sides p s t h v a c =
       confirmed = flag-other (p .confirmed) false (suc k) j (omega arith) (omega arith) (omega arith) (omega arith) (λ z. omega arith) i;
     }))
     (ap (sideOf q) y ∙ (λ i. record {
-      values = (row-copied (p .values) (p .values) (offsetOf s) (offsetOf (suc k)) (measuresIn (p .head)) (omega arith) (omega arith) ∙ sym (ap (λ z. z .values) (side-at p s (r .0) (r .1)))) i;
+      values = (row-copied (p .values) (p .values) (offsetOf s) (offsetOf (suc k)) (measuresIn (p .head)) (omega arith) (omega arith) (omega (arith, r .1)) ∙ sym (ap (λ z. z .values) (side-at p s (r .0) (r .1)))) i;
       arrived = flag-set (p .arrived) false (suc k) a i;
       confirmed = flag-set (p .confirmed) false (suc k) c i;
     }))
 
 -- the first split of a whole plan, b, or another
-split-plan : (p : State) (b : Bool) (x : Side) (xs : List Side) → xs ≡ snoc (view p .content .sides) x → (T (not b) → endIn (p .head) ≡ p .head .next)
+split-plan : (p : State) (b : Bool) (x : Side) (xs : List Side) → xs ≡ snoc (view p .content .sides) x → (T (not b) → endIn (p .head) ≡ p .head .next) → length (p .base) ≡ 32 → length (p .values) ≡ 256
     → _≡_ {A = Plan}
     (record {
       mode = split;
       content = record {
         rules = rulesOf p;
         next = p .head .next;
-        base = row (cond b (fronted (p .values) 32) (p .base)) 0 (min (cond b (p .head .measures) (p .head .based)) 32);
+        base = row (cond b (copiedIn (p .base) (p .values) 0 0 32) (p .base)) 0 (min (cond b (p .head .measures) (p .head .based)) 32);
         draft = view p .content .draft;
         sides = xs;
         kept = logOf (p .head .next) (min (cond b 0 (p .head .kept)) 256) (p .edits);
       };
     })
     (record { mode = split; content = withSides (λ us. snoc us x) (cond b (withBase (firstValues (view p .content)) (withKept (λ ks. []) (view p .content))) (view p .content)) })
-unfolding fronted
-split-plan p true x xs e h =
-    plan-same refl refl refl (row-copied (replicate 32 (pos 0)) (p .values) 0 0 (measuresIn (p .head)) (omega arith) (omega arith) ∙ sym (first-row p)) refl e refl
-split-plan p false x xs e h = plan-same refl refl refl refl refl e (ap (λ n. logOf n (keptIn (p .head)) (p .edits)) (sym (h tt)))
+split-plan p true x xs e h u v =
+    plan-same refl refl refl (row-copied (p .base) (p .values) 0 0 (measuresIn (p .head)) (omega arith) (omega arith) (omega arith) ∙ sym (first-row p)) refl e refl
+split-plan p false x xs e h u v = plan-same refl refl refl refl refl e (ap (λ n. logOf n (keptIn (p .head)) (p .edits)) (sym (h tt)))
 
 -- the numbers of a plan that is split but not whole end below the next
 split-end : (h : Head) → T (is whole (modeOf (h .mode)) || is split (modeOf (h .mode))) → T (not (is whole (modeOf (h .mode)))) → endIn h ≡ h .next
 split-end h t f = which (is whole (modeOf (h .mode))) (is split (modeOf (h .mode))) t (λ y. absurd (T-not (is whole (modeOf (h .mode))) f y)) (λ y. rw (eqb→eq (modeNumber (modeOf (h .mode))) 2 y))
 
 pub split-accepts : (p : State) (s : ℤ) {side k n from to i : ℕ} → side ≡ natural s → Checked (split-side s) p (splitChecks (p .head) (natural s)) k → n ≡ suc (sidesIn (p .head)) → from ≡ offsetOf side → to ≡ offsetOf n → i ≡ indexOf n
-    → length (p .values) ≡ 256 → length (p .arrived) ≡ 8 → length (p .confirmed) ≡ 8 → k ≡ 0 → Meets (split-side s) p (record { state = splitTo p from to i; answer = Number n })
+    → length (p .base) ≡ 32 → length (p .values) ≡ 256 → length (p .arrived) ≡ 8 → length (p .confirmed) ≡ 8 → k ≡ 0 → Meets (split-side s) p (record { state = splitTo p from to i; answer = Number n })
 unfolding after gives
-split-accepts p s w e a b c d v f g z =
+split-accepts p s w e a b c d u v f g z =
     rw (b, c, d, a, w) (accepts _ e tt z
     (ap (λ x. ok (pos (suc x) ∷ [])) (sym (sides-length p)))
-    (λ t. split-plan p (is whole (modeOf (p .head .mode))) _ _ (split-sides p (natural s) (t .1 .0) (ltb→lt (sidesIn (p .head)) 8 (t .1 .1 .0)) v f g) (split-end (p .head) (t .0)))
+    (λ t. split-plan p (is whole (modeOf (p .head .mode))) _ _ (split-sides p (natural s) (t .1 .0) (ltb→lt (sidesIn (p .head)) 8 (t .1 .1 .0)) v f g) (split-end (p .head) (t .0)) u v)
     tt)

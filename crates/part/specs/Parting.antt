@@ -1,13 +1,13 @@
--- The checks of split, the heads that split and join leave, and rows copied. Assumes nothing.
-use Prim.Native.Nat.{ℕ, zero, suc, _+_}
+-- The checks of split, the heads that split and join leave, and the base that split leaves. Assumes nothing.
+use Prim.Native.Nat.{ℕ}
 use mathlib.Core.Bool.{cond, _||_}
 use mathlib.Core.List.{List, [], _∷_}
 use lib.Dec.{ltb}
-use lib.IntN.{ℤ, pos}
-use lib.ListN.{getD, set, replicate}
+use lib.IntN.{ℤ}
 use Rattle.protocol.specs.Lists.{oneTo}
 use Rattle.protocol.specs.Plan.{whole, split, is, sideLimit}
 use Rattle.protocol.specs.Calls.{Check, _unless_}
+use Rattle.rules.specs.Rows.{copiedIn}
 use Rattle.state.specs.declared.Head.{Head}
 use Rattle.state.specs.declared.Mode.the-variants.{Split, Joining}
 use Rattle.state.specs.View.{modeOf, sidesIn}
@@ -35,17 +35,6 @@ splitHead h =
 abbrev pub joinHead : Head → Head
 joinHead h = record { mode = Joining; measures = h .measures; rules = h .rules; added = h .added; kept = h .kept; next = h .next; mark = h .mark; based = h .based; drafted = h .based }
 
--- ---- rows
-
--- n values of one array copied into another, from a place to a place
-unfoldable pub copied : List ℤ → List ℤ → ℕ → ℕ → ℕ → List ℤ
-copied into values from to zero = into
-copied into values from to (suc n) = set (copied into values from to n) (to + n) (getD values (from + n) (pos 0))
-
--- the first n values of an array, in an array of 32
-unfoldable pub fronted : List ℤ → ℕ → List ℤ
-unfolding copied
-fronted values n = copied (replicate 32 (pos 0)) values 0 0 n
-
+-- the base: the first split of a whole plan makes side 1's row the base
 abbrev pub splitBase : Head → List ℤ → List ℤ → List ℤ
-splitBase h base values = cond (is whole (modeOf (h .mode))) (fronted values 32) base
+splitBase h base values = cond (is whole (modeOf (h .mode))) (copiedIn base values 0 0 32) base

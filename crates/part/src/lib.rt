@@ -1,11 +1,9 @@
 // The calls that part a plan into sides and begin to join it: split, join (01, "The calls").
 // A call's read-only check, on what is lent to it, can be used by a caller that owns the state too.
 ghost use mathlib.Core.Path.{_≡_};
-ghost use Prim.Native.Nat.{_+_, _≤_};
-ghost use lib.ListN.{length};
 ghost use Rattle.protocol.specs.Calls.{split-side, join, first};
 ghost use Rattle.state.specs.Meets.{Meets, refusalOf};
-ghost use Rattle.part.specs.Parting.{splitChecks, splitHead, joinHead, copied, fronted, splitBase};
+ghost use Rattle.part.specs.Parting.{splitChecks, splitHead, joinHead, splitBase};
 use state::Answer;
 use state::Answered;
 use state::Head;
@@ -85,44 +83,15 @@ fn join_head(h: Head) -> Head
     }
 }
 
-// ---- rows
-
-// The values of all sides, with 32 from a place of some values copied to a place.
-fn copy_row(into: [i32; 256], values: &[i32], from: usize, to: usize) -> [i32; 256]
-    requires { ⌜ (from + 32 ≤ length (now values)) × (to ≤ 224) ⌝ }
-    ensures { λ r. ⌜ r ≡ copied into (now (values .entry)) from to 32 ⌝ }
-{
-    let mut next = into;
-    let mut i: usize = 0;
-    while i < 32 {
-        let v = values[from + i];
-        next[to + i] = v;
-        i += 1;
-    }
-    next
-}
-
-// The first 32 values.
-fn first_row(values: &[i32; 256]) -> [i32; 32]
-    ensures { λ r. ⌜ r ≡ fronted (now (values .entry)) 32 ⌝ }
-{
-    let mut row = [0i32; 32];
-    let mut i: usize = 0;
-    while i < 32 {
-        let v = values[i];
-        row[i] = v;
-        i += 1;
-    }
-    row
-}
-
 // The first split of a whole plan makes side 1's row the base.
 fn split_base(h: Head, base: [i32; 32], values: &[i32; 256]) -> [i32; 32]
     ensures { λ r. ⌜ r ≡ splitBase h base (now (values .entry)) ⌝ }
 {
     let m = h.mode;
     if state::mode_number(m) == 1 {
-        return first_row(values);
+        let mut row = base;
+        rules::copy(&mut row, values, 0, 0, 32);
+        return row;
     }
     base
 }
@@ -143,8 +112,14 @@ pub fn split(p: State, s: i32) -> Answered
     let head = split_head(h);
     let old = p.base;
     let base = split_base(h, old, &p.values);
-    let values = p.values;
-    let rows = copy_row(values, &p.values, state::offset(from), state::offset(to));
+    let mut rows = p.values;
+    rules::copy(
+        &mut rows,
+        &p.values,
+        state::offset(from),
+        state::offset(to),
+        32,
+    );
     let i = state::index(to);
     let mut q = p;
     q.head = head;

@@ -13,7 +13,8 @@ use Rattle.protocol.specs.Lists.{bit, none, oneTo, natural, count, modify}
 use Rattle.protocol.specs.Plan.{modeNumber, closing, is, active, isWaiting, Side, sideAt, sidesThat, unsentOf}
 use Rattle.protocol.specs.Calls.{Call, Check, _unless_, _when_, first, refused, checks, further, after, gives, ok, stop, confirm, send, install, hasArrived, hasConfirmed, sent}
 use Rattle.protocol.proofs.Laws.{cases, range, is-yes}
-use Rattle.rules.specs.Rows.{span}
+use Rattle.rules.specs.Rows.{span, copiedIn}
+use Rattle.rules.proofs.Copies.{row-copied}
 use Rattle.rules.proofs.Spans.{span-same, map-span, getD-set, getD-other}
 use Rattle.state.specs.declared.Answer.the-variants.{Done, Number}
 use Rattle.state.specs.declared.EditRecord.{EditRecord}
@@ -24,9 +25,7 @@ use Rattle.state.specs.View.{view, modeOf, sidesIn, sideOf, indexOf, keptIn, ke
 use Rattle.state.specs.Parts.{unsetIn}
 use Rattle.state.specs.Meets.{refusalOf, Meets}
 use Rattle.state.proofs.Views.{plan-same, sides-most, sides-length, side-at, sides-modify, flags-unset}
-use Rattle.part.specs.Parting.{copied}
 use Rattle.part.proofs.Steps.{Checked, accepts, stored, flag-set, flag-other}
-use Rattle.part.proofs.Copies.{row-copied}
 use Rattle.reconcile.specs.Moves.{sendChecks, turnChecks, stopChecks, confirmChecks, installChecks, inMode, installHead}
 
 -- ---- the checks of each call
@@ -150,14 +149,14 @@ unfolding after gives
 stop-accepts p w z = accepts _ w tt z refl (λ t. rw (eqb→eq (modeNumber (modeOf (p .head .mode))) 3 (t .0))) tt
 
 abbrev pub installTo : State → State
-installTo p = stored p (installHead (p .head)) (p .base) (p .draft) (copied (p .values) (p .draft) 0 0 32) (set (p .arrived) 0 false) (set (p .confirmed) 0 false) (p .edits)
+installTo p = stored p (installHead (p .head)) (p .base) (p .draft) (copiedIn (p .values) (p .draft) 0 0 32) (set (p .arrived) 0 false) (set (p .confirmed) 0 false) (p .edits)
 
-pub install-accepts : (p : State) {k : ℕ} → Checked install p (installing p) k → length (p .values) ≡ 256 → length (p .arrived) ≡ 8 → length (p .confirmed) ≡ 8 → k ≡ 0 → Meets install p (record { state = installTo p; answer = Done })
+pub install-accepts : (p : State) {k : ℕ} → Checked install p (installing p) k → length (p .draft) ≡ 32 → length (p .values) ≡ 256 → length (p .arrived) ≡ 8 → length (p .confirmed) ≡ 8 → k ≡ 0 → Meets install p (record { state = installTo p; answer = Done })
 unfolding after gives
-install-accepts p w v a c z =
+install-accepts p w d v a c z =
     accepts _ w tt z refl
     (λ t. rw (eqb→eq (modeNumber (modeOf (p .head .mode))) 4 (t .0))
-    (plan-same refl refl refl refl refl (λ i. record { values = row-copied (p .values) (p .draft) 0 0 (min (p .head .drafted) 32) (omega arith) (omega arith) i; arrived = getD-set (p .arrived) 0 false false (omega arith) i; confirmed = getD-set (p .confirmed) 0 false false (omega arith) i } ∷ []) refl))
+    (plan-same refl refl refl refl refl (λ i. record { values = row-copied (p .values) (p .draft) 0 0 (min (p .head .drafted) 32) (omega arith) (omega arith) (omega arith) i; arrived = getD-set (p .arrived) 0 false false (omega arith) i; confirmed = getD-set (p .confirmed) 0 false false (omega arith) i } ∷ []) refl))
     tt
 
 -- a side's flag set, whatever else a side is made of

@@ -6,7 +6,6 @@ ghost use Prim.Native.Nat.{ℕ};
 ghost use Rattle.protocol.specs.Calls.{send, stop, confirm, install, sent, first};
 ghost use Rattle.state.specs.View.{keptAt, keptOf};
 ghost use Rattle.state.specs.Meets.{Meets, refusalOf};
-ghost use Rattle.part.specs.Parting.{copied};
 ghost use Rattle.reconcile.specs.Moves.{sendChecks, turnChecks, stopChecks, confirmChecks, installChecks, inMode, installHead};
 use state::Answer;
 use state::Answered;
@@ -126,20 +125,6 @@ fn install_head(h: Head) -> Head
     }
 }
 
-// The values of all sides with side 1's set.
-fn with_first_row(values: [i32; 256], row: &[i32; 32]) -> [i32; 256]
-    ensures { λ r. ⌜ r ≡ copied values (now (row .entry)) 0 0 32 ⌝ }
-{
-    let mut next = values;
-    let mut i: usize = 0;
-    while i < 32 {
-        let v = row[i];
-        next[i] = v;
-        i += 1;
-    }
-    next
-}
-
 // ---- kept edits
 
 // An unsent edit of a side is sent.
@@ -250,8 +235,8 @@ pub fn install(p: State) -> Answered
         return state::refuse(p, k);
     }
     let head = install_head(h);
-    let values = p.values;
-    let rows = with_first_row(values, &p.draft);
+    let mut rows = p.values;
+    rules::copy(&mut rows, &p.draft, 0, 0, 32);
     let mut q = p;
     q.head = head;
     q.values = rows;

@@ -8,15 +8,15 @@ use mathlib.Core.List.{List, [], _∷_}
 use borrow.Author.Tests.{ltb-true, ltb-false, eqb-true, eqb-false, eq-eqb, ne-eqb}
 use lib.Dec.{T, eqb, ltb}
 use lib.IntN.{ℤ, pos, _+ℤ_}
-use lib.ListN.{length, getD, set, take, drop, length-take, length-drop, List·getD-eq-default}
-use lib.Seq.{getD-take, getD-drop}
+use lib.ListN.{length, getD, set, replicate, List·getD-eq-default}
 use lib.Signed.{ltZ}
 use Rattle.protocol.specs.Lists.{oneTo, all, nth, modify}
 use Rattle.protocol.specs.Plan.{Rule, Change, inRange, value, ruleHolds, holds, names, firmlyNamed, applied, made, fits, effective}
 use Rattle.protocol.proofs.Laws.{cases, range, is-yes, in-range, nth-same, nth-other}
 use Rattle.rules.specs.declared.Trial.{Trial}
 use Rattle.rules.specs.declared.Trial.the-variants.{Effective, OutOfRange, Broken}
-use Rattle.rules.specs.Rows.{span, row, withValue, pairHolds, holdsAt, holdsIn, counts, countedHolds, countedAt, namesPair, firmAt, firmIn, rulesIn, trialOf}
+use Rattle.rules.specs.Rows.{span, row, withValue, pairHolds, holdsAt, holdsIn, copiedIn, namesPair, firmAt, firmIn, rulesIn, trialOf}
+use Rattle.rules.proofs.Copies.{length-copied, copied-inside, copied-outside}
 use Rattle.rules.proofs.Spans.{length-span, span-same, nth-span, nth-past, modify-span, all-span, any-span, getD-set, getD-other}
 
 -- ---- values of a row
@@ -84,7 +84,7 @@ made-with m ch vs = modify-value (applied ch) m vs
 module _ (lower : List ℕ) (gap : List ℤ) (upper : List ℕ) (firm : List Bool) (n : ℕ) where
   pub holds-is : (vs : List ℤ) → holds (rulesIn lower gap upper firm n) vs ≡ holdsIn lower gap upper n vs
   unfolding holds holdsIn ruleHolds pairHolds
-  holds-is vs = all-span (ruleHolds vs) (holdsAt lower gap upper vs) 0 n _ (λ i. i) (λ k. refl)
+  holds-is vs = all-span (ruleHolds vs) (holdsAt lower gap upper (value vs)) 0 n _ (λ i. i) (λ k. refl)
 
   pub firm-is : (m : ℕ) → firmlyNamed (rulesIn lower gap upper firm n) m ≡ firmIn lower upper firm n m
   unfolding firmlyNamed firmIn names namesPair
@@ -140,66 +140,43 @@ row-set vs at n (suc j) x a b c d =
 pub row-apart : (vs : List ℤ) (at n i : ℕ) (x : ℤ) → ((k : ℕ) → at ≤ k → k < at + n → k ≢ i) → row (set vs i x) at n ≡ row vs at n
 row-apart vs at n i x h = span-same at n _ _ (λ k p q. getD-other vs i k x (pos 0) (h k p q))
 
--- ---- a row cut out of its array, where one measure counts as another number
+-- ---- a row that begins at place 1, where one measure counts as another number
 
-above : (k : ℕ) → k ≢ 0 → 0 < k
-above zero h = absurd (h refl)
-above (suc k) h = omega arith
+all-nought : (n k : ℕ) → getD (replicate n (pos 0)) k (pos 0) ≡ pos 0
+all-nought zero k = refl
+all-nought (suc n) zero = refl
+all-nought (suc n) (suc k) = all-nought n k
 
-value-at : (vs : List ℤ) (k : ℕ) → 0 < k → value vs k ≡ getD vs (k - 1) (pos 0)
-unfolding value
-value-at vs zero h = absurd (omega arith)
-value-at vs (suc k) h = let e : k ≡ suc k - 1 = omega arith in ap (λ i. getD vs i (pos 0)) e
+pub padded-row : (vs : List ℤ) (at n k : ℕ) → n ≤ 32 → getD (copiedIn (replicate 33 (pos 0)) vs at 1 n) k (pos 0) ≡ value (row vs at n) k
+padded-row vs at n zero h = copied-outside (replicate 33 (pos 0)) vs at 1 (min n (min (33 - 1) (length vs - at))) 0 (λ i p z. omega arith) ∙ value-none (row vs at n) 0 refl
+padded-row vs at n (suc j) h =
+    let e = min n (min (33 - 1) (length vs - at)) in
+    let f : suc j - 1 ≡ j = omega arith in
+    let o : suc j ≡ 1 + j = omega arith in
+    let zeros = replicate 33 (pos 0) in
+    cases (ltb j e)
+    (λ t. let i = ltb-true j e t in ap (λ l. getD (copiedIn zeros vs at 1 n) l (pos 0)) o ∙ copied-inside zeros vs at 1 e j i (omega arith) ∙ ap (λ l. getD vs (at + l) (pos 0)) (sym f) ∙ sym (value-row vs at n (suc j) (omega arith) (omega arith)))
+    (λ t.
+    let i = ltb-false j e t in
+    copied-outside zeros vs at 1 e (suc j) (λ l p z. omega arith)
+    ∙ all-nought 33 (suc j)
+    ∙ cases (ltb j n) (λ u. let l = ltb-true j n u in value-beyond vs at n (suc j) (omega arith) (omega arith)) (λ u. let l = ltb-false j n u in value-outside vs at n (suc j) (omega arith) (omega arith)))
 
--- the part of an array that a row of n values from a place covers
-abbrev pub cut : List ℤ → ℕ → ℕ → List ℤ
-cut vs at n = let s = min at (length vs) in take (s + min n (length vs - s) - s) (drop s vs)
+pub padded-with : (vs : List ℤ) (at n m k : ℕ) (x : ℤ) → n ≤ 32 → oneTo n m ≡ true → getD (set (copiedIn (replicate 33 (pos 0)) vs at 1 n) m x) k (pos 0) ≡ value (withValue m x (row vs at n)) k
+padded-with vs at n m k x h t =
+    let r = copiedIn (replicate 33 (pos 0)) vs at 1 n in
+    let l = length-copied (replicate 33 (pos 0)) vs at 1 (min n (min (33 - 1) (length vs - at))) in
+    let b = range n m (is-yes t) in
+    cases (eqb k m)
+    (λ e. rw (eqb-true k m e) (getD-set r m x (pos 0) (omega (arith, b .1, l)) ∙ with-same m x (row vs at n) (ap (λ j. oneTo j m) (length-span at n (λ i. getD vs i (pos 0))) ∙ t)))
+    (λ e. getD-other r m k x (pos 0) (eqb-false k m e) ∙ padded-row vs at n k h ∙ with-other m x (row vs at n) k (eqb-false k m e))
 
-cut-value : (vs : List ℤ) (at n k : ℕ) → 0 < k → value (cut vs at n) k ≡ value (row vs at n) k
-cut-value vs at n k h =
-    let s = min at (length vs) in
-    let c = s + min n (length vs - s) - s in
-    cases (ltb (k - 1) c)
-    (λ e.
-    let i = ltb-true (k - 1) c e in
-    let a : s + (k - 1) ≡ at + (k - 1) = omega arith in
-    value-at (cut vs at n) k h ∙ getD-take c (drop s vs) (k - 1) (pos 0) i ∙ getD-drop s vs (k - 1) (pos 0) ∙ ap (λ j. getD vs j (pos 0)) a ∙ sym (value-row vs at n k h (omega arith)))
-    (λ e.
-    let i = ltb-false (k - 1) c e in
-    let l = length-take c (drop s vs) in
-    value-at (cut vs at n) k h
-    ∙ List·getD-eq-default (cut vs at n) (pos 0) {n = k - 1} (omega arith)
-    ∙ cases (ltb (k - 1) n) (λ f. let j = ltb-true (k - 1) n f in value-beyond vs at n k h (omega arith)) (λ f. value-outside vs at n k h (ltb-false (k - 1) n f)))
+pub padded-out : (vs : List ℤ) (at n m k : ℕ) (x : ℤ) → n ≤ 32 → oneTo n m ≡ false → getD (copiedIn (replicate 33 (pos 0)) vs at 1 n) k (pos 0) ≡ value (withValue m x (row vs at n)) k
+padded-out vs at n m k x h t = padded-row vs at n k h ∙ with-out m x (row vs at n) (ap (λ j. oneTo j m) (length-span at n (λ i. getD vs i (pos 0))) ∙ t) k
 
-counts-is : (vs : List ℤ) (at n m : ℕ) (x : ℤ) (k : ℕ) → counts (cond (oneTo n m) m 0) x (cut vs at n) k ≡ value (withValue m x (row vs at n)) k
-unfolding counts
-counts-is vs at n m x k =
-    let long = length-span at n (λ i. getD vs i (pos 0)) in
-    cases (eqb k 0)
-    (λ z. rw z (value-none (withValue m x (row vs at n)) k (eqb-true k 0 z)))
-    (λ z.
-    let p = above k (eqb-false k 0 z) in
-    rw z (cases (oneTo n m)
-    (λ t. rw t (cases (eqb k m)
-    (λ e. rw (e, eqb-true k m e) (with-same m x (row vs at n) (ap (λ j. oneTo j m) long ∙ t)))
-    (λ e. rw e (cut-value vs at n k p ∙ with-other m x (row vs at n) k (eqb-false k m e)))))
-    (λ t. rw (t, z) (cut-value vs at n k p ∙ with-out m x (row vs at n) (ap (λ j. oneTo j m) long ∙ t) k))))
-
-pub counted-is : (lower : List ℕ) (gap : List ℤ) (upper : List ℕ) (k : ℕ) (vs : List ℤ) (at n m : ℕ) (x : ℤ)
-    → all (countedAt lower gap upper (cond (oneTo n m) m 0) x (cut vs at n)) (span 0 k (λ i. i)) ≡ holdsIn lower gap upper k (withValue m x (row vs at n))
-unfolding holdsIn countedHolds pairHolds
-counted-is lower gap upper k vs at n m x =
-    all-span (countedAt lower gap upper (cond (oneTo n m) m 0) x (cut vs at n)) (holdsAt lower gap upper (withValue m x (row vs at n))) 0 k (λ i. i) (λ i. i)
-    (λ i. ap₂ (λ a b. ltZ (a +ℤ getD gap i (pos 0)) b) (counts-is vs at n m x (getD lower i 0)) (counts-is vs at n m x (getD upper i 0)))
-
-pub counts-none : (known : ℕ) (x : ℤ) (vs : List ℤ) (k : ℕ) → k ≡ 0 → pos 0 ≡ counts known x vs k
-unfolding counts
-counts-none known x vs k e = rw (eq-eqb k 0 e)
-
-pub counts-known : (known : ℕ) (x : ℤ) (vs : List ℤ) (k : ℕ) → k ≢ 0 → k ≡ known → x ≡ counts known x vs k
-unfolding counts
-counts-known known x vs k z e = rw (ne-eqb k 0 z, eq-eqb k known e)
-
-pub counts-other : (known : ℕ) (x : ℤ) (vs : List ℤ) (k : ℕ) → k ≢ 0 → k ≢ known → getD vs (k - 1) (pos 0) ≡ counts known x vs k
-unfolding counts
-counts-other known x vs k z e = rw (ne-eqb k 0 z, ne-eqb k known e) (sym (value-at vs k (above k z)))
+-- the rules are tested on a row read otherwise
+pub holds-read : (lower : List ℕ) (gap : List ℤ) (upper : List ℕ) (n : ℕ) (f : ℕ → ℤ) (vs : List ℤ) → ((k : ℕ) → f k ≡ value vs k) → all (holdsAt lower gap upper f) (span 0 n (λ i. i)) ≡ holdsIn lower gap upper n vs
+unfolding holdsIn pairHolds
+holds-read lower gap upper n f vs h =
+    all-span (holdsAt lower gap upper f) (holdsAt lower gap upper (value vs)) 0 n (λ i. i) (λ i. i)
+    (λ i. ap₂ (λ a b. ltZ (a +ℤ getD gap i (pos 0)) b) (h (getD lower i 0)) (h (getD upper i 0)))

@@ -23,6 +23,15 @@ module _ {A : Type 0} where
   span-same i (suc n) f g h =
       ap₂ {C = List A} (λ x xs. x ∷ xs) (h i (omega arith) (omega arith)) (span-same (suc i) n f g (λ k p q. h k (omega arith) (omega arith)))
 
+  -- the same list read off at other places
+  pub span-moved : (a b n : ℕ) (f g : ℕ → A) → ((i : ℕ) → i < n → f (a + i) ≡ g (b + i)) → span a n f ≡ span b n g
+  span-moved a b zero f g h = refl
+  span-moved a b (suc n) f g h =
+      let x : a + 0 ≡ a = omega arith in
+      let y : b + 0 ≡ b = omega arith in
+      ap₂ {C = List A} (λ u us. u ∷ us) (ap f (sym x) ∙ h 0 (omega arith) ∙ ap g y)
+      (span-moved (suc a) (suc b) n f g (λ i k. let u : suc a + i ≡ a + suc i = omega arith in let v : b + suc i ≡ suc b + i = omega arith in ap f u ∙ h (suc i) (omega arith) ∙ ap g v))
+
   -- what is left of a walk over the first n
   pub span-next : (i n : ℕ) (f : ℕ → A) → i < n → span i (n - i) f ≡ f i ∷ span (i + 1) (n - (i + 1)) f
   span-next i n f h =

@@ -1,11 +1,11 @@
 -- Rows of values and rules as arrays hold them, and the tests on them. Assumes nothing.
-use Prim.Native.Nat.{ℕ, zero, suc}
+use Prim.Native.Nat.{ℕ, zero, suc, _+_, _-_, min}
 use mathlib.Core.Bool.{Bool, true, false, cond, _&&_, _||_}
 use mathlib.Core.List.{List, [], _∷_}
 use lib.Dec.{eqb}
 use lib.IntN.{ℤ, pos, _+ℤ_}
 use lib.Signed.{ltZ}
-use lib.ListN.{getD}
+use lib.ListN.{length, getD, set}
 use Rattle.protocol.specs.Lists.{modify, all, any}
 use Rattle.protocol.specs.Plan as model
 use Rattle.rules.specs.declared.Trial.{Trial}
@@ -24,29 +24,29 @@ row vs at n = span at n (λ i. getD vs i (pos 0))
 unfoldable pub withValue : ℕ → ℤ → List ℤ → List ℤ
 withValue m x vs = modify m (λ y. x) vs
 
--- measure a plus c is less than measure b
-unfoldable pub pairHolds : List ℤ → ℕ → ℤ → ℕ → Bool
-unfolding model.value
-pairHolds vs a c b = ltZ (model.value vs a +ℤ c) (model.value vs b)
+-- n values of one array copied into another, from a place to a place; and the same as far as both arrays have the places
+unfoldable pub copied : List ℤ → List ℤ → ℕ → ℕ → ℕ → List ℤ
+copied into values from to zero = into
+copied into values from to (suc n) = set (copied into values from to n) (to + n) (getD values (from + n) (pos 0))
 
--- rule i of three arrays, and the first n of them
-abbrev pub holdsAt : List ℕ → List ℤ → List ℕ → List ℤ → ℕ → Bool
-holdsAt lower gap upper vs i = pairHolds vs (getD lower i 0) (getD gap i (pos 0)) (getD upper i 0)
+abbrev pub copiedIn : List ℤ → List ℤ → ℕ → ℕ → ℕ → List ℤ
+copiedIn into values from to n = copied into values from to (min n (min (length into - to) (length values - from)))
+
+-- measure a plus c is less than measure b, where f gives a measure's value
+unfoldable pub pairHolds : (ℕ → ℤ) → ℕ → ℤ → ℕ → Bool
+pairHolds f a c b = ltZ (f a +ℤ c) (f b)
+
+-- rule i of three arrays, and the first n of them on a list of values
+abbrev pub holdsAt : List ℕ → List ℤ → List ℕ → (ℕ → ℤ) → ℕ → Bool
+holdsAt lower gap upper f i = pairHolds f (getD lower i 0) (getD gap i (pos 0)) (getD upper i 0)
 
 unfoldable pub holdsIn : List ℕ → List ℤ → List ℕ → ℕ → List ℤ → Bool
-holdsIn lower gap upper n vs = all (holdsAt lower gap upper vs) (span 0 n (λ i. i))
-
--- the value of measure k where measure known, unless it is 0, counts as x; a rule tested so; rule i of three arrays
-unfoldable pub counts : ℕ → ℤ → List ℤ → ℕ → ℤ
 unfolding model.value
-counts known x vs k = cond (eqb k 0) (pos 0) (cond (eqb k known) x (model.value vs k))
+holdsIn lower gap upper n vs = all (holdsAt lower gap upper (model.value vs)) (span 0 n (λ i. i))
 
-unfoldable pub countedHolds : ℕ → ℤ → List ℤ → ℕ → ℤ → ℕ → Bool
-unfolding counts
-countedHolds known x vs a c b = ltZ (counts known x vs a +ℤ c) (counts known x vs b)
-
-abbrev pub countedAt : List ℕ → List ℤ → List ℕ → ℕ → ℤ → List ℤ → ℕ → Bool
-countedAt lower gap upper known x vs i = countedHolds known x vs (getD lower i 0) (getD gap i (pos 0)) (getD upper i 0)
+-- measure k of a row that begins at place 1
+abbrev pub paddedValue : List ℤ → ℕ → ℤ
+paddedValue vs k = getD vs k (pos 0)
 
 unfoldable pub namesPair : ℕ → ℕ → ℕ → Bool
 namesPair a b m = eqb a m || eqb b m

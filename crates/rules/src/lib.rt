@@ -1,11 +1,13 @@
 // The rules of a plan as parallel number arrays, and their test on a row of values that lies in a larger array. Everything is lent.
 ghost use mathlib.Core.Path.{_≡_};
-ghost use mathlib.Core.Bool.{cond, _&&_};
-ghost use Prim.Native.Nat.{min};
+ghost use mathlib.Core.Bool.{_&&_};
+ghost use Prim.Native.Nat.{ℕ, _-_, min};
+ghost use lib.IntN.{pos};
+ghost use lib.ListN.{getD};
 ghost use Rattle.protocol.specs.Lists.{oneTo, all};
 ghost use Rattle.protocol.specs.Plan.{value};
 ghost use Rattle.change.specs.Change.{viewChange};
-ghost use Rattle.rules.specs.Rows.{span, row, withValue, counts, countedHolds, countedAt, holdsIn, firmIn, namesPair, trialOf};
+ghost use Rattle.rules.specs.Rows.{span, row, withValue, pairHolds, holdsAt, holdsIn, firmIn, namesPair, copiedIn, paddedValue, trialOf};
 use change::Applied;
 use change::Change;
 
@@ -35,7 +37,7 @@ pub fn one_to(k: usize, n: u32) -> bool
 }
 
 // The value of measure m in the row of n values that begins at a place; 0 where there is none.
-pub fn value_at(values: &[i32], at: usize, n: usize, m: u32) -> i32
+fn value_at(values: &[i32], at: usize, n: usize, m: u32) -> i32
     ensures { λ r. ⌜ r ≡ value (row (now (values .entry)) at n) m ⌝ }
 {
     if m == 0 {
@@ -52,19 +54,55 @@ pub fn value_at(values: &[i32], at: usize, n: usize, m: u32) -> i32
     0
 }
 
+// ---- rows copied
+
+fn lesser(a: usize, b: usize) -> usize
+    ensures { λ r. ⌜ r ≡ min a b ⌝ }
+{
+    if a < b { a } else { b }
+}
+
+// What an array of n has from a place on.
+fn rest(n: usize, at: usize) -> usize
+    ensures { λ r. ⌜ r ≡ n - at ⌝ }
+{
+    if at < n { n - at } else { 0 }
+}
+
+// Copies n values from a place to a place, as far as both arrays have them.
+pub fn copy(into: &mut [i32], values: &[i32], from: usize, to: usize, n: usize)
+    ensures { λ r. ⌜ now (into .exit) ≡ copiedIn (now (into .entry)) (now (values .entry)) from to n ⌝ }
+{
+    let room = rest(into.len(), to);
+    let size = lesser(n, lesser(room, rest(values.len(), from)));
+    let mut i: usize = 0;
+    while i < size {
+        let v = values[from + i];
+        into[to + i] = v;
+        i += 1;
+    }
+}
+
 // ---- the rules on a row, where one measure counts as another number
 
-// The value of measure k in a row, where measure known, unless it is 0, counts as x.
-fn counted(row: &[i32], known: u32, x: i32, k: u32) -> i32
-    ensures { λ r. ⌜ r ≡ counts known x (now (row .entry)) k ⌝ }
+// The row of at most 32 values that begins at a place, from place 1 on, where measure m counts as x. Place 0 and what lies past the row
+// are 0, so that a rule's measures are read with one comparison each, whatever they are.
+fn padded(values: &[i32], at: usize, n: u32, m: u32, x: i32) -> [i32; 33]
+    ensures { λ r. ⌜ ((k : ℕ) → getD r k (pos 0) ≡ value (withValue m x (row (now (values .entry)) at (min n 32))) k) ⌝ }
 {
-    if k == 0 {
-        return 0;
+    let size = capped(n, 32);
+    let mut row = [0i32; 33];
+    copy(&mut row, values, at, 1, size);
+    if one_to(size, m) {
+        row[m as usize] = x;
     }
-    if k == known {
-        return x;
-    }
-    let i = (k - 1) as usize;
+    row
+}
+
+fn value_in(row: &[i32], k: u32) -> i32
+    ensures { λ r. ⌜ r ≡ getD (now (row .entry)) k (pos 0) ⌝ }
+{
+    let i = k as usize;
     if i < row.len() {
         return row[i];
     }
@@ -72,11 +110,11 @@ fn counted(row: &[i32], known: u32, x: i32, k: u32) -> i32
 }
 
 // Measure a plus g is less than measure b.
-fn pair_holds(row: &[i32], known: u32, x: i32, a: u32, g: i32, b: u32) -> bool
-    ensures { λ t. ⌜ t ≡ countedHolds known x (now (row .entry)) a g b ⌝ }
+fn pair_holds(row: &[i32], a: u32, g: i32, b: u32) -> bool
+    ensures { λ t. ⌜ t ≡ pairHolds (paddedValue (now (row .entry))) a g b ⌝ }
 {
-    let low = exact::sum(counted(row, known, x, a), g);
-    low < counted(row, known, x, b) as i64
+    let low = exact::sum(value_in(row, a), g);
+    low < value_in(row, b) as i64
 }
 
 fn row_holds<'a>(
@@ -85,10 +123,8 @@ fn row_holds<'a>(
     upper: &'a [u32; 64],
     k: u32,
     row: &'a [i32],
-    known: u32,
-    x: i32,
 ) -> bool
-    ensures { λ t. ⌜ t ≡ all (countedAt (now (lower .entry)) (now (gap .entry)) (now (upper .entry)) known x (now (row .entry))) (span 0 (min k 64) (λ i. i)) ⌝ }
+    ensures { λ t. ⌜ t ≡ all (holdsAt (now (lower .entry)) (now (gap .entry)) (now (upper .entry)) (paddedValue (now (row .entry)))) (span 0 (min k 64) (λ i. i)) ⌝ }
 {
     let end = capped(k, 64);
     let mut i: usize = 0;
@@ -96,7 +132,7 @@ fn row_holds<'a>(
         let a = lower[i];
         let g = gap[i];
         let b = upper[i];
-        if !pair_holds(row, known, x, a, g, b) {
+        if !pair_holds(row, a, g, b) {
             return false;
         }
         i += 1;
@@ -104,23 +140,7 @@ fn row_holds<'a>(
     true
 }
 
-// m if it is a measure of n, else 0.
-fn known_of(n: usize, m: u32) -> u32
-    ensures { λ r. ⌜ r ≡ cond (oneTo n m) m 0 ⌝ }
-{
-    if one_to(n, m) {
-        return m;
-    }
-    0
-}
-
-fn lesser(a: usize, b: usize) -> usize
-    ensures { λ r. ⌜ r ≡ min a b ⌝ }
-{
-    if a < b { a } else { b }
-}
-
-// Whether each of the first k rules holds, where measure m counts as x. The row is cut once.
+// Whether each of the first k rules holds on the row of at most 32 values that begins at a place, where measure m counts as x.
 pub fn rules_hold<'a>(
     lower: &'a [u32; 64],
     gap: &'a [i32; 64],
@@ -128,15 +148,17 @@ pub fn rules_hold<'a>(
     k: u32,
     values: &'a [i32],
     at: usize,
-    n: usize,
+    n: u32,
     m: u32,
     x: i32,
 ) -> bool
-    ensures { λ t. ⌜ t ≡ holdsIn (now (lower .entry)) (now (gap .entry)) (now (upper .entry)) (min k 64) (withValue m x (row (now (values .entry)) at n)) ⌝ }
+    ensures { λ t. ⌜ t ≡ holdsIn (now (lower .entry)) (now (gap .entry)) (now (upper .entry)) (min k 64) (withValue m x (row (now (values .entry)) at (min n 32))) ⌝ }
 {
-    let start = lesser(at, values.len());
-    let end = start + lesser(n, values.len() - start);
-    row_holds(lower, gap, upper, k, &values[start..end], known_of(n, m), x)
+    if k == 0 {
+        return true;
+    }
+    let row = padded(values, at, n, m, x);
+    row_holds(lower, gap, upper, k, &row)
 }
 
 // A rule on measures a and b, firm or not, is firm and names measure m.
@@ -176,7 +198,7 @@ pub fn firm_named<'a>(
     false
 }
 
-// A change of measure m tried on a row against the first k rules.
+// A change of measure m tried on a row of at most 32 values against the first k rules.
 pub fn try_change<'a>(
     lower: &'a [u32; 64],
     gap: &'a [i32; 64],
@@ -184,13 +206,13 @@ pub fn try_change<'a>(
     k: u32,
     values: &'a [i32],
     at: usize,
-    n: usize,
+    n: u32,
     m: u32,
     change: Change,
 ) -> Trial
-    ensures { λ r. ⌜ r ≡ trialOf (holdsIn (now (lower .entry)) (now (gap .entry)) (now (upper .entry)) (min k 64)) m (viewChange change) (row (now (values .entry)) at n) ⌝ }
+    ensures { λ r. ⌜ r ≡ trialOf (holdsIn (now (lower .entry)) (now (gap .entry)) (now (upper .entry)) (min k 64)) m (viewChange change) (row (now (values .entry)) at (min n 32)) ⌝ }
 {
-    let made = change::apply(change, value_at(values, at, n, m));
+    let made = change::apply(change, value_at(values, at, capped(n, 32), m));
     let Applied::InRange(x) = made else {
         return Trial::OutOfRange;
     };

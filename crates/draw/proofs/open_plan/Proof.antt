@@ -7,17 +7,16 @@ use lib.IntN.{pos}
 use Rattle.protocol.specs.Lists.{none}
 use Rattle.protocol.specs.Plan.{blank, is}
 use Rattle.protocol.specs.Calls.{open-plan, gives}
-use Rattle.rules.specs.Rows.{row, holdsIn, withValue}
+use Rattle.rules.specs.Rows.{row, holdsIn}
 use Rattle.state.specs.View.{modeOf, measuresIn}
 use Rattle.state.proofs.Meeting.{refused-meets, accepted-meets}
-use Rattle.draw.proofs.Draws.{no-value, open-checks, open-next}
+use Rattle.draw.proofs.Draws.{some-left, no-value, open-checks, open-next}
 use borrow.Author.Needs.{needs}
 use Rattle.draw.proofs.open_plan.Statement.{statement}
 use Rattle.draw.proofs.open_plan.Tie as tie
 use Rattle.draw.proofs.open_plan.Reads as reads
 use Rattle.draw.proofs.open_plan.Lts as lts
 use Rattle.draw.proofs.with_open.Reads as with-open-reads
-use Rattle.rules.proofs.capped.Reads as capped-reads
 use Rattle.rules.proofs.rules_hold.Reads as rules-hold-reads
 use Rattle.state.proofs.mode_number.Reads as mode-number-reads
 use Rattle.state.proofs.refuse.Reads as refuse-reads
@@ -26,14 +25,13 @@ mode-fine : (c : tie.Else1) → is blank (modeOf (c .before .before .before .arg
 mode-fine c = sym (ap (λ n. eqb n 0) (c .before .mode-number .ensures)) ∙ eq-eqb _ 0 (c .if1 .left)
 
 drawn : (c : tie.Else2) → none (measuresIn (c .before .before .before .before .before .args .t1 .head)) ≡ false
-drawn c = sym (ap none (c .before .capped .ensures)) ∙ ne-eqb _ 0 (c .if2 .left)
+drawn c = some-left (c .before .before .before .before .before .args .t1 .head .measures) (c .if2 .left)
 
 -- the test found what the rules are on the row as it stands
 rules-fine : (c : tie.After-rules-hold) → let p = c .before .before .before .before .before .before .before .before .before .before .before .before .args .t1 in c .rules-hold .result ≡ holdsIn (p .lower) (p .gap) (p .upper) (min (p .head .rules) 64) (row (p .values) 0 (measuresIn (p .head)))
 rules-fine c =
     let p = c .before .before .before .before .before .before .before .before .before .before .before .before .args .t1 in
-    let r : c .rules-hold .result ≡ holdsIn (p .lower) (p .gap) (p .upper) (min (p .head .rules) 64) (withValue 0 (pos 0) (row (p .values) 0 (c .before .before .before .before .before .before .before .before .capped .result))) = c .rules-hold .ensures in
-    r ∙ ap (holdsIn (p .lower) (p .gap) (p .upper) (min (p .head .rules) 64)) (no-value (pos 0) (row (p .values) 0 (c .before .before .before .before .before .before .before .before .capped .result)) ∙ ap (row (p .values) 0) (c .before .before .before .before .before .before .before .before .capped .ensures))
+    c .rules-hold .ensures ∙ ap (holdsIn (p .lower) (p .gap) (p .upper) (min (p .head .rules) 64)) (no-value (pos 0) (row (p .values) 0 (measuresIn (p .head))))
 
 mode-number-requires : tie.Need-mode-number-requires
 mode-number-requires c κs = search needs
@@ -45,15 +43,12 @@ returns : tie.Need-returns
 returns c =
     rw (c .refuse .ensures) (refused-meets open-plan _ _ (open-checks (c .before .before .before .before .args .t1) ∙ rw (← (c .before .before .mode-number .ensures), ne-eqb _ 0 (c .before .if1 .taken))))
 
-capped-requires : tie.Need-capped-requires
-capped-requires c κs = search needs
-
 refuse-requires-2 : tie.Need-refuse-requires-2
 refuse-requires-2 c κs = search needs
 
 returns-2 : tie.Need-returns-2
 returns-2 c =
-    rw (c .refuse2 .ensures) (refused-meets open-plan _ _ (open-checks (c .before .before .before .before .before .before .args .t1) ∙ rw (mode-fine (c .before .before .before), sym (ap none (c .before .before .capped .ensures)) ∙ eq-eqb _ 0 (c .before .if2 .taken))))
+    rw (c .refuse2 .ensures) (refused-meets open-plan _ _ (open-checks (c .before .before .before .before .before .before .args .t1) ∙ rw (mode-fine (c .before .before .before), ap (λ n. none (min n 32)) (c .before .if2 .taken))))
 
 rules-hold-requires : tie.Need-rules-hold-requires
 rules-hold-requires c κs = search needs
@@ -81,7 +76,6 @@ open-plan-spec =
     mode-number-requires
     refuse-requires
     returns
-    capped-requires
     refuse-requires-2
     returns-2
     rules-hold-requires

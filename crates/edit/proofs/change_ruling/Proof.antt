@@ -23,7 +23,6 @@ use Rattle.edit.proofs.change_ruling.Reads as reads
 use Rattle.edit.proofs.change_ruling.Lts as lts
 use Rattle.edit.proofs.frozen.Reads as frozen-reads
 use Rattle.edit.proofs.full.Reads as full-reads
-use Rattle.rules.proofs.capped.Reads as capped-reads
 use Rattle.rules.proofs.try_change.Reads as try-change-reads
 
 -- what the first checks found
@@ -37,7 +36,7 @@ is-full c = sym (c .full .ensures)
 -- what the trial found
 module _ (c : tie.After-try-change) where
   abbrev start : tie.Start
-  start = c .before .before .before .before .before .before .before .before
+  start = c .before .before .before .before .before .before .before
 
   abbrev vs : List ℤ
   vs = row (start .args .values .now) (start .args .at) (measuresIn (start .args .h))
@@ -49,7 +48,7 @@ module _ (c : tie.After-try-change) where
   test = holdsIn (start .args .lower .now) (start .args .gap .now) (start .args .upper .now) (min (start .args .h .rules) 64)
 
   trial : c .try-change .result ≡ trialOf test (start .args .m) ch vs
-  trial = c .try-change .ensures ∙ ap (λ n. trialOf test (start .args .m) ch (row (start .args .values .now) (start .args .at) n)) (c .before .capped .ensures)
+  trial = c .try-change .ensures
 
   tested : holds (rulesIn (start .args .lower .now) (start .args .gap .now) (start .args .upper .now) (start .args .firm .now) (min (start .args .h .rules) 64)) (made (start .args .m) ch vs) ≡ test (made (start .args .m) ch vs)
   tested = holds-is (start .args .lower .now) (start .args .gap .now) (start .args .upper .now) (start .args .firm .now) (min (start .args .h .rules) 64) (made (start .args .m) ch vs)
@@ -74,9 +73,6 @@ unfolding changeRuling
 returns-3 c =
     rw (is-frozen (c .before .before .before .before .before) ∙ (c .before .before .before .before .if1 .left), is-full (c .before .before .before) ∙ (c .before .before .if2 .left), lt-ltb 999999 _ ((c .if3 .taken)))
 
-capped-requires : tie.Need-capped-requires
-capped-requires c κs = search needs
-
 try-change-requires : tie.Need-try-change-requires
 try-change-requires c κs = search needs
 
@@ -95,21 +91,21 @@ returns-4 c =
     let p = (c .before .before .before) in
     let x = (c .before .tried .given .0 .0) in
     let t = trial-effective (test p) (start p .args .m) (ch p) (vs p) x (sym ((c .before .tried .given .1)) ∙ trial p) in
-    rw (is-frozen (c .before .before .before .before .before .before .before .before .before .before) ∙ (c .before .before .before .before .before .before .before .before .before .if1 .left), is-full (c .before .before .before .before .before .before .before .before) ∙ (c .before .before .before .before .before .before .before .if2 .left), le-ltb 999999 _ ((c .before .before .before .before .before .if3 .left)), t .0, tested p ∙ t .1) (ap (Granted (start p .args .change)) (toZ-ofZ (fits32 x ((c .known-told .given .0 .1))) ∙ t .2))
+    rw (is-frozen (c .before .before .before .before .before .before .before .before .before) ∙ (c .before .before .before .before .before .before .before .before .if1 .left), is-full (c .before .before .before .before .before .before .before) ∙ (c .before .before .before .before .before .before .if2 .left), le-ltb 999999 _ ((c .before .before .before .before .if3 .left)), t .0, tested p ∙ t .1) (ap (Granted (start p .args .change)) (toZ-ofZ (fits32 x ((c .known-told .given .0 .1))) ∙ t .2))
 
 returns-5 : tie.Need-returns-5
 unfolding changeRuling
 returns-5 c =
     let p = (c .before .before) in
     let t = trial-out (test p) (start p .args .m) (ch p) (vs p) (sym ((c .enum-told .given .1)) ∙ trial p) in
-    rw (is-frozen (c .before .before .before .before .before .before .before .before .before) ∙ (c .before .before .before .before .before .before .before .before .if1 .left), is-full (c .before .before .before .before .before .before .before) ∙ (c .before .before .before .before .before .before .if2 .left), le-ltb 999999 _ ((c .before .before .before .before .if3 .left)), t)
+    rw (is-frozen (c .before .before .before .before .before .before .before .before) ∙ (c .before .before .before .before .before .before .before .if1 .left), is-full (c .before .before .before .before .before .before) ∙ (c .before .before .before .before .before .if2 .left), le-ltb 999999 _ ((c .before .before .before .if3 .left)), t)
 
 returns-6 : tie.Need-returns-6
 unfolding changeRuling
 returns-6 c =
     let p = (c .before .before) in
     let t = trial-broken (test p) (start p .args .m) (ch p) (vs p) (sym ((c .enum-told2 .given .1)) ∙ trial p) in
-    rw (is-frozen (c .before .before .before .before .before .before .before .before .before) ∙ (c .before .before .before .before .before .before .before .before .if1 .left), is-full (c .before .before .before .before .before .before .before) ∙ (c .before .before .before .before .before .before .if2 .left), le-ltb 999999 _ ((c .before .before .before .before .if3 .left)), t .0, tested p ∙ t .1)
+    rw (is-frozen (c .before .before .before .before .before .before .before .before) ∙ (c .before .before .before .before .before .before .before .if1 .left), is-full (c .before .before .before .before .before .before) ∙ (c .before .before .before .before .before .if2 .left), le-ltb 999999 _ ((c .before .before .before .if3 .left)), t .0, tested p ∙ t .1)
 
 pub change-ruling-spec : {M : Type 1} → statement M
 change-ruling-spec =
@@ -120,7 +116,6 @@ change-ruling-spec =
     full-requires
     returns-2
     returns-3
-    capped-requires
     try-change-requires
     enum-known-tried
     enum-told

@@ -12,17 +12,17 @@ use Rattle.part.proofs.split.Tie as tie
 use Rattle.part.proofs.split.Reads as reads
 use Rattle.part.proofs.split.Lts as lts
 use Rattle.exact.proofs.number.Reads as number-reads
-use Rattle.part.proofs.copy_row.Reads as copy-row-reads
 use Rattle.part.proofs.split_base.Reads as split-base-reads
 use Rattle.part.proofs.split_head.Reads as split-head-reads
 use Rattle.part.proofs.split_refusal.Reads as split-refusal-reads
+use Rattle.rules.proofs.copy.Reads as copy-reads
 use Rattle.state.proofs.index.Reads as index-reads
 use Rattle.state.proofs.offset.Reads as offset-reads
 use Rattle.state.proofs.refuse.Reads as refuse-reads
 use Rattle.state.proofs.side_count.Reads as side-count-reads
 
-sizes : (c : tie.Start) → (length (c .args .t1 .values) ≡ 256) × (length (c .args .t1 .arrived) ≡ 8) × (length (c .args .t1 .confirmed) ≡ 8)
-sizes c = (search needs, search needs, search needs)
+sizes : (c : tie.Start) → (length (c .args .t1 .base) ≡ 32) × (length (c .args .t1 .values) ≡ 256) × (length (c .args .t1 .arrived) ≡ 8) × (length (c .args .t1 .confirmed) ≡ 8)
+sizes c = (search needs, search needs, search needs, search needs)
 
 side : (c : tie.After-number) → c .number .result ≡ natural (c .before .before .args .s)
 side c = c .number .ensures ∙ ap natural (toZ-ofZ (c .before .before .fits .s))
@@ -39,7 +39,7 @@ refuse-requires c κs = search needs
 returns : tie.Need-returns
 returns c =
     let s = (c .before .before .before .before .before) in
-    rw ((c .refuse .ensures)) (refuses (split-checked (s .args .t1) (s .args .s) (side (c .before .before .before)) ((c .before .before .split-refusal .ensures))) ((c .before .if1 .taken)))
+    rw (c .refuse .ensures) (refuses (split-checked (s .args .t1) (s .args .s) (side (c .before .before .before)) (c .before .before .split-refusal .ensures)) (c .before .if1 .taken))
 
 side-count-requires : tie.Need-side-count-requires
 side-count-requires c κs = search needs
@@ -56,14 +56,17 @@ split-head-requires c κs = search needs
 split-base-requires : tie.Need-split-base-requires
 split-base-requires c κs = search needs
 
+slice-aggregate-copy : tie.Need-slice-aggregate-copy
+slice-aggregate-copy c = search needs
+
 offset-requires : tie.Need-offset-requires
 offset-requires c κs = search needs
 
 offset-requires-2 : tie.Need-offset-requires-2
 offset-requires-2 c κs = search needs
 
-copy-row-requires : tie.Need-copy-row-requires
-copy-row-requires c κs = search needs
+copy-requires : tie.Need-copy-requires
+copy-requires c κs = search needs
 
 index-requires : tie.Need-index-requires
 index-requires c κs = search needs
@@ -76,11 +79,11 @@ element-write-q-2 c = search needs
 
 returns-2 : tie.Need-returns-2
 returns-2 c =
-    let s = (c .before .before .before .before .before .before .before .before .before .before .before .before .before .before .before .before .before .before) in
+    let s = (c .before .before .before .before .before .before .before .before .before .before .before .before .before .before .before .before .before .before .before .before) in
     let z = sizes s in
-    let w = side (c .before .before .before .before .before .before .before .before .before .before .before .before .before .before .before .before) in
-    rw ((c .before .copy-row .ensures), (c .before .before .before .before .before .before .before .before .split-base .ensures), (c .before .before .before .before .before .before .before .before .before .before .before .before .split-head .ensures))
-    (split-accepts (s .args .t1) (s .args .s) w (split-checked (s .args .t1) (s .args .s) w ((c .before .before .before .before .before .before .before .before .before .before .before .before .before .before .before .split-refusal .ensures))) (add-one _ ∙ ap suc ((c .before .before .before .before .before .before .before .before .before .before .before .before .before .side-count .ensures .0))) ((c .before .before .before .offset .ensures .0)) ((c .before .before .offset2 .ensures .0)) ((c .index .ensures .0)) (z .0) (z .1) (z .2) ((c .before .before .before .before .before .before .before .before .before .before .before .before .before .before .if1 .left)))
+    let w = side (c .before .before .before .before .before .before .before .before .before .before .before .before .before .before .before .before .before .before) in
+    rw ((c .before .before .copy .ensures), (c .before .before .before .before .before .before .before .before .before .before .split-base .ensures), (c .before .before .before .before .before .before .before .before .before .before .before .before .before .before .split-head .ensures))
+    (split-accepts (s .args .t1) (s .args .s) w (split-checked (s .args .t1) (s .args .s) w (c .before .before .before .before .before .before .before .before .before .before .before .before .before .before .before .before .before .split-refusal .ensures)) (add-one _ ∙ ap suc (c .before .before .before .before .before .before .before .before .before .before .before .before .before .before .before .side-count .ensures .0)) (c .before .before .before .before .offset .ensures .0) (c .before .before .before .offset2 .ensures .0) (c .index .ensures .0) (z .0) (z .1) (z .2) (z .3) (c .before .before .before .before .before .before .before .before .before .before .before .before .before .before .before .before .if1 .left))
 
 pub split-spec : {M : Type 1} → statement M
 split-spec =
@@ -95,9 +98,10 @@ split-spec =
     add-to
     split-head-requires
     split-base-requires
+    slice-aggregate-copy
     offset-requires
     offset-requires-2
-    copy-row-requires
+    copy-requires
     index-requires
     element-write-q
     element-write-q-2

@@ -8,7 +8,7 @@ use Rattle.exact.proofs.Ints.{fits32}
 use Rattle.protocol.specs.Plan as model
 use Rattle.protocol.specs.Lists.{oneTo}
 use Rattle.change.specs.Change.{viewChange}
-use Rattle.rules.specs.Rows.{row, holdsIn, trialOf}
+use Rattle.rules.specs.Rows.{holdsIn, trialOf}
 use Rattle.rules.proofs.Rows.{trial-out, trial-broken, trial-effective}
 use Rattle.replay.specs.declared.Outcome.the-variants.{Settled}
 use Rattle.replay.specs.Replays.{draftIn, effectiveIn, draftOutcome}
@@ -36,7 +36,7 @@ module _ (c : tie.After-try-change) where
   test = holdsIn (start .args .lower .now) (start .args .gap .now) (start .args .upper .now) (min (start .args .h .rules) 64)
 
   trial : c .try-change .result ≡ trialOf test (start .args .m) ch vs
-  trial = c .try-change .ensures ∙ ap (λ n. trialOf test (start .args .m) ch (row (start .args .draft .now) 0 n)) (c .before .capped .ensures)
+  trial = c .try-change .ensures
 
 capped-requires : tie.Need-capped-requires
 capped-requires c κs = search needs

@@ -4,13 +4,11 @@ use Prim.Native.Nat.{ℕ, _<_, _-_, _+_, min}
 use mathlib.Core.Path.{_≡_, sym, ap, _∙_}
 use lib.IntN.{pos}
 use lib.ListN.{getD}
-use mir.Syntax.{w32}
-use mir.Val.{toZ, ofZ}
 use mir.Facts.{toZ-ofZ}
 use borrow.Author.Tests.{not-true, not-false}
 use Rattle.exact.proofs.Ints.{fits32}
 use Rattle.protocol.specs.Lists.{all}
-use Rattle.rules.specs.Rows.{countedHolds, countedAt}
+use Rattle.rules.specs.Rows.{pairHolds, holdsAt, paddedValue}
 use Rattle.rules.proofs.Spans.{Walked, walk-begin, all-next, all-stop, all-over}
 use Rattle.rules.proofs.row_holds.Statement.{statement}
 use Rattle.rules.proofs.row_holds.Tie as tie
@@ -20,20 +18,20 @@ use Rattle.rules.proofs.capped.Reads as capped-reads
 use Rattle.rules.proofs.pair_holds.Reads as pair-holds-reads
 
 abbrev Inv-loop : tie.InvT-loop
-Inv-loop lower gap upper k row known x end i₀ i = Walked (all (countedAt lower gap upper known (toZ w32 x) row)) (λ j. j) (min k 64) i
+Inv-loop lower gap upper k row end i₀ i = Walked (all (holdsAt lower gap upper (paddedValue row))) (λ j. j) (min k 64) i
 
 abbrev μ-loop : tie.MeasureT-loop
-μ-loop lower gap upper k row known x end i₀ i = end - i
+μ-loop lower gap upper k row end i₀ i = end - i
 
 -- the rule at hand, tested
 tested : (c : tie.After-pair-holds Inv-loop μ-loop)
     → let s = c .before .before .before .before .before .before .before in
-    c .pair-holds .result ≡ countedAt (s .args .lower .now) (s .args .gap .now) (s .args .upper .now) (s .args .known) (toZ w32 (ofZ w32 (s .args .x))) (s .args .row .now) (c .before .before .before .before .before .loop .i)
+    c .pair-holds .result ≡ holdsAt (s .args .lower .now) (s .args .gap .now) (s .args .upper .now) (paddedValue (s .args .row .now)) (c .before .before .before .before .before .loop .i)
 tested c =
     let s = c .before .before .before .before .before .before .before in
     let i = c .before .before .before .before .before .loop .i in
     c .pair-holds .ensures
-    ∙ ap (λ g. countedHolds (s .args .known) (toZ w32 (ofZ w32 (s .args .x))) (s .args .row .now) (getD (s .args .lower .now) i 0) g (getD (s .args .upper .now) i 0)) (toZ-ofZ (fits32 (getD (s .args .gap .now) i (pos 0)) (c .before .before .g .given)))
+    ∙ ap (λ g. pairHolds (paddedValue (s .args .row .now)) (getD (s .args .lower .now) i 0) g (getD (s .args .upper .now) i 0)) (toZ-ofZ (fits32 (getD (s .args .gap .now) i (pos 0)) (c .before .before .g .given)))
 
 capped-requires : tie.Need-capped-requires Inv-loop μ-loop
 capped-requires c κs = search needs
@@ -64,7 +62,7 @@ pair-holds-requires c κs = search needs
 
 returns : tie.Need-returns Inv-loop μ-loop
 returns c =
-    rw (← toZ-ofZ ((c .before .before .before .before .before .before .before .before .fits .x))) (all-stop _ _ _ _ ((c .before .before .before .before .before .before .loop .inv)) (omega arith) (sym (tested (c .before)) ∙ not-true _ ((c .if1 .taken))))
+    all-stop _ _ _ _ ((c .before .before .before .before .before .before .loop .inv)) (omega arith) (sym (tested (c .before)) ∙ not-true _ ((c .if1 .taken)))
 
 add-i : tie.Need-add-i Inv-loop μ-loop
 add-i c = omega arith
@@ -78,7 +76,7 @@ loop-again c =
 
 returns-2 : tie.Need-returns-2 Inv-loop μ-loop
 returns-2 c =
-    rw (← toZ-ofZ ((c .before .before .before .fits .x))) (all-over _ _ _ _ ((c .before .loop .inv)) (omega arith))
+    all-over _ _ _ _ ((c .before .loop .inv)) (omega arith)
 
 pub row-holds-spec : {M : Type 1} → statement M
 row-holds-spec =

@@ -19,28 +19,31 @@ use Rattle.rules.proofs.try_change.Tie as tie
 use Rattle.rules.proofs.try_change.Reads as reads
 use Rattle.rules.proofs.try_change.Lts as lts
 use Rattle.change.proofs.apply.Reads as apply-reads
+use Rattle.rules.proofs.capped.Reads as capped-reads
 use Rattle.rules.proofs.rules_hold.Reads as rules-hold-reads
 use Rattle.rules.proofs.value_at.Reads as value-at-reads
 
 -- the value that the change makes
 abbrev result : tie.Start → ℤ
-result s = applied (viewChange (s .args .change)) (value (row (s .args .values .now) (s .args .at) (s .args .n)) (s .args .m))
+result s = applied (viewChange (s .args .change)) (value (row (s .args .values .now) (s .args .at) (min (s .args .n) 32)) (s .args .m))
 
-gives : (c : tie.After-apply) → c .apply .result ≡ rangedOf (result (c .before .before))
+gives : (c : tie.After-apply) → c .apply .result ≡ rangedOf (result (c .before .before .before))
 gives c =
     let v = c .before .value-at in
-    c .apply .ensures ∙ ap (λ y. rangedOf (applied (viewChange (c .before .before .args .change)) y)) (toZ-ofZ (fits32 (v .result) (v .ok)) ∙ v .ensures)
+    let a = c .before .before .before .args in
+    c .apply .ensures
+    ∙ ap (λ y. rangedOf (applied (viewChange (a .change)) y)) (toZ-ofZ (fits32 (v .result) (v .ok)) ∙ v .ensures ∙ ap (λ n. value (row (a .values .now) (a .at) n) (a .m)) (c .before .before .capped .ensures))
 
 -- it is in range, and the rules are tested where the measure counts as it
 module _ (c : tie.After-rules-hold) where
   abbrev start : tie.Start
-  start = c .before .before .before .before .before .before
+  start = c .before .before .before .before .before .before .before
 
   abbrev x : ℤ
   x = c .before .before .made .given .0 .0
 
   abbrev values : List ℤ
-  values = row (start .args .values .now) (start .args .at) (start .args .n)
+  values = row (start .args .values .now) (start .args .at) (min (start .args .n) 32)
 
   abbrev test : List ℤ → Bool
   test = holdsIn (start .args .lower .now) (start .args .gap .now) (start .args .upper .now) (min (start .args .k) 64)
@@ -57,6 +60,9 @@ module _ (c : tie.After-rules-hold) where
   parts : trialOf test (start .args .m) (viewChange (start .args .change)) values ≡ cond (c .rules-hold .result) (Effective (result start)) Broken
   parts = trial-parts test (start .args .m) (viewChange (start .args .change)) values ∙ rw (tried .0, ← tested)
 
+capped-requires : tie.Need-capped-requires
+capped-requires c κs = search needs
+
 value-at-requires : tie.Need-value-at-requires
 value-at-requires c κs = search needs
 
@@ -71,8 +77,8 @@ enum-told c = search needs
 
 returns : tie.Need-returns
 returns c =
-    let s = (c .before .before .before .before) in
-    sym (trial-parts _ (s .args .m) (viewChange (s .args .change)) (row (s .args .values .now) (s .args .at) (s .args .n)) ∙ rw (ranged-out (result s) (sym ((c .enum-told .given .1)) ∙ gives (c .before .before))))
+    let s = (c .before .before .before .before .before) in
+    sym (trial-parts _ (s .args .m) (viewChange (s .args .change)) (row (s .args .values .now) (s .args .at) (min (s .args .n) 32)) ∙ rw (ranged-out (result s) (sym ((c .enum-told .given .1)) ∙ gives (c .before .before))))
 
 rules-hold-requires : tie.Need-rules-hold-requires
 rules-hold-requires c κs = search needs
@@ -91,6 +97,7 @@ pub try-change-spec : {M : Type 1} → statement M
 try-change-spec =
     tie.close
     (tie.spec
+    capped-requires
     value-at-requires
     apply-requires
     enum-known-made
