@@ -7,19 +7,22 @@ use mathlib.Core.Logic.{_≢_}
 use mathlib.Core.List.{List, [], _∷_}
 use borrow.Author.Tests.{ne-eqb}
 use lib.IntN.{ℤ, pos}
-use lib.Dec.{eqb→eq}
+use lib.Dec.{T, ltb, eqb→eq, ltb→lt}
 use lib.ListN.{length, getD, set}
 use Rattle.protocol.specs.Lists.{natural, none, snoc}
-use Rattle.protocol.specs.Plan.{Rule, blank, is, modeNumber}
-use Rattle.protocol.specs.Calls.{measure, rule, open-plan, first, checks, further, firstValues, onValues, ruleOf, after, gives}
-use Rattle.protocol.proofs.Laws.{is-yes}
+use Rattle.protocol.specs.Plan.{Rule, blank, is, modeNumber, measureLimit, ruleLimit}
+use Rattle.protocol.specs.Calls.{measure, rule, open-plan, first, checks, further, firstValues, onValues, ruleOf, after, gives, ok}
+use Rattle.protocol.proofs.Laws.{is-yes, yes-is}
 use Rattle.rules.specs.Rows.{row, rulesIn, withValue}
 use Rattle.rules.proofs.Spans.{length-span, span-same, span-snoc, getD-set, getD-other}
 use Rattle.rules.proofs.Rows.{holds-is}
+use Rattle.state.specs.declared.Answer.the-variants.{Number}
 use Rattle.state.specs.declared.Head.{Head}
 use Rattle.state.specs.declared.State.{State}
 use Rattle.state.specs.View.{view, modeOf, sidesIn, sideOf, measuresIn, rulesOf}
 use Rattle.state.proofs.Views.{Sized, plan-same, sides-modify, sides-least, first-row, row-snoc, row-length}
+use Rattle.state.specs.Meets.{Meets}
+use Rattle.state.proofs.Steps.{Checked, accepts}
 use Rattle.draw.specs.Draw.{measureChecks, ruleChecks, openChecks, measured, ruled, opened}
 
 drawn-length : (p : State) → length (firstValues (view p .content)) ≡ measuresIn (p .head)
@@ -60,7 +63,7 @@ longer p z v h =
     let f : 0 + n ≡ n = omega arith in
     ap (row (set (p .values) n v) 0) m ∙ ap (λ k. row (set (p .values) k v) 0 (suc n)) (sym f) ∙ row-snoc (p .values) 0 n v (let l = z .values in omega arith) ∙ ap (λ k. snoc (row (p .values) 0 k) v) o
 
-pub measure-next : (p : State) → Sized p → (v : ℤ) → is blank (modeOf (p .head .mode)) ≡ true → p .head .measures < 32 → view (measureTo p (min (p .head .measures) 31) v) ≡ after (measure v) (view p .mode) (view p .content)
+measure-next : (p : State) → Sized p → (v : ℤ) → is blank (modeOf (p .head .mode)) ≡ true → p .head .measures < 32 → view (measureTo p (min (p .head .measures) 31) v) ≡ after (measure v) (view p .mode) (view p .content)
 unfolding after
 measure-next p z v b h =
     plan-same refl refl refl refl refl
@@ -69,9 +72,16 @@ measure-next p z v b h =
     (λ k a c ne. absurd (ne (let one = alone (p .head) b in omega arith))))
     refl
 
-pub measure-given : (p : State) (v : ℤ) → p .head .measures < 32 → _≡_ {A = List ℤ} (pos (min (p .head .measures) 31 + 1) ∷ []) (gives (measure v) (view p .mode) (view p .content))
+measure-given : (p : State) (v : ℤ) → p .head .measures < 32 → _≡_ {A = List ℤ} (pos (min (p .head .measures) 31 + 1) ∷ []) (gives (measure v) (view p .mode) (view p .content))
 unfolding gives
 measure-given p v h = let e = drawn-length p in let n : min (p .head .measures) 31 + 1 ≡ suc (length (firstValues (view p .content))) = omega arith in ap {B = List ℤ} (λ k. pos k ∷ []) n
+
+pub measure-accepts : (p : State) → Sized p → (v : ℤ) {k : ℕ} → Checked (measure v) p (measureChecks (p .head) v) k → k ≡ 0
+    → let n = min (p .head .measures) 31 in Meets (measure v) p (record { state = measureTo p n v; answer = Number (n + 1) })
+measure-accepts p z v w e = accepts _ w tt e (λ t. ap ok (measure-given p v (room (t .1 .0)))) (λ t. measure-next p z v (yes-is _ (t .0)) (room (t .1 .0))) tt
+  where
+    room : T (ltb (measuresIn (p .head)) measureLimit) → p .head .measures < 32
+    room t = let l = ltb→lt (measuresIn (p .head)) measureLimit t in omega arith
 
 -- ---- rule
 
@@ -134,7 +144,7 @@ rules-snoc p z n r h =
           firm = getD-set (p .firm) n (r .firm) false (let l = z .firm in omega arith) i;
         }
 
-pub rule-next : (p : State) → Sized p → (a c b f : ℤ) → p .head .rules < 64 → view (ruleTo p (min (p .head .rules) 63) (ruleOf a c b f)) ≡ after (rule a c b f) (view p .mode) (view p .content)
+rule-next : (p : State) → Sized p → (a c b f : ℤ) → p .head .rules < 64 → view (ruleTo p (min (p .head .rules) 63) (ruleOf a c b f)) ≡ after (rule a c b f) (view p .mode) (view p .content)
 unfolding after
 rule-next p z a c b f h =
     let n = min (p .head .rules) 63 in
@@ -145,9 +155,16 @@ rule-next p z a c b f h =
     (ap (rulesIn (set (p .lower) n (r .lower)) (set (p .gap) n (r .gap)) (set (p .upper) n (r .upper)) (set (p .firm) n (r .firm))) m ∙ rules-snoc p z n r (omega arith) ∙ ap (λ k. snoc (rulesIn (p .lower) (p .gap) (p .upper) (p .firm) k) r) o)
     refl refl refl refl refl
 
-pub rule-given : (p : State) (a c b f : ℤ) → p .head .rules < 64 → _≡_ {A = List ℤ} (pos (min (p .head .rules) 63 + 1) ∷ []) (gives (rule a c b f) (view p .mode) (view p .content))
+rule-given : (p : State) (a c b f : ℤ) → p .head .rules < 64 → _≡_ {A = List ℤ} (pos (min (p .head .rules) 63 + 1) ∷ []) (gives (rule a c b f) (view p .mode) (view p .content))
 unfolding gives
 rule-given p a c b f h = let e = rules-length p in let n : min (p .head .rules) 63 + 1 ≡ suc (length (rulesOf p)) = omega arith in ap {B = List ℤ} (λ k. pos k ∷ []) n
+
+pub rule-accepts : (p : State) → Sized p → (a c b f : ℤ) {k : ℕ} → Checked (rule a c b f) p (ruleChecks (p .head) (natural a) c (natural b) f) k → k ≡ 0
+    → let n = min (p .head .rules) 63 in Meets (rule a c b f) p (record { state = ruleTo p n (ruleOf a c b f); answer = Number (n + 1) })
+rule-accepts p z a c b f w e = accepts _ w tt e (λ t. ap ok (rule-given p a c b f (room (t .1 .0)))) (λ t. rule-next p z a c b f (room (t .1 .0))) tt
+  where
+    room : T (ltb (min (p .head .rules) 64) ruleLimit) → p .head .rules < 64
+    room t = let l = ltb→lt (min (p .head .rules) 64) ruleLimit t in omega arith
 
 -- ---- open
 

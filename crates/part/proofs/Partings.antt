@@ -14,7 +14,7 @@ use Rattle.protocol.specs.Plan.{Plan, modeNumber, whole, split, is, Side, sideA
 use Rattle.protocol.specs.Calls.{first, checks, further, after, gives, ok, join, split-side, reset, freshSide, firstValues, withBase, withKept, withSides}
 use Rattle.protocol.proofs.Laws.{range, which}
 use Rattle.rules.specs.Rows.{span, row, copiedIn}
-use Rattle.rules.proofs.Spans.{span-same, span-snoc, map-span}
+use Rattle.rules.proofs.Spans.{span-same, span-snoc, map-span, getD-blank}
 use Rattle.state.specs.declared.Answer.the-variants.{Done, Number}
 use Rattle.state.specs.declared.Head.{Head}
 use Rattle.state.specs.declared.State.{State}
@@ -24,15 +24,10 @@ use Rattle.state.specs.Meets.{refusalOf, Meets}
 use Rattle.state.proofs.Views.{plan-same, sides-length, side-at, first-row}
 use Rattle.state.proofs.Meeting.{refused-meets, accepted-meets}
 use Rattle.part.specs.Parting.{splitChecks, splitHead, joinHead, splitBase}
-use Rattle.part.proofs.Steps.{Checked, accepts, stored, flag-set, flag-other}
+use Rattle.state.proofs.Steps.{Checked, accepts, stored, flag-set, flag-other}
 use Rattle.rules.proofs.Copies.{row-copied, row-beside}
 
 -- ---- join
-
-getD-blank : {A : Type 0} (n i : ℕ) (d : A) → getD (replicate n d) i d ≡ d
-getD-blank zero i d = refl
-getD-blank (suc n) zero d = refl
-getD-blank (suc n) (suc i) d = getD-blank n i d
 
 pub join-refuses : (p : State) → modeNumber (modeOf (p .head .mode)) ≢ 2 → Meets join p (refusedAs p 31)
 unfolding checks further
@@ -120,6 +115,6 @@ pub split-accepts : (p : State) (s : ℤ) {side k n from to i : ℕ} → side �
 unfolding after gives
 split-accepts p s w e a b c d u v f g z =
     rw (b, c, d, a, w) (accepts _ e tt z
-    (ap (λ x. ok (pos (suc x) ∷ [])) (sym (sides-length p)))
+    (λ t. ap (λ x. ok (pos (suc x) ∷ [])) (sym (sides-length p)))
     (λ t. split-plan p (is whole (modeOf (p .head .mode))) _ _ (split-sides p (natural s) (t .1 .0) (ltb→lt (sidesIn (p .head)) 8 (t .1 .1 .0)) v f g) (split-end (p .head) (t .0)) u v)
     tt)

@@ -1,12 +1,11 @@
 -- Laws of the reading calls: what each gives, from the arrays of the state. Assumes nothing.
-use Prim.Native.Nat.{ℕ, zero, suc, _+_, _-_, _<_, _≤_}
+use Prim.Native.Nat.{ℕ, zero, suc, _+_, _-_, _<_, _≤_, min}
 use native.Mathlib.Omega.{arith}
-use native.Mathlib.Numerals.{add-one}
 use mathlib.Core.Bool.{Bool, true, not, _||_}
 use mathlib.Core.Path.{_≡_, refl, sym, ap, ap₂, _∙_}
 use mathlib.Core.Logic.{inl, inr, _≢_}
 use mathlib.Core.List.{List, [], _∷_, _++_}
-use borrow.Author.Tests.{eqb-true, eqb-false, eq-eqb, ne-eqb, lt-ltb, ltb-true, ltb-false, le-leb}
+use borrow.Author.Tests.{eqb-true, eqb-false, eq-eqb, ne-eqb, lt-ltb, le-leb}
 use lib.Dec.{eqb, ltb, eqb·suc-zero}
 use lib.IntN.{ℤ, pos}
 use lib.ListN.{length, getD, set, take, drop, length-set}
@@ -14,14 +13,14 @@ use Rattle.protocol.specs.Lists.{bit, natural, oneTo, tally, count}
 use Rattle.protocol.specs.Plan.{Kept, fateNumber, isOpen, sideAt, lookup, unsentOf, pending}
 use Rattle.protocol.specs.Calls.{show, fine, refused, first, checks, further, gives, step, fateIn, leftIn, shown}
 use Rattle.protocol.proofs.Laws.{cases, range, yes-is, is-yes, tally-same}
-use Rattle.rules.specs.Rows.{span, row}
-use Rattle.rules.proofs.Spans.{getD-set, getD-other}
+use Rattle.rules.specs.Rows.{span, row, copied, copiedIn}
+use Rattle.rules.proofs.Spans.{getD-set, getD-other, below}
 use Rattle.state.specs.declared.EditRecord.{EditRecord}
 use Rattle.state.specs.declared.Head.{Head}
 use Rattle.state.specs.declared.State.{State}
 use Rattle.state.specs.View.{view, sidesIn, indexOf, offsetOf, measuresIn, fateOf, keptAt, logOf, keptOf, noRecord}
 use Rattle.state.specs.Parts.{positionOf, placeOf, unsetIn}
-use Rattle.state.proofs.Views.{sides-most, sides-length, side-at, row-length}
+use Rattle.state.proofs.Views.{index-suc, sides-most, sides-length, side-at, row-length}
 use Rattle.state.proofs.Meeting.{fine-pass}
 use Rattle.state.proofs.Logs.{Placed, placed}
 use Rattle.query.specs.Reads.{showChecks, pendingIn, unsentCounts, leftNumber}
@@ -71,13 +70,6 @@ fate-some e k n es most h = by (placed e k n es)
 
 -- ---- left
 
--- one side more
-pub tally-next : (f : ℕ → Bool) (i k b : ℕ) → k ≡ tally f i → b ≡ bit (f (suc i)) → k + b ≡ tally f (i + 1)
-tally-next f i k b e g = let m = ap (tally f) (add-one i) in omega arith
-
-pub index-suc : (i : ℕ) → i < 8 → indexOf (suc i) ≡ i
-index-suc i h = omega arith
-
 counts-length : (h : Head) (es : List EditRecord) (n : ℕ) → length (unsentCounts h es n) ≡ 8
 unfolding unsentCounts
 counts-length h es zero = refl
@@ -90,10 +82,7 @@ counts-at h es (suc n) i most l =
     let ih = counts-at h es n i (omega arith) in
     cases (eqb i n)
     (λ t. rw (eqb-true i n t) (getD-set (unsentCounts h es n) n (unsentOf (suc n) (keptOf h es)) 0 (let c = counts-length h es n in omega arith)))
-    (λ t. let ne = eqb-false i n t in getD-other (unsentCounts h es n) n i (unsentOf (suc n) (keptOf h es)) 0 ne ∙ ih (below i n l ne))
-  where
-    below : (i n : ℕ) → i < suc n → i ≢ n → i < n
-    below i n l ne = cases (ltb i n) (λ t. ltb-true i n t) (λ t. absurd (ne (let b = ltb-false i n t in omega arith)))
+    (λ t. let ne = eqb-false i n t in getD-other (unsentCounts h es n) n i (unsentOf (suc n) (keptOf h es)) 0 ne ∙ ih (below n i ne (omega arith)))
 
 -- the counts that the code lends are those of the protocol
 pub counts-side : (h : Head) (es : List EditRecord) (s : ℕ) → 0 < s → s ≤ 8 → getD (unsentCounts h es 8) (indexOf s) 0 ≡ unsentOf s (keptOf h es)
@@ -135,12 +124,22 @@ shown-fine p s buffer e =
     rw (show-checks p s (length buffer) ∙ e, shown-row p s (yes-is _ (t .1 .0)), row-length (p .values) (offsetOf (natural s)) (measuresIn (p .head)))
 
 -- one value more in the buffer
-pub fill-next : (vs : List ℤ) (at i : ℕ) (buffer : List ℤ) (x : ℤ) → i < length buffer → x ≡ getD vs (at + i) (pos 0) → set (row vs at i ++ drop i buffer) i x ≡ row vs at (suc i) ++ drop (suc i) buffer
+fill-next : (vs : List ℤ) (at i : ℕ) (buffer : List ℤ) (x : ℤ) → i < length buffer → x ≡ getD vs (at + i) (pos 0) → set (row vs at i ++ drop i buffer) i x ≡ row vs at (suc i) ++ drop (suc i) buffer
 fill-next vs at i [] x h e = absurd (omega arith)
 fill-next vs at zero (y ∷ ys) x h e = let z : at + 0 ≡ at = omega arith in ap {B = List ℤ} (λ v. v ∷ ys) (e ∙ ap (λ j. getD vs j (pos 0)) z)
 fill-next vs at (suc i) (y ∷ ys) x h e =
     let z : at + suc i ≡ suc at + i = omega arith in
     ap {B = List ℤ} (λ zs. getD vs at (pos 0) ∷ zs) (fill-next vs (suc at) i ys x (omega arith) (e ∙ ap (λ j. getD vs j (pos 0)) z))
+
+pub filled : (vs : List ℤ) (at n : ℕ) (buffer : List ℤ) → at + n ≤ length vs → n ≤ length buffer → copiedIn buffer vs at 0 n ≡ row vs at n ++ drop n buffer
+unfolding copied
+filled vs at n buffer h k =
+    let e : min n (min (length buffer - 0) (length vs - at)) ≡ n = omega arith in
+    ap (copied buffer vs at 0) e ∙ up n k
+  where
+    up : (m : ℕ) → m ≤ length buffer → copied buffer vs at 0 m ≡ row vs at m ++ drop m buffer
+    up zero l = refl
+    up (suc m) l = let z : 0 + m ≡ m = omega arith in ap₂ (λ xs i. set xs i (getD vs (at + m) (pos 0))) (up m (omega arith)) z ∙ fill-next vs at m buffer _ (omega arith) refl
 
 -- the part that is handed back
 pub front : (i n : ℕ) (f : ℕ → ℤ) (rest : List ℤ) → take n (span i n f ++ rest) ≡ span i n f

@@ -2,7 +2,7 @@
 ghost use mathlib.Core.Path.{_≡_};
 ghost use mathlib.Core.Bool.{not, _||_};
 ghost use mathlib.Core.List.{_++_};
-ghost use Prim.Native.Nat.{_≤_, min};
+ghost use Prim.Native.Nat.{_+_, _≤_, min};
 ghost use lib.Dec.{ltb};
 ghost use lib.ListN.{length, drop};
 ghost use Rattle.protocol.specs.Lists.{bit};
@@ -142,15 +142,10 @@ pub fn show_refusal(h: Head, s: u32, room: usize) -> u32
 
 // The n values from a place on, copied to the front of a buffer that has room for them; the rest is untouched.
 fn fill(values: &[i32; 256], at: usize, n: usize, buffer: &mut [i32])
-    requires { ⌜ (at ≤ 224) × (n ≤ 32) × (n ≤ length (now buffer)) ⌝ }
+    requires { ⌜ (at + n ≤ length (now values)) × (n ≤ length (now buffer)) ⌝ }
     ensures { λ _. ⌜ now (buffer .exit) ≡ row (now (values .entry)) at n ++ drop n (now (buffer .entry)) ⌝ }
 {
-    let mut i: usize = 0;
-    while i < n {
-        let v = values[at + i];
-        buffer[i] = v;
-        i += 1;
-    }
+    rules::copy(buffer, values, at, 0, n);
 }
 
 // The side's values in the front of the lent buffer, and that part handed back; the refusal number, 0 if accepted, beside it.

@@ -5,7 +5,7 @@ use mathlib.Core.Bool.{Bool, true, false, not, cond, _||_}
 use mathlib.Core.Path.{_≡_, refl, sym, ap, ap₂, _∙_}
 use mathlib.Core.Logic.{_≢_}
 use mathlib.Core.List.{List, [], _∷_, map}
-use borrow.Author.Tests.{eqb-true, eqb-false, ltb-true, ltb-false}
+use borrow.Author.Tests.{eqb-true, eqb-false}
 use lib.Dec.{T, eqb, ltb, eqb→eq}
 use lib.IntN.{ℤ, pos}
 use lib.ListN.{length, getD, set, length-set}
@@ -15,7 +15,7 @@ use Rattle.protocol.specs.Calls.{Call, Check, _unless_, _when_, first, refused,
 use Rattle.protocol.proofs.Laws.{cases, range, is-yes}
 use Rattle.rules.specs.Rows.{span, copiedIn}
 use Rattle.rules.proofs.Copies.{row-copied}
-use Rattle.rules.proofs.Spans.{span-same, map-span, getD-set, getD-other}
+use Rattle.rules.proofs.Spans.{span-same, map-span, getD-set, getD-other, below}
 use Rattle.state.specs.declared.Answer.the-variants.{Done, Number}
 use Rattle.state.specs.declared.EditRecord.{EditRecord}
 use Rattle.state.specs.declared.Head.{Head}
@@ -25,7 +25,7 @@ use Rattle.state.specs.View.{view, modeOf, sidesIn, sideOf, indexOf, keptIn, ke
 use Rattle.state.specs.Parts.{unsetIn}
 use Rattle.state.specs.Meets.{refusalOf, Meets}
 use Rattle.state.proofs.Views.{plan-same, sides-most, sides-length, side-at, sides-modify, flags-unset}
-use Rattle.part.proofs.Steps.{Checked, accepts, stored, flag-set, flag-other}
+use Rattle.state.proofs.Steps.{Checked, accepts, stored, flag-set, flag-other}
 use Rattle.reconcile.specs.Moves.{sendChecks, turnChecks, stopChecks, confirmChecks, installChecks, inMode, installHead}
 
 -- ---- the checks of each call
@@ -131,9 +131,6 @@ sent-next s before next i r h w e = record { size = length-set next i r ∙ w .s
         cases (eqb j i)
         (λ t. let l = w .size in rw (eqb-true j i t) (ap (keptAt n) (getD-set next i r noRecord (omega arith)) ∙ e n ∙ ap (λ x. sent s (keptAt n x)) (w .rest i (omega arith))))
         (λ t. let ne = eqb-false j i t in ap (keptAt n) (getD-other next i j r noRecord ne) ∙ w .done j (below i j ne a) n)
-      where
-        below : (i j : ℕ) → j ≢ i → j < i + 1 → j < i
-        below i j ne a = cases (ltb j i) (λ t. ltb-true j i t) (λ t. absurd (ne (let u = ltb-false j i t in omega arith)))
 
 pub sent-over : (s : ℕ) (h : Head) (before next : List EditRecord) (i : ℕ) → keptIn h ≤ i → Sent s before next i → keptOf h next ≡ map (sent s) (keptOf h before)
 sent-over s h before next i k w =
@@ -146,7 +143,7 @@ stopTo p = stored p (inMode (p .head) Closing) (p .base) (p .draft) (p .values) 
 
 pub stop-accepts : (p : State) {k : ℕ} → Checked stop p (stopping p) k → k ≡ 0 → Meets stop p (record { state = stopTo p; answer = Done })
 unfolding after gives
-stop-accepts p w z = accepts _ w tt z refl (λ t. rw (eqb→eq (modeNumber (modeOf (p .head .mode))) 3 (t .0))) tt
+stop-accepts p w z = accepts _ w tt z (λ t. refl) (λ t. rw (eqb→eq (modeNumber (modeOf (p .head .mode))) 3 (t .0))) tt
 
 abbrev pub installTo : State → State
 installTo p = stored p (installHead (p .head)) (p .base) (p .draft) (copiedIn (p .values) (p .draft) 0 0 32) (set (p .arrived) 0 false) (set (p .confirmed) 0 false) (p .edits)
@@ -154,7 +151,7 @@ installTo p = stored p (installHead (p .head)) (p .base) (p .draft) (copiedIn (p
 pub install-accepts : (p : State) {k : ℕ} → Checked install p (installing p) k → length (p .draft) ≡ 32 → length (p .values) ≡ 256 → length (p .arrived) ≡ 8 → length (p .confirmed) ≡ 8 → k ≡ 0 → Meets install p (record { state = installTo p; answer = Done })
 unfolding after gives
 install-accepts p w d v a c z =
-    accepts _ w tt z refl
+    accepts _ w tt z (λ t. refl)
     (λ t. rw (eqb→eq (modeNumber (modeOf (p .head .mode))) 4 (t .0))
     (plan-same refl refl refl refl refl (λ i. record { values = row-copied (p .values) (p .draft) 0 0 (min (p .head .drafted) 32) (omega arith) (omega arith) (omega arith) i; arrived = getD-set (p .arrived) 0 false false (omega arith) i; confirmed = getD-set (p .confirmed) 0 false false (omega arith) i } ∷ []) refl))
     tt
@@ -176,7 +173,7 @@ pub confirm-accepts : (p : State) (s : ℤ) {side i n k : ℕ} → Named p s sid
     → Meets (confirm s) p (record { state = stored p (p .head) (p .base) (p .draft) (p .values) (p .arrived) (set (p .confirmed) i true) (p .edits); answer = Done })
 unfolding after gives
 confirm-accepts p s w e l z =
-    rw (at-place w) (accepts _ e tt z refl
+    rw (at-place w) (accepts _ e tt z (λ t. refl)
     (λ t. plan-same refl refl refl refl refl
     (flag-sides (p .head) (natural s) (p .confirmed) (λ x b. record { values = sideOf p x .values; arrived = sideOf p x .arrived; confirmed = b }) hasConfirmed (t .1 .0) l (λ x b. refl))
     refl)
@@ -187,7 +184,7 @@ pub send-accepts : (p : State) (s : ℤ) {side i n k : ℕ} → Named p s side i
 unfolding after gives
 send-accepts p s w e es f l z =
     rw (at-place w) (accepts _ e tt z
-    (ap (λ x. ok (pos x ∷ [])) (w .unsent ∙ ap (λ x. unsentOf x (view p .content .kept)) (w .number)))
+    (λ t. ap (λ x. ok (pos x ∷ [])) (w .unsent ∙ ap (λ x. unsentOf x (view p .content .kept)) (w .number)))
     (λ t. plan-same refl refl refl refl refl
     (flag-sides (p .head) (natural s) (p .arrived) (λ x b. record { values = sideOf p x .values; arrived = b; confirmed = sideOf p x .confirmed }) hasArrived (t .1 .0) l (λ x b. refl))
     (f ∙ ap (λ x. map (sent x) (keptOf (p .head) (p .edits))) (w .number)))

@@ -17,7 +17,7 @@ use Rattle.rules.specs.declared.Trial.{Trial}
 use Rattle.rules.specs.declared.Trial.the-variants.{Effective, OutOfRange, Broken}
 use Rattle.rules.specs.Rows.{span, row, withValue, pairHolds, holdsAt, holdsIn, copiedIn, namesPair, firmAt, firmIn, rulesIn, trialOf}
 use Rattle.rules.proofs.Copies.{length-copied, copied-inside, copied-outside}
-use Rattle.rules.proofs.Spans.{length-span, span-same, nth-span, nth-past, modify-span, all-span, any-span, getD-set, getD-other}
+use Rattle.rules.proofs.Spans.{length-span, span-same, nth-span, nth-past, modify-span, all-span, any-span, getD-blank, getD-set, getD-other}
 
 -- ---- values of a row
 
@@ -142,11 +142,6 @@ row-apart vs at n i x h = span-same at n _ _ (λ k p q. getD-other vs i k x (pos
 
 -- ---- a row that begins at place 1, where one measure counts as another number
 
-all-nought : (n k : ℕ) → getD (replicate n (pos 0)) k (pos 0) ≡ pos 0
-all-nought zero k = refl
-all-nought (suc n) zero = refl
-all-nought (suc n) (suc k) = all-nought n k
-
 pub padded-row : (vs : List ℤ) (at n k : ℕ) → n ≤ 32 → getD (copiedIn (replicate 33 (pos 0)) vs at 1 n) k (pos 0) ≡ value (row vs at n) k
 padded-row vs at n zero h = copied-outside (replicate 33 (pos 0)) vs at 1 (min n (min (33 - 1) (length vs - at))) 0 (λ i p z. omega arith) ∙ value-none (row vs at n) 0 refl
 padded-row vs at n (suc j) h =
@@ -159,7 +154,7 @@ padded-row vs at n (suc j) h =
     (λ t.
     let i = ltb-false j e t in
     copied-outside zeros vs at 1 e (suc j) (λ l p z. omega arith)
-    ∙ all-nought 33 (suc j)
+    ∙ getD-blank 33 (suc j) (pos 0)
     ∙ cases (ltb j n) (λ u. let l = ltb-true j n u in value-beyond vs at n (suc j) (omega arith) (omega arith)) (λ u. let l = ltb-false j n u in value-outside vs at n (suc j) (omega arith) (omega arith)))
 
 pub padded-with : (vs : List ℤ) (at n m k : ℕ) (x : ℤ) → n ≤ 32 → oneTo n m ≡ true → getD (set (copiedIn (replicate 33 (pos 0)) vs at 1 n) m x) k (pos 0) ≡ value (withValue m x (row vs at n)) k

@@ -5,9 +5,9 @@ use mathlib.Core.Bool.{Bool, true, false, _&&_, _||_}
 use mathlib.Core.Path.{_≡_, refl, sym, ap, ap₂, _∙_}
 use mathlib.Core.Logic.{_≢_}
 use mathlib.Core.List.{List, [], _∷_, map}
-use borrow.Author.Tests.{eqb-true, eqb-false}
-use lib.Dec.{eqb}
-use lib.ListN.{length, getD, set}
+use borrow.Author.Tests.{ltb-true, ltb-false}
+use lib.Dec.{eqb, ltb}
+use lib.ListN.{length, getD, set, replicate}
 use Rattle.protocol.specs.Lists.{bit, tally, count, all, any, snoc, nth, modify}
 use Rattle.protocol.proofs.Laws.{cases}
 use Rattle.rules.specs.Rows.{span}
@@ -141,6 +141,16 @@ module _ {A : Type 0} where
   getD-other (y ∷ xs) zero (suc k) x d h = refl
   getD-other (y ∷ xs) (suc i) zero x d h = refl
   getD-other (y ∷ xs) (suc i) (suc k) x d h = getD-other xs i k x d (λ e. h (ap suc e))
+
+  -- an array of nothing but its default
+  pub getD-blank : (n i : ℕ) (d : A) → getD (replicate n d) i d ≡ d
+  getD-blank zero i d = refl
+  getD-blank (suc n) zero d = refl
+  getD-blank (suc n) (suc i) d = getD-blank n i d
+
+-- a place of the first i + 1 that is not the last
+pub below : (i j : ℕ) → j ≢ i → j < i + 1 → j < i
+below i j ne a = cases (ltb j i) (λ t. ltb-true j i t) (λ t. absurd (ne (let u = ltb-false j i t in omega arith)))
 
 -- a property of every element, as a test
 pub all-span : {A B : Type 0} (p : A → Bool) (q : B → Bool) (i n : ℕ) (f : ℕ → A) (g : ℕ → B) → ((k : ℕ) → p (f k) ≡ q (g k)) → all p (span i n f) ≡ all q (span i n g)

@@ -1,3 +1,4 @@
 pub mod Views
 pub mod Logs
 pub mod Meeting
+pub mod Steps

@@ -95,13 +95,16 @@ row-snoc vs at n v h =
     span-snoc at n (λ i. getD (set vs (at + n) v) i (pos 0))
     ∙ ap₂ (λ xs x. snoc xs x) (span-same at n _ _ (λ k a b. getD-other vs (at + n) k v (pos 0) (λ e. omega arith))) (getD-set vs (at + n) v (pos 0) h)
 
+-- one side more, and its place among the flags
+pub tally-next : (f : ℕ → Bool) (i k b : ℕ) → k ≡ tally f i → b ≡ bit (f (suc i)) → k + b ≡ tally f (i + 1)
+tally-next f i k b e g = let m = ap (tally f) (add-one i) in omega arith
+
+pub index-suc : (i : ℕ) → i < 8 → indexOf (suc i) ≡ i
+index-suc i h = omega arith
+
 -- one flag more
 pub unset-next : (flags : List Bool) (i k b : ℕ) → i < 8 → k ≡ unsetIn flags i → b ≡ bit (not (getD flags i false)) → k + b ≡ unsetIn flags (i + 1)
-unset-next flags i k b h e f =
-    let at : indexOf (suc i) ≡ i = omega arith in
-    let n = ap (λ j. bit (not (getD flags j false))) at in
-    let m = ap (unsetIn flags) (add-one i) in
-    omega arith
+unset-next flags i k b h e f = tally-next (λ s. not (getD flags (indexOf s) false)) i k b e (f ∙ ap (λ j. bit (not (getD flags j false))) (sym (index-suc i h)))
 
 -- how many sides have a flag that is not set, as the protocol counts them
 pub flags-unset : (p : State) (flag : Side → Bool) (flags : List Bool) → ((s : ℕ) → flag (sideOf p s) ≡ getD flags (indexOf s) false) → sidesThat (λ s. not (flag (sideAt (view p .content) s))) (view p .content) ≡ unsetIn flags (sidesIn (p .head))

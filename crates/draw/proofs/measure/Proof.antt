@@ -1,17 +1,11 @@
-use native.Mathlib.Omega.{arith}
-use Prim.Native.Nat.{_<_}
 use mathlib.Core.Path.{_≡_, ap, _∙_}
-use lib.Dec.{ltb→lt}
 use mir.Facts.{toZ-ofZ}
-use Rattle.protocol.specs.Plan.{measureLimit}
-use Rattle.protocol.specs.Calls.{measure, first, ok}
-use Rattle.protocol.proofs.Laws.{yes-is}
-use Rattle.state.specs.View.{measuresIn}
+use Rattle.protocol.specs.Calls.{measure, first}
 use Rattle.state.specs.Meets.{refusalOf}
 use Rattle.state.proofs.Views.{owned-sized}
-use Rattle.state.proofs.Meeting.{refused-meets, accepted-meets, verdict-refused, verdict-fine, fine-pass}
+use Rattle.state.proofs.Steps.{Checked, refuses}
 use Rattle.draw.specs.Draw.{measureChecks}
-use Rattle.draw.proofs.Draws.{measure-checks, measure-given, measure-next}
+use Rattle.draw.proofs.Draws.{measure-checks, measure-accepts}
 use borrow.Author.Needs.{needs}
 use Rattle.draw.proofs.measure.Statement.{statement}
 use Rattle.draw.proofs.measure.Tie as tie
@@ -23,8 +17,8 @@ use Rattle.rules.proofs.capped.Reads as capped-reads
 use Rattle.state.proofs.refuse.Reads as refuse-reads
 
 -- what the check found, of the number that was handed on
-verdict : (c : tie.After-measure-refusal) → let s = c .before .before in c .measure-refusal .result ≡ refusalOf (first (measureChecks (s .args .p .head) (s .args .v)))
-verdict c = let s = c .before .before in c .measure-refusal .ensures ∙ ap (λ v. refusalOf (first (measureChecks (s .args .p .head) v))) (toZ-ofZ (s .fits .v))
+checked : (c : tie.After-measure-refusal) → let a = c .before .before .args in Checked (measure (a .v)) (a .p) (measureChecks (a .p .head) (a .v)) (c .measure-refusal .result)
+checked c = let s = c .before .before in record { same = measure-checks (s .args .p) (s .args .v); found = c .measure-refusal .ensures ∙ ap (λ v. refusalOf (first (measureChecks (s .args .p .head) v))) (toZ-ofZ (s .fits .v)) }
 
 measure-refusal-requires : tie.Need-measure-refusal-requires
 measure-refusal-requires c κs = search needs
@@ -33,9 +27,7 @@ refuse-requires : tie.Need-refuse-requires
 refuse-requires c κs = search needs
 
 returns : tie.Need-returns
-returns c =
-    let s = c .before .before .before .before in
-    rw (c .refuse .ensures) (refused-meets (measure (s .args .v)) (s .args .p) _ (measure-checks (s .args .p) (s .args .v) ∙ verdict-refused (first (measureChecks (s .args .p .head) (s .args .v))) _ (verdict (c .before .before)) (c .before .if1 .taken)))
+returns c = rw (c .refuse .ensures) (refuses (checked (c .before .before)) (c .before .if1 .taken))
 
 capped-requires : tie.Need-capped-requires
 capped-requires c κs = search needs
@@ -58,11 +50,7 @@ element-set-from-v c = search needs
 returns-2 : tie.Need-returns-2
 returns-2 c =
     let s = c .before .before .before .before .before in
-    let v = s .args .v in
-    let e = verdict-fine (measureChecks (s .args .p .head) v) _ tt (verdict (c .before .before .before)) (c .before .before .if1 .left) in
-    let t = fine-pass (measureChecks (s .args .p .head) v) e in
-    let room : s .args .p .head .measures < 32 = let l = ltb→lt (measuresIn (s .args .p .head)) measureLimit (t .1 .0) in omega arith in
-    rw (c .with-measures .ensures, c .before .capped .ensures, toZ-ofZ (s .fits .v)) (accepted-meets (measure v) (s .args .p) _ (measure-checks (s .args .p) v ∙ e) (ap ok (measure-given (s .args .p) v room)) (measure-next (s .args .p) (owned-sized (s .args .p) (s .good .0)) v (yes-is _ (t .0)) room) tt)
+    rw (c .with-measures .ensures, c .before .capped .ensures, toZ-ofZ (s .fits .v)) (measure-accepts (s .args .p) (owned-sized (s .args .p) (s .good .0)) (s .args .v) (checked (c .before .before .before)) (c .before .before .if1 .left))
 
 pub measure-spec : {M : Type 1} → statement M
 measure-spec =

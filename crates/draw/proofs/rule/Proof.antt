@@ -1,19 +1,15 @@
-use native.Mathlib.Omega.{arith}
 use mir.Syntax.{w32}
 use mir.Val.{toZ, ofZ}
-use Prim.Native.Nat.{_<_, min}
 use mathlib.Core.List.{List}
 use mathlib.Core.Path.{_≡_, ap, ap₂, _∙_}
-use lib.Dec.{ltb→lt}
 use mir.Facts.{toZ-ofZ}
 use Rattle.protocol.specs.Lists.{natural}
-use Rattle.protocol.specs.Plan.{ruleLimit}
-use Rattle.protocol.specs.Calls.{rule, Check, first, ok}
+use Rattle.protocol.specs.Calls.{rule, Check, first}
 use Rattle.state.specs.Meets.{refusalOf}
 use Rattle.state.proofs.Views.{owned-sized}
-use Rattle.state.proofs.Meeting.{refused-meets, accepted-meets, verdict-refused, verdict-fine, fine-pass}
+use Rattle.state.proofs.Steps.{Checked, refuses}
 use Rattle.draw.specs.Draw.{ruleChecks}
-use Rattle.draw.proofs.Draws.{rule-checks, rule-given, rule-next}
+use Rattle.draw.proofs.Draws.{rule-checks, rule-accepts}
 use borrow.Author.Needs.{needs}
 use Rattle.draw.proofs.rule.Statement.{statement}
 use Rattle.draw.proofs.rule.Tie as tie
@@ -29,13 +25,18 @@ abbrev asked : tie.Start → List Check
 asked s = ruleChecks (s .args .p .head) (natural (s .args .a)) (s .args .c) (natural (s .args .b)) (s .args .f)
 
 -- what the check found, of the numbers that were handed on
-verdict : (c : tie.After-rule-refusal) → c .rule-refusal .result ≡ refusalOf (first (asked (c .before .before .before .before)))
-verdict c =
+checked : (c : tie.After-rule-refusal) → let s = c .before .before .before .before in let x = s .args in Checked (rule (x .a) (x .c) (x .b) (x .f)) (x .p) (asked s) (c .rule-refusal .result)
+checked c =
     let s = c .before .before .before .before in
     let h = s .args .p .head in
-    c .rule-refusal .ensures
-    ∙ ap₂ (λ a b. refusalOf (first (ruleChecks h a (toZ w32 (ofZ w32 (s .args .c))) b (toZ w32 (ofZ w32 (s .args .f)))))) (c .before .before .number .ensures ∙ ap natural (toZ-ofZ (s .fits .a))) (c .before .number2 .ensures ∙ ap natural (toZ-ofZ (s .fits .b)))
-    ∙ ap₂ (λ x y. refusalOf (first (ruleChecks h (natural (s .args .a)) x (natural (s .args .b)) y))) (toZ-ofZ (s .fits .c)) (toZ-ofZ (s .fits .f))
+    let x = s .args in
+    record {
+      same = rule-checks (x .p) (x .a) (x .c) (x .b) (x .f);
+      found =
+          c .rule-refusal .ensures
+          ∙ ap₂ (λ a b. refusalOf (first (ruleChecks h a (toZ w32 (ofZ w32 (s .args .c))) b (toZ w32 (ofZ w32 (s .args .f)))))) (c .before .before .number .ensures ∙ ap natural (toZ-ofZ (s .fits .a))) (c .before .number2 .ensures ∙ ap natural (toZ-ofZ (s .fits .b)))
+          ∙ ap₂ (λ x y. refusalOf (first (ruleChecks h (natural (s .args .a)) x (natural (s .args .b)) y))) (toZ-ofZ (s .fits .c)) (toZ-ofZ (s .fits .f));
+    }
 
 number-requires : tie.Need-number-requires
 number-requires c κs = search needs
@@ -50,10 +51,7 @@ refuse-requires : tie.Need-refuse-requires
 refuse-requires c κs = search needs
 
 returns : tie.Need-returns
-returns c =
-    let s = c .before .before .before .before .before .before in
-    let x = s .args in
-    rw (c .refuse .ensures) (refused-meets (rule (x .a) (x .c) (x .b) (x .f)) (x .p) _ (rule-checks (x .p) (x .a) (x .c) (x .b) (x .f) ∙ verdict-refused (first (asked s)) _ (verdict (c .before .before)) (c .before .if1 .taken)))
+returns c = rw (c .refuse .ensures) (refuses (checked (c .before .before)) (c .before .if1 .taken))
 
 number-requires-3 : tie.Need-number-requires-3
 number-requires-3 c κs = search needs
@@ -95,11 +93,8 @@ returns-2 : tie.Need-returns-2
 returns-2 c =
     let s = c .before .before .before .before .before .before .before .before in
     let x = s .args in
-    let e = verdict-fine (asked s) _ tt (verdict (c .before .before .before .before)) (c .before .before .before .if1 .left) in
-    let t = fine-pass (asked s) e in
-    let room : x .p .head .rules < 64 = let l = ltb→lt (min (x .p .head .rules) 64) ruleLimit (t .1 .0) in omega arith in
     rw (c .with-rules .ensures, c .before .capped .ensures, c .before .before .before .before .before .before .number .ensures, c .before .before .before .before .before .number2 .ensures, c .before .before .number3 .ensures, toZ-ofZ (s .fits .a), toZ-ofZ (s .fits .b), toZ-ofZ (s .fits .c), toZ-ofZ (s .fits .f))
-    (accepted-meets (rule (x .a) (x .c) (x .b) (x .f)) (x .p) _ (rule-checks (x .p) (x .a) (x .c) (x .b) (x .f) ∙ e) (ap ok (rule-given (x .p) (x .a) (x .c) (x .b) (x .f) room)) (rule-next (x .p) (owned-sized (x .p) (s .good .0)) (x .a) (x .c) (x .b) (x .f) room) tt)
+    (rule-accepts (x .p) (owned-sized (x .p) (s .good .0)) (x .a) (x .c) (x .b) (x .f) (checked (c .before .before .before .before)) (c .before .before .before .if1 .left))
 
 pub rule-spec : {M : Type 1} → statement M
 rule-spec =

@@ -4,7 +4,7 @@ use mir.Facts.{toZ-ofZ}
 use native.Mathlib.Numerals.{add-one}
 use Prim.Native.Nat.{suc}
 use Rattle.protocol.specs.Lists.{natural}
-use Rattle.part.proofs.Steps.{refuses}
+use Rattle.state.proofs.Steps.{refuses}
 use Rattle.part.proofs.Partings.{split-checked, split-accepts}
 use borrow.Author.Needs.{needs}
 use Rattle.part.proofs.split.Statement.{statement}

@@ -5,7 +5,7 @@ use borrow.Author.Tests.{not-true, not-false, lt-ltb, le-ltb}
 use Rattle.protocol.specs.Lists.{oneTo}
 use Rattle.protocol.specs.Plan.{whole, split, modeNumber, is}
 use Rattle.state.specs.View.{modeOf, sidesIn}
-use Rattle.part.proofs.Steps.{side-tested}
+use Rattle.state.proofs.Steps.{side-tested}
 use Rattle.part.proofs.Partings.{one-or-two, not-one-or-two}
 use borrow.Author.Needs.{needs}
 use Rattle.part.proofs.split_refusal.Statement.{statement}

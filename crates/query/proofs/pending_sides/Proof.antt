@@ -9,7 +9,7 @@ use lib.ListN.{getD}
 use Rattle.protocol.specs.Lists.{bit}
 use Rattle.rules.proofs.Spans.{bit-one}
 use Rattle.query.specs.Reads.{pendingIn}
-use Rattle.query.proofs.Readings.{tally-next, index-suc}
+use Rattle.state.proofs.Views.{tally-next, index-suc}
 use Rattle.query.proofs.pending_sides.Statement.{statement}
 use Rattle.query.proofs.pending_sides.Tie as tie
 use Rattle.query.proofs.pending_sides.Reads as reads

@@ -26,6 +26,9 @@ use Rattle.query.proofs.show_refusal.Reads as show-refusal-reads
 use Rattle.rules.proofs.capped.Reads as capped-reads
 use Rattle.state.proofs.offset.Reads as offset-reads
 
+size : (c : tie.Start) → length (c .args .t1 .values) ≡ 256
+size c = search needs
+
 side : (c : tie.After-number) → c .number .result ≡ natural (c .before .before .args .s)
 side c = c .number .ensures ∙ ap natural (toZ-ofZ (c .before .before .fits .s))
 
@@ -74,7 +77,7 @@ fill-requires c κs =
     let a = c .before .before .before .before .before .before .before .before .before .args in
     let t = fine-pass (asked (c .before .before .before .before .before .before .before .before .before)) (accepted (c .before .before .before .before .before)) in
     let room : measuresIn (a .t1 .head) ≤ length (a .buffer .now) = leb→le _ _ (t .1 .1 .0) in
-    (c .before .before .before .offset .ensures .1, omega (arith, c .before .before .before .before .capped .ensures), omega (arith, c .before .before .before .before .capped .ensures, room))
+    (omega (arith, size (c .before .before .before .before .before .before .before .before .before), c .before .before .before .offset .ensures .1, c .before .before .before .before .capped .ensures), omega (arith, c .before .before .before .before .capped .ensures, room))
 
 slice-aggregate-result-2 : tie.Need-slice-aggregate-result-2
 slice-aggregate-result-2 c =

@@ -4,7 +4,7 @@ use borrow.Author.Tests.{not-true, not-false, ne-eqb}
 use Rattle.protocol.specs.Lists.{oneTo}
 use Rattle.protocol.specs.Plan.{modeNumber}
 use Rattle.state.specs.View.{modeOf, sidesIn}
-use Rattle.part.proofs.Steps.{side-tested}
+use Rattle.state.proofs.Steps.{side-tested}
 use borrow.Author.Needs.{needs}
 use Rattle.reconcile.proofs.confirm_refusal.Statement.{statement}
 use Rattle.reconcile.proofs.confirm_refusal.Tie as tie

@@ -1,7 +1,7 @@
 use Rattle.protocol.specs.Calls.{install}
 use mathlib.Core.Path.{_≡_}
 use lib.ListN.{length}
-use Rattle.part.proofs.Steps.{Checked, refuses}
+use Rattle.state.proofs.Steps.{Checked, refuses}
 use Rattle.reconcile.proofs.Moves.{installing, install-checked, install-accepts}
 use borrow.Author.Needs.{needs}
 use Rattle.reconcile.proofs.install.Statement.{statement}

@@ -2,7 +2,7 @@ use mathlib.Core.Path.{_≡_, ap, _∙_}
 use lib.ListN.{length}
 use mir.Facts.{toZ-ofZ}
 use Rattle.protocol.specs.Lists.{natural}
-use Rattle.part.proofs.Steps.{refuses}
+use Rattle.state.proofs.Steps.{refuses}
 use Rattle.reconcile.proofs.Moves.{Named, send-checked, send-accepts}
 use borrow.Author.Needs.{needs}
 use Rattle.reconcile.proofs.send.Statement.{statement}

@@ -5,7 +5,7 @@ use borrow.Author.Tests.{not-true, not-false, lt-ltb}
 use Rattle.protocol.specs.Lists.{oneTo}
 use Rattle.protocol.specs.Plan.{active}
 use Rattle.state.specs.View.{modeOf, sidesIn}
-use Rattle.part.proofs.Steps.{side-tested}
+use Rattle.state.proofs.Steps.{side-tested}
 use borrow.Author.Needs.{needs}
 use Rattle.reconcile.proofs.send_refusal.Statement.{statement}
 use Rattle.reconcile.proofs.send_refusal.Tie as tie

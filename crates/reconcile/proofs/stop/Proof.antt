@@ -1,5 +1,5 @@
 use Rattle.protocol.specs.Calls.{stop}
-use Rattle.part.proofs.Steps.{Checked, refuses}
+use Rattle.state.proofs.Steps.{Checked, refuses}
 use Rattle.reconcile.proofs.Moves.{stopping, stop-checked, stop-accepts}
 use borrow.Author.Needs.{needs}
 use Rattle.reconcile.proofs.stop.Statement.{statement}

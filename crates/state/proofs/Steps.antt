@@ -37,10 +37,11 @@ pub refuses : {c : Call} {p : State} {cs : List Check} {k : ℕ} → Checked c p
 refuses {c = c} {p = p} {cs = cs} {k = k} w h = refused-meets c p k (w .same ∙ verdict-refused (first cs) k (w .found) h)
 
 pub accepts : {c : Call} {p : State} {cs : List Check} {k : ℕ} (r : Answered) → Checked c p cs k → T (all (λ x. ltb 0 (x .number)) cs) → k ≡ 0
-    → answerOf (r .answer) ≡ ok (gives c (view p .mode) (view p .content)) → (Pass cs → view (r .state) ≡ after c (view p .mode) (view p .content)) → SameIfRefused (r .answer) p (r .state) → Meets c p r
+    → (Pass cs → answerOf (r .answer) ≡ ok (gives c (view p .mode) (view p .content))) → (Pass cs → view (r .state) ≡ after c (view p .mode) (view p .content)) → SameIfRefused (r .answer) p (r .state) → Meets c p r
 accepts {c = c} {p = p} {cs = cs} {k = k} r w t z given next s =
     let e = verdict-fine cs k t (w .found) z in
-    accepted-meets c p r (w .same ∙ e) given (next (fine-pass cs e)) s
+    let f = fine-pass cs e in
+    accepted-meets c p r (w .same ∙ e) (given f) (next f) s
 
 -- ---- what the calls store
 
