@@ -23,7 +23,7 @@ use Rattle.state.specs.View.{view, modeOf, sidesIn, sideOf, measuresIn, rulesOf
 use Rattle.state.proofs.Views.{Sized, plan-same, sides-modify, sides-least, first-row, row-snoc, row-length}
 use Rattle.state.specs.Meets.{Meets}
 use Rattle.state.proofs.Steps.{Checked, accepts}
-use Rattle.draw.specs.Draw.{measureChecks, ruleChecks, openChecks, measured, ruled, opened}
+use Rattle.limits.specs.Draw.{measureChecks, ruleChecks, openChecks, measured, ruled, opened}
 
 drawn-length : (p : State) → length (firstValues (view p .content)) ≡ measuresIn (p .head)
 drawn-length p = ap length (first-row p) ∙ row-length (p .values) 0 (measuresIn (p .head))

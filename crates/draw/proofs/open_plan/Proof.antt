@@ -16,7 +16,7 @@ use Rattle.draw.proofs.open_plan.Statement.{statement}
 use Rattle.draw.proofs.open_plan.Tie as tie
 use Rattle.draw.proofs.open_plan.Reads as reads
 use Rattle.draw.proofs.open_plan.Lts as lts
-use Rattle.draw.proofs.with_open.Reads as with-open-reads
+use Rattle.limits.proofs.with_open.Reads as with-open-reads
 use Rattle.rules.proofs.rules_hold.Reads as rules-hold-reads
 use Rattle.state.proofs.mode_number.Reads as mode-number-reads
 use Rattle.state.proofs.refuse.Reads as refuse-reads

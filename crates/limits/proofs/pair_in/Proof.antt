@@ -1,9 +1,9 @@
 use mathlib.Core.Path.{sym, _∙_}
 use borrow.Author.Needs.{needs}
-use Rattle.draw.proofs.pair_in.Statement.{statement}
-use Rattle.draw.proofs.pair_in.Tie as tie
-use Rattle.draw.proofs.pair_in.Reads as reads
-use Rattle.draw.proofs.pair_in.Lts as lts
+use Rattle.limits.proofs.pair_in.Statement.{statement}
+use Rattle.limits.proofs.pair_in.Tie as tie
+use Rattle.limits.proofs.pair_in.Reads as reads
+use Rattle.limits.proofs.pair_in.Lts as lts
 use Rattle.rules.proofs.one_to.Reads as one-to-reads
 
 one-to-requires : tie.Need-one-to-requires

@@ -10,12 +10,12 @@ use Rattle.protocol.specs.Plan.{blank, is}
 use Rattle.protocol.specs.Calls.{no15}
 use Rattle.state.specs.View.{modeOf, measuresIn}
 use borrow.Author.Needs.{needs}
-use Rattle.draw.proofs.rule_refusal.Statement.{statement}
-use Rattle.draw.proofs.rule_refusal.Tie as tie
-use Rattle.draw.proofs.rule_refusal.Reads as reads
-use Rattle.draw.proofs.rule_refusal.Lts as lts
-use Rattle.draw.proofs.limits_ok.Reads as limits-ok-reads
-use Rattle.draw.proofs.pair_in.Reads as pair-in-reads
+use Rattle.limits.proofs.rule_refusal.Statement.{statement}
+use Rattle.limits.proofs.rule_refusal.Tie as tie
+use Rattle.limits.proofs.rule_refusal.Reads as reads
+use Rattle.limits.proofs.rule_refusal.Lts as lts
+use Rattle.limits.proofs.limits_ok.Reads as limits-ok-reads
+use Rattle.limits.proofs.pair_in.Reads as pair-in-reads
 use Rattle.rules.proofs.capped.Reads as capped-reads
 use Rattle.state.proofs.mode_number.Reads as mode-number-reads
 
