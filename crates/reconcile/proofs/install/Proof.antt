@@ -8,8 +8,8 @@ use Rattle.reconcile.proofs.install.Statement.{statement}
 use Rattle.reconcile.proofs.install.Tie as tie
 use Rattle.reconcile.proofs.install.Reads as reads
 use Rattle.reconcile.proofs.install.Lts as lts
-use Rattle.reconcile.proofs.install_head.Reads as install-head-reads
-use Rattle.reconcile.proofs.install_refusal.Reads as install-refusal-reads
+use Rattle.turns.proofs.install_head.Reads as install-head-reads
+use Rattle.turns.proofs.install_refusal.Reads as install-refusal-reads
 use Rattle.rules.proofs.copy.Reads as copy-reads
 use Rattle.state.proofs.count.Reads as count-reads
 use Rattle.state.proofs.refuse.Reads as refuse-reads

@@ -6,8 +6,8 @@ use Rattle.reconcile.proofs.stop.Statement.{statement}
 use Rattle.reconcile.proofs.stop.Tie as tie
 use Rattle.reconcile.proofs.stop.Reads as reads
 use Rattle.reconcile.proofs.stop.Lts as lts
-use Rattle.reconcile.proofs.in_mode.Reads as in-mode-reads
-use Rattle.reconcile.proofs.stop_refusal.Reads as stop-refusal-reads
+use Rattle.turns.proofs.in_mode.Reads as in-mode-reads
+use Rattle.turns.proofs.stop_refusal.Reads as stop-refusal-reads
 use Rattle.state.proofs.count.Reads as count-reads
 use Rattle.state.proofs.refuse.Reads as refuse-reads
 use Rattle.state.proofs.unset.Reads as unset-reads

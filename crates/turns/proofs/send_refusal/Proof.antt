@@ -7,10 +7,10 @@ use Rattle.protocol.specs.Plan.{active}
 use Rattle.state.specs.View.{modeOf, sidesIn}
 use Rattle.state.proofs.Steps.{side-tested}
 use borrow.Author.Needs.{needs}
-use Rattle.reconcile.proofs.send_refusal.Statement.{statement}
-use Rattle.reconcile.proofs.send_refusal.Tie as tie
-use Rattle.reconcile.proofs.send_refusal.Reads as reads
-use Rattle.reconcile.proofs.send_refusal.Lts as lts
+use Rattle.turns.proofs.send_refusal.Statement.{statement}
+use Rattle.turns.proofs.send_refusal.Tie as tie
+use Rattle.turns.proofs.send_refusal.Reads as reads
+use Rattle.turns.proofs.send_refusal.Lts as lts
 use Rattle.rules.proofs.one_to.Reads as one-to-reads
 use Rattle.state.proofs.is_active.Reads as is-active-reads
 use Rattle.state.proofs.side_count.Reads as side-count-reads

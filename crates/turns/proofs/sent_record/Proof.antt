@@ -3,12 +3,12 @@ use Rattle.state.specs.declared.Test.the-variants.{UnsentOf}
 use mathlib.Core.Path.{sym, _∙_}
 use Rattle.protocol.proofs.Laws.{bit-zero, no-is}
 use Rattle.state.specs.Parts.{testOf}
-use Rattle.reconcile.proofs.Moves.{bit-some}
+use Rattle.turns.proofs.Sends.{bit-some}
 use borrow.Author.Needs.{needs}
-use Rattle.reconcile.proofs.sent_record.Statement.{statement}
-use Rattle.reconcile.proofs.sent_record.Tie as tie
-use Rattle.reconcile.proofs.sent_record.Reads as reads
-use Rattle.reconcile.proofs.sent_record.Lts as lts
+use Rattle.turns.proofs.sent_record.Statement.{statement}
+use Rattle.turns.proofs.sent_record.Tie as tie
+use Rattle.turns.proofs.sent_record.Reads as reads
+use Rattle.turns.proofs.sent_record.Lts as lts
 use Rattle.state.proofs.satisfies.Reads as satisfies-reads
 
 satisfies-requires : tie.Need-satisfies-requires

@@ -1,9 +1,9 @@
 use borrow.Author.Tests.{eq-eqb, ne-eqb}
 use borrow.Author.Needs.{needs}
-use Rattle.reconcile.proofs.turn_refusal.Statement.{statement}
-use Rattle.reconcile.proofs.turn_refusal.Tie as tie
-use Rattle.reconcile.proofs.turn_refusal.Reads as reads
-use Rattle.reconcile.proofs.turn_refusal.Lts as lts
+use Rattle.turns.proofs.turn_refusal.Statement.{statement}
+use Rattle.turns.proofs.turn_refusal.Tie as tie
+use Rattle.turns.proofs.turn_refusal.Reads as reads
+use Rattle.turns.proofs.turn_refusal.Lts as lts
 use Rattle.state.proofs.mode_number.Reads as mode-number-reads
 
 mode-number-requires : tie.Need-mode-number-requires

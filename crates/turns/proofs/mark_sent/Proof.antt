@@ -4,12 +4,12 @@ use native.Mathlib.Omega.{arith}
 use Prim.Native.Nat.{_-_, _≤_}
 use lib.ListN.{length}
 use Rattle.state.proofs.Views.{unmapped}
-use Rattle.reconcile.proofs.Moves.{Sent, sent-begin, sent-next, sent-over}
-use Rattle.reconcile.proofs.mark_sent.Statement.{statement}
-use Rattle.reconcile.proofs.mark_sent.Tie as tie
-use Rattle.reconcile.proofs.mark_sent.Reads as reads
-use Rattle.reconcile.proofs.mark_sent.Lts as lts
-use Rattle.reconcile.proofs.sent_record.Reads as sent-record-reads
+use Rattle.turns.proofs.Sends.{Sent, sent-begin, sent-next, sent-over}
+use Rattle.turns.proofs.mark_sent.Statement.{statement}
+use Rattle.turns.proofs.mark_sent.Tie as tie
+use Rattle.turns.proofs.mark_sent.Reads as reads
+use Rattle.turns.proofs.mark_sent.Lts as lts
+use Rattle.turns.proofs.sent_record.Reads as sent-record-reads
 use Rattle.rules.proofs.capped.Reads as capped-reads
 
 abbrev Inv-loop : tie.InvT-loop
