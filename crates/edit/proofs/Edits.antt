@@ -30,9 +30,9 @@ use Rattle.state.specs.Parts.{namedIn}
 use Rattle.state.specs.Meets.{answerOf, SameIfRefused, Meets}
 use Rattle.state.proofs.Views.{Sized, plan-same, sides-most, sides-length, side-at, sides-modify, lookup-named}
 use Rattle.state.proofs.Logs.{log-snoc}
-use Rattle.edit.specs.declared.Decision.{Decision}
-use Rattle.edit.specs.Edits.{editChecks, ruled, changeOf, changeIn, editRuling, editHead, editRecord, editDecision, spotOf, slotOf, editIn, stored}
-use Rattle.edit.proofs.Rulings.{made-change}
+use Rattle.ruling.specs.declared.Decision.{Decision}
+use Rattle.ruling.specs.Edits.{editChecks, ruled, changeOf, changeIn, editRuling, editHead, editRecord, editDecision, spotOf, slotOf, editIn, stored}
+use Rattle.ruling.proofs.Rulings.{made-change}
 
 -- two sides' rows do not meet
 rows-apart : (s k i j : ℕ) → 0 < s → s ≤ 8 → 0 < k → k ≤ 8 → k ≢ s → j < 32 → offsetOf k ≤ i → i < offsetOf k + 32 → i ≢ offsetOf s + j
