@@ -27,8 +27,8 @@ use Rattle.state.specs.Parts.{positionOf, placeOf, recordOf, unsetIn, namedIn}
 use Rattle.state.specs.Meets.{answerOf, SameIfRefused, Meets}
 use Rattle.state.proofs.Views.{Sized, plan-same, flags-unset, lookup-named}
 use Rattle.state.proofs.Logs.{Placed, placed, log-modify}
-use Rattle.replay.specs.declared.Decision.{Decision}
-use Rattle.replay.specs.Replays.{replayChecks, draftIn, effectiveIn, draftOutcome, settledBy, replayOutcome, settledRecord, replayDecision, pointOf, slotIn, replayIn, stored}
+use Rattle.settling.specs.declared.Decision.{Decision}
+use Rattle.settling.specs.Replays.{replayChecks, draftIn, effectiveIn, draftOutcome, settledBy, replayOutcome, settledRecord, replayDecision, pointOf, slotIn, replayIn, stored}
 
 module _ (p : State) (z : Sized p) (n : ℤ) where
   abbrev h : Head

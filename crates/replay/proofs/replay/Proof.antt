@@ -9,7 +9,7 @@ use Rattle.protocol.specs.Lists.{natural}
 use Rattle.state.specs.View.{endIn, keptIn, noRecord}
 use Rattle.state.specs.Parts.{positionOf, placeOf, recordOf, namedIn}
 use Rattle.state.proofs.Views.{owned-sized}
-use Rattle.replay.specs.Replays.{replayOutcome, replayDecision, pointOf, slotIn, replayIn}
+use Rattle.settling.specs.Replays.{replayOutcome, replayDecision, pointOf, slotIn, replayIn}
 use Rattle.replay.proofs.Replays.{replay-meets}
 use native.Mathlib.Omega.{arith}
 use Prim.Native.Nat.{_<_}
@@ -19,7 +19,7 @@ use Rattle.replay.proofs.replay.Tie as tie
 use Rattle.replay.proofs.replay.Reads as reads
 use Rattle.replay.proofs.replay.Lts as lts
 use Rattle.exact.proofs.number.Reads as number-reads
-use Rattle.replay.proofs.decide_replay.Reads as decide-replay-reads
+use Rattle.settling.proofs.decide_replay.Reads as decide-replay-reads
 use Rattle.replay.proofs.point.Reads as point-reads
 use Rattle.state.proofs.count.Reads as count-reads
 use Rattle.state.proofs.found.Reads as found-reads

@@ -1,13 +1,13 @@
 use mathlib.Core.Path.{_≡_, ap, _∙_}
 use mir.Facts.{toZ-ofZ}
-use Rattle.replay.specs.Replays.{replayOutcome, replayDecision}
+use Rattle.settling.specs.Replays.{replayOutcome, replayDecision}
 use borrow.Author.Needs.{needs}
-use Rattle.replay.proofs.decide_replay.Statement.{statement}
-use Rattle.replay.proofs.decide_replay.Tie as tie
-use Rattle.replay.proofs.decide_replay.Reads as reads
-use Rattle.replay.proofs.decide_replay.Lts as lts
-use Rattle.replay.proofs.replay_decision.Reads as replay-decision-reads
-use Rattle.replay.proofs.replay_outcome.Reads as replay-outcome-reads
+use Rattle.settling.proofs.decide_replay.Statement.{statement}
+use Rattle.settling.proofs.decide_replay.Tie as tie
+use Rattle.settling.proofs.decide_replay.Reads as reads
+use Rattle.settling.proofs.decide_replay.Lts as lts
+use Rattle.settling.proofs.replay_decision.Reads as replay-decision-reads
+use Rattle.settling.proofs.replay_outcome.Reads as replay-outcome-reads
 
 replay-outcome-requires : tie.Need-replay-outcome-requires
 replay-outcome-requires c κs = search needs

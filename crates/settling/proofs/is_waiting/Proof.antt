@@ -1,8 +1,8 @@
 use borrow.Author.Needs.{needs}
-use Rattle.replay.proofs.is_waiting.Statement.{statement}
-use Rattle.replay.proofs.is_waiting.Tie as tie
-use Rattle.replay.proofs.is_waiting.Reads as reads
-use Rattle.replay.proofs.is_waiting.Lts as lts
+use Rattle.settling.proofs.is_waiting.Statement.{statement}
+use Rattle.settling.proofs.is_waiting.Tie as tie
+use Rattle.settling.proofs.is_waiting.Reads as reads
+use Rattle.settling.proofs.is_waiting.Lts as lts
 use Rattle.state.proofs.fate_number.Reads as fate-number-reads
 
 fate-number-requires : tie.Need-fate-number-requires

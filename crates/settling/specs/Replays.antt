@@ -18,9 +18,9 @@ use Rattle.state.specs.declared.State.{State}
 use Rattle.state.specs.declared.Answer.the-variants.{Refused, Number}
 use Rattle.state.specs.View.{modeOf, sidesIn, endIn, keptIn, keptAt, keptOf, noRecord}
 use Rattle.state.specs.Parts.{positionOf, placeOf, unsetIn, namedIn}
-use Rattle.replay.specs.declared.Outcome.{Outcome}
-use Rattle.replay.specs.declared.Outcome.the-variants.{Refused as Denied, Settled}
-use Rattle.replay.specs.declared.Decision.{Decision}
+use Rattle.settling.specs.declared.Outcome.{Outcome}
+use Rattle.settling.specs.declared.Outcome.the-variants.{Refused as Denied, Settled}
+use Rattle.settling.specs.declared.Decision.{Decision}
 
 -- ---- checks
 

@@ -2,14 +2,14 @@ use Prim.Native.Nat.{min}
 use mathlib.Core.Path.{_≡_, sym, ap, _∙_}
 use borrow.Author.Tests.{eq-eqb, ne-eqb, not-true, not-false}
 use mir.Facts.{toZ-ofZ}
-use Rattle.replay.specs.Replays.{draftOutcome, replayOutcome}
+use Rattle.settling.specs.Replays.{draftOutcome, replayOutcome}
 use borrow.Author.Needs.{needs}
-use Rattle.replay.proofs.replay_outcome.Statement.{statement}
-use Rattle.replay.proofs.replay_outcome.Tie as tie
-use Rattle.replay.proofs.replay_outcome.Reads as reads
-use Rattle.replay.proofs.replay_outcome.Lts as lts
-use Rattle.replay.proofs.is_waiting.Reads as is-waiting-reads
-use Rattle.replay.proofs.try_draft.Reads as try-draft-reads
+use Rattle.settling.proofs.replay_outcome.Statement.{statement}
+use Rattle.settling.proofs.replay_outcome.Tie as tie
+use Rattle.settling.proofs.replay_outcome.Reads as reads
+use Rattle.settling.proofs.replay_outcome.Lts as lts
+use Rattle.settling.proofs.is_waiting.Reads as is-waiting-reads
+use Rattle.settling.proofs.try_draft.Reads as try-draft-reads
 use Rattle.state.proofs.is_active.Reads as is-active-reads
 
 is-active-requires : tie.Need-is-active-requires
