@@ -23,7 +23,7 @@ use Rattle.state.specs.Parts.{positionOf, placeOf, unsetIn}
 use Rattle.state.proofs.Views.{index-suc, sides-most, sides-length, side-at, row-length}
 use Rattle.state.proofs.Meeting.{fine-pass}
 use Rattle.state.proofs.Logs.{Placed, placed}
-use Rattle.query.specs.Reads.{showChecks, pendingIn, unsentCounts, leftNumber}
+use Rattle.figures.specs.Reads.{showChecks, pendingIn, unsentCounts, leftNumber}
 
 -- ---- fate
 

@@ -13,7 +13,7 @@ use Rattle.state.specs.View.{measuresIn, offsetOf}
 use Rattle.state.specs.Meets.{refusalOf}
 use Rattle.state.proofs.Views.{row-length}
 use Rattle.state.proofs.Meeting.{verdict-refused, verdict-fine, fine-pass}
-use Rattle.query.specs.Reads.{showChecks}
+use Rattle.figures.specs.Reads.{showChecks}
 use Rattle.query.proofs.Readings.{shown-refused, shown-fine, front}
 use borrow.Author.Needs.{needs}
 use Rattle.query.proofs.show.Statement.{statement}
@@ -22,7 +22,7 @@ use Rattle.query.proofs.show.Reads as reads
 use Rattle.query.proofs.show.Lts as lts
 use Rattle.exact.proofs.number.Reads as number-reads
 use Rattle.query.proofs.fill.Reads as fill-reads
-use Rattle.query.proofs.show_refusal.Reads as show-refusal-reads
+use Rattle.figures.proofs.show_refusal.Reads as show-refusal-reads
 use Rattle.rules.proofs.capped.Reads as capped-reads
 use Rattle.state.proofs.offset.Reads as offset-reads
 

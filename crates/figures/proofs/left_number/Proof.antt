@@ -6,12 +6,12 @@ use Rattle.protocol.specs.Plan.{is, joining}
 use Rattle.rules.proofs.Spans.{bit-one}
 use Rattle.state.specs.View.{modeOf}
 use borrow.Author.Needs.{needs}
-use Rattle.query.proofs.left_number.Statement.{statement}
-use Rattle.query.proofs.left_number.Tie as tie
-use Rattle.query.proofs.left_number.Reads as reads
-use Rattle.query.proofs.left_number.Lts as lts
-use Rattle.query.proofs.joining_bit.Reads as joining-bit-reads
-use Rattle.query.proofs.pending_sides.Reads as pending-sides-reads
+use Rattle.figures.proofs.left_number.Statement.{statement}
+use Rattle.figures.proofs.left_number.Tie as tie
+use Rattle.figures.proofs.left_number.Reads as reads
+use Rattle.figures.proofs.left_number.Lts as lts
+use Rattle.figures.proofs.joining_bit.Reads as joining-bit-reads
+use Rattle.figures.proofs.pending_sides.Reads as pending-sides-reads
 use Rattle.rules.proofs.capped.Reads as capped-reads
 use Rattle.state.proofs.is_active.Reads as is-active-reads
 use Rattle.state.proofs.unset.Reads as unset-reads

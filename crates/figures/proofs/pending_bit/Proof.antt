@@ -1,9 +1,9 @@
 use borrow.Author.Tests.{lt-ltb}
 use native.Mathlib.Omega.{arith}
-use Rattle.query.proofs.pending_bit.Statement.{statement}
-use Rattle.query.proofs.pending_bit.Tie as tie
-use Rattle.query.proofs.pending_bit.Reads as reads
-use Rattle.query.proofs.pending_bit.Lts as lts
+use Rattle.figures.proofs.pending_bit.Statement.{statement}
+use Rattle.figures.proofs.pending_bit.Tie as tie
+use Rattle.figures.proofs.pending_bit.Reads as reads
+use Rattle.figures.proofs.pending_bit.Lts as lts
 
 returns : tie.Need-returns
 returns c = rw (c .before .if1 .taken, c .if2 .taken)

@@ -1,9 +1,9 @@
 use borrow.Author.Tests.{eq-eqb, ne-eqb}
 use borrow.Author.Needs.{needs}
-use Rattle.query.proofs.joining_bit.Statement.{statement}
-use Rattle.query.proofs.joining_bit.Tie as tie
-use Rattle.query.proofs.joining_bit.Reads as reads
-use Rattle.query.proofs.joining_bit.Lts as lts
+use Rattle.figures.proofs.joining_bit.Statement.{statement}
+use Rattle.figures.proofs.joining_bit.Tie as tie
+use Rattle.figures.proofs.joining_bit.Reads as reads
+use Rattle.figures.proofs.joining_bit.Lts as lts
 use Rattle.state.proofs.mode_number.Reads as mode-number-reads
 
 mode-number-requires : tie.Need-mode-number-requires

@@ -8,13 +8,13 @@ use lib.Dec.{ltb}
 use lib.ListN.{getD}
 use Rattle.protocol.specs.Lists.{bit}
 use Rattle.rules.proofs.Spans.{bit-one}
-use Rattle.query.specs.Reads.{pendingIn}
+use Rattle.figures.specs.Reads.{pendingIn}
 use Rattle.state.proofs.Views.{tally-next, index-suc}
-use Rattle.query.proofs.pending_sides.Statement.{statement}
-use Rattle.query.proofs.pending_sides.Tie as tie
-use Rattle.query.proofs.pending_sides.Reads as reads
-use Rattle.query.proofs.pending_sides.Lts as lts
-use Rattle.query.proofs.pending_bit.Reads as pending-bit-reads
+use Rattle.figures.proofs.pending_sides.Statement.{statement}
+use Rattle.figures.proofs.pending_sides.Tie as tie
+use Rattle.figures.proofs.pending_sides.Reads as reads
+use Rattle.figures.proofs.pending_sides.Lts as lts
+use Rattle.figures.proofs.pending_bit.Reads as pending-bit-reads
 use Rattle.state.proofs.side_count.Reads as side-count-reads
 
 abbrev Inv-loop : tie.InvT-loop

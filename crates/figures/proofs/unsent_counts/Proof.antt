@@ -6,11 +6,11 @@ use native.Mathlib.Numerals.{add-one}
 use lib.ListN.{set}
 use Rattle.protocol.specs.Plan.{unsentOf}
 use Rattle.state.specs.View.{keptOf}
-use Rattle.query.specs.Reads.{unsentCounts}
-use Rattle.query.proofs.unsent_counts.Statement.{statement}
-use Rattle.query.proofs.unsent_counts.Tie as tie
-use Rattle.query.proofs.unsent_counts.Reads as reads
-use Rattle.query.proofs.unsent_counts.Lts as lts
+use Rattle.figures.specs.Reads.{unsentCounts}
+use Rattle.figures.proofs.unsent_counts.Statement.{statement}
+use Rattle.figures.proofs.unsent_counts.Tie as tie
+use Rattle.figures.proofs.unsent_counts.Reads as reads
+use Rattle.figures.proofs.unsent_counts.Lts as lts
 use Rattle.state.proofs.count.Reads as count-reads
 
 abbrev Inv-loop : tie.InvT-loop

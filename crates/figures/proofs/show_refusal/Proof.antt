@@ -6,10 +6,10 @@ use Rattle.protocol.specs.Lists.{oneTo}
 use Rattle.protocol.specs.Plan.{blank, is}
 use Rattle.state.specs.View.{modeOf, sidesIn}
 use borrow.Author.Needs.{needs}
-use Rattle.query.proofs.show_refusal.Statement.{statement}
-use Rattle.query.proofs.show_refusal.Tie as tie
-use Rattle.query.proofs.show_refusal.Reads as reads
-use Rattle.query.proofs.show_refusal.Lts as lts
+use Rattle.figures.proofs.show_refusal.Statement.{statement}
+use Rattle.figures.proofs.show_refusal.Tie as tie
+use Rattle.figures.proofs.show_refusal.Reads as reads
+use Rattle.figures.proofs.show_refusal.Lts as lts
 use Rattle.rules.proofs.capped.Reads as capped-reads
 use Rattle.rules.proofs.one_to.Reads as one-to-reads
 use Rattle.state.proofs.mode_number.Reads as mode-number-reads
