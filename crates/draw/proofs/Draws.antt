@@ -13,8 +13,9 @@ use Rattle.protocol.specs.Lists.{natural, none, snoc}
 use Rattle.protocol.specs.Plan.{Rule, blank, is, modeNumber, measureLimit, ruleLimit}
 use Rattle.protocol.specs.Calls.{measure, rule, open-plan, first, checks, further, firstValues, onValues, ruleOf, after, gives, ok}
 use Rattle.protocol.proofs.Laws.{is-yes, yes-is}
-use Rattle.rules.specs.Rows.{row, rulesIn, withValue}
-use Rattle.rules.proofs.Spans.{length-span, span-same, span-snoc, getD-set, getD-other}
+use Rattle.rows.specs.Rows.{row}
+use Rattle.rules.specs.Rules.{rulesIn, withValue}
+use Rattle.rows.proofs.Spans.{length-span, span-same, span-snoc, getD-set, getD-other}
 use Rattle.rules.proofs.Rows.{holds-is}
 use Rattle.state.specs.declared.Answer.the-variants.{Number}
 use Rattle.state.specs.declared.Head.{Head}

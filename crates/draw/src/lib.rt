@@ -13,7 +13,7 @@ pub fn measure(p: State, v: i32) -> Answered
     if k != 0 {
         return state::refuse(p, k);
     }
-    let i = rules::capped(h.measures, 31);
+    let i = rows::capped(h.measures, 31);
     let n = i as u32 + 1;
     let head = limits::with_measures(h, n);
     let mut q = p;
@@ -34,7 +34,7 @@ pub fn rule(p: State, a: i32, c: i32, b: i32, f: i32) -> Answered
         return state::refuse(p, k);
     }
     let firm = exact::number(f) == 1;
-    let i = rules::capped(h.rules, 63);
+    let i = rows::capped(h.rules, 63);
     let n = i as u32 + 1;
     let head = limits::with_rules(h, n);
     let mut q = p;

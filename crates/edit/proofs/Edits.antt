@@ -18,8 +18,9 @@ use Rattle.protocol.specs.Calls.{Call, edit, Check, Verdict, fine, refused, fir
 use Rattle.protocol.proofs.Laws.{cases, yes-is, no-is, is-yes, which, range, Fine, Pass, passed}
 use Rattle.change.specs.declared.Change.{Change}
 use Rattle.change.specs.Change.{viewChange, madeOf}
-use Rattle.rules.specs.Rows.{span, row, withValue}
-use Rattle.rules.proofs.Spans.{length-span}
+use Rattle.rows.specs.Rows.{span, row}
+use Rattle.rules.specs.Rules.{withValue}
+use Rattle.rows.proofs.Spans.{length-span}
 use Rattle.rules.proofs.Rows.{made-with, row-set, row-apart}
 use Rattle.state.specs.declared.EditRecord.{EditRecord}
 use Rattle.state.specs.declared.Fate.the-variants.{Unsent}

@@ -15,7 +15,7 @@ pub fn spot(s: u32, m: u32) -> usize
     if m == 0 {
         return at;
     }
-    at + rules::capped(m - 1, 31)
+    at + rows::capped(m - 1, 31)
 }
 
 pub fn edit(p: State, s: i32, client: i32, after: i32, m: i32, kind: i32, constant: i32) -> Answered
@@ -29,7 +29,7 @@ pub fn edit(p: State, s: i32, client: i32, after: i32, m: i32, kind: i32, consta
     let side = exact::number(s);
     let measure = exact::number(m);
     let at = spot(side, measure);
-    let slot = rules::capped(h.kept, 255);
+    let slot = rows::capped(h.kept, 255);
     let old = p.values[at];
     let standing = p.edits[slot];
     let d = ruling::decide_edit(

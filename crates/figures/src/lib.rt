@@ -66,7 +66,7 @@ pub fn left_number<'a>(
         return 0;
     }
     let a = pending_sides(arrived, unsent, h);
-    let b = rules::capped(unsettled, 256) as u32;
+    let b = rows::capped(unsettled, 256) as u32;
     let c = state::unset(confirmed, h);
     let j = joining_bit(mode);
     a + b + c + j + 1
@@ -96,10 +96,10 @@ pub fn show_refusal(h: Head, s: u32, room: usize) -> u32
     if state::mode_number(mode) == 0 {
         return 31;
     }
-    if !rules::one_to(state::side_count(h), s) {
+    if !rows::one_to(state::side_count(h), s) {
         return 21;
     }
-    if rules::capped(h.measures, 32) <= room {
+    if rows::capped(h.measures, 32) <= room {
         return 0;
     }
     41

@@ -7,7 +7,8 @@ use lib.IntN.{ℤ}
 use Rattle.protocol.specs.Lists.{none, oneTo}
 use Rattle.protocol.specs.Plan.{blank, is, measureLimit, ruleLimit}
 use Rattle.protocol.specs.Calls.{Check, _unless_, _when_, no11, no15}
-use Rattle.rules.specs.Rows.{row, holdsIn}
+use Rattle.rows.specs.Rows.{row}
+use Rattle.rules.specs.Rules.{holdsIn}
 use Rattle.state.specs.declared.Head.{Head}
 use Rattle.state.specs.declared.State.{State}
 use Rattle.state.specs.declared.Mode.the-variants.{Whole}

@@ -46,8 +46,8 @@ pub fn with_measures(h: Head, n: u32) -> Head
 fn pair_in(n: usize, a: u32, b: u32) -> bool
     ensures { λ t. ⌜ t ≡ (oneTo n a && oneTo n b && not (eqb a b)) ⌝ }
 {
-    if rules::one_to(n, a) {
-        if rules::one_to(n, b) {
+    if rows::one_to(n, a) {
+        if rows::one_to(n, b) {
             return a != b;
         }
         return false;
@@ -78,7 +78,7 @@ pub fn rule_refusal(h: Head, a: u32, c: i32, b: u32, f: i32) -> u32
     if 64 <= h.rules {
         return 13;
     }
-    if !pair_in(rules::capped(h.measures, 32), a, b) {
+    if !pair_in(rows::capped(h.measures, 32), a, b) {
         return 14;
     }
     if limits_ok(c, f) {

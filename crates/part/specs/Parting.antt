@@ -7,7 +7,7 @@ use lib.IntN.{ℤ}
 use Rattle.protocol.specs.Lists.{oneTo}
 use Rattle.protocol.specs.Plan.{whole, split, is, sideLimit}
 use Rattle.protocol.specs.Calls.{Check, _unless_}
-use Rattle.rules.specs.Rows.{copiedIn}
+use Rattle.rows.specs.Rows.{copiedIn}
 use Rattle.state.specs.declared.Head.{Head}
 use Rattle.state.specs.declared.Mode.the-variants.{Split, Joining}
 use Rattle.state.specs.View.{modeOf, sidesIn}

@@ -22,7 +22,7 @@ pub fn split_refusal(h: Head, s: u32) -> u32
         return 31;
     }
     let n = state::side_count(h);
-    if !rules::one_to(n, s) {
+    if !rows::one_to(n, s) {
         return 21;
     }
     if n < 8 {
@@ -90,7 +90,7 @@ fn split_base(h: Head, base: [i32; 32], values: &[i32; 256]) -> [i32; 32]
     let m = h.mode;
     if state::mode_number(m) == 1 {
         let mut row = base;
-        rules::copy(&mut row, values, 0, 0, 32);
+        rows::copy(&mut row, values, 0, 0, 32);
         return row;
     }
     base
@@ -113,7 +113,7 @@ pub fn split(p: State, s: i32) -> Answered
     let old = p.base;
     let base = split_base(h, old, &p.values);
     let mut rows = p.values;
-    rules::copy(
+    rows::copy(
         &mut rows,
         &p.values,
         state::offset(from),

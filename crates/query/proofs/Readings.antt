@@ -13,8 +13,8 @@ use Rattle.protocol.specs.Lists.{bit, natural, oneTo, tally, count}
 use Rattle.protocol.specs.Plan.{Kept, fateNumber, isOpen, sideAt, lookup, unsentOf, pending}
 use Rattle.protocol.specs.Calls.{show, fine, refused, first, checks, further, gives, step, fateIn, leftIn, shown}
 use Rattle.protocol.proofs.Laws.{cases, range, yes-is, is-yes, tally-same}
-use Rattle.rules.specs.Rows.{span, row, copied, copiedIn}
-use Rattle.rules.proofs.Spans.{getD-set, getD-other, below}
+use Rattle.rows.specs.Rows.{span, row, copied, copiedIn}
+use Rattle.rows.proofs.Spans.{getD-set, getD-other, below}
 use Rattle.state.specs.declared.EditRecord.{EditRecord}
 use Rattle.state.specs.declared.Head.{Head}
 use Rattle.state.specs.declared.State.{State}

@@ -5,7 +5,7 @@ ghost use Prim.Native.Nat.{_+_, _≤_};
 ghost use lib.ListN.{length, drop};
 ghost use Rattle.protocol.specs.Plan.{is};
 ghost use Rattle.protocol.specs.Calls.{fate-of, left, shown};
-ghost use Rattle.rules.specs.Rows.{row};
+ghost use Rattle.rows.specs.Rows.{row};
 ghost use Rattle.state.specs.View.{view};
 ghost use Rattle.state.specs.Meets.{Meets};
 use state::Answer;
@@ -52,7 +52,7 @@ fn fill(values: &[i32; 256], at: usize, n: usize, buffer: &mut [i32])
     requires { ⌜ (at + n ≤ length (now values)) × (n ≤ length (now buffer)) ⌝ }
     ensures { λ _. ⌜ now (buffer .exit) ≡ row (now (values .entry)) at n ++ drop n (now (buffer .entry)) ⌝ }
 {
-    rules::copy(buffer, values, at, 0, n);
+    rows::copy(buffer, values, at, 0, n);
 }
 
 // The side's values in the front of the lent buffer, and that part handed back; the refusal number, 0 if accepted, beside it.
@@ -68,7 +68,7 @@ pub fn show<'a>(p: State, s: i32, buffer: &'a mut [i32], refusal: &mut u32) -> &
     if k != 0 {
         return &mut buffer[..0];
     }
-    let n = rules::capped(h.measures, 32);
+    let n = rows::capped(h.measures, 32);
     let at = state::offset(side);
     fill(&p.values, at, n, &mut buffer[..]);
     &mut buffer[..n]

@@ -11,9 +11,9 @@ use Rattle.protocol.specs.Lists.{none, oneTo, natural, count, modify}
 use Rattle.protocol.specs.Plan.{modeNumber, closing, is, active, isWaiting, Side, sideAt, sidesThat, unsentOf}
 use Rattle.protocol.specs.Calls.{Call, Check, _unless_, _when_, first, refused, checks, further, after, gives, ok, stop, confirm, send, install, hasArrived, hasConfirmed, sent}
 use Rattle.protocol.proofs.Laws.{range, is-yes}
-use Rattle.rules.specs.Rows.{span, copiedIn}
-use Rattle.rules.proofs.Copies.{row-copied}
-use Rattle.rules.proofs.Spans.{getD-set}
+use Rattle.rows.specs.Rows.{span, copiedIn}
+use Rattle.rows.proofs.Copies.{row-copied}
+use Rattle.rows.proofs.Spans.{getD-set}
 use Rattle.state.specs.declared.Answer.the-variants.{Done, Number}
 use Rattle.state.specs.declared.EditRecord.{EditRecord}
 use Rattle.state.specs.declared.Head.{Head}

@@ -81,7 +81,7 @@ pub fn install(p: State) -> Answered
     }
     let head = turns::install_head(h);
     let mut rows = p.values;
-    rules::copy(&mut rows, &p.draft, 0, 0, 32);
+    rows::copy(&mut rows, &p.draft, 0, 0, 32);
     let mut q = p;
     q.head = head;
     q.values = rows;

@@ -16,8 +16,9 @@ use Rattle.protocol.specs.Plan.{isWaiting, isSettled, effective, fits, holds, m
 use Rattle.protocol.specs.Calls.{Call, replay, Check, Verdict, fine, refused, first, checks, further, replayable, settled, outcome, update, nextPlace, after, gives, ok, stepBy, step}
 use Rattle.protocol.proofs.Laws.{cases, is-yes, range, Fine, Pass, passed}
 use Rattle.change.specs.Change.{viewChange}
-use Rattle.rules.specs.Rows.{row, withValue, holdsIn}
-use Rattle.rules.proofs.Spans.{length-span}
+use Rattle.rows.specs.Rows.{row}
+use Rattle.rules.specs.Rules.{withValue, holdsIn}
+use Rattle.rows.proofs.Spans.{length-span}
 use Rattle.rules.proofs.Rows.{made-with, modify-out, holds-is, row-set}
 use Rattle.state.specs.declared.EditRecord.{EditRecord}
 use Rattle.state.specs.declared.Head.{Head}

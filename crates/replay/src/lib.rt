@@ -15,7 +15,7 @@ pub fn point(m: u32) -> usize
     if m == 0 {
         return 0;
     }
-    rules::capped(m - 1, 31)
+    rows::capped(m - 1, 31)
 }
 
 pub fn replay(p: State, n: i32) -> Answered

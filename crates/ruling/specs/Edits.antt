@@ -14,7 +14,8 @@ use Rattle.change.specs.declared.Change.the-variants.{Set}
 use Rattle.change.specs.declared.Made.{Made}
 use Rattle.change.specs.declared.Made.the-variants.{Made as MadeOf, Refused as NotMade}
 use Rattle.change.specs.Change.{viewChange, madeOf}
-use Rattle.rules.specs.Rows.{row, rulesIn}
+use Rattle.rows.specs.Rows.{row}
+use Rattle.rules.specs.Rules.{rulesIn}
 use Rattle.state.specs.declared.EditRecord.{EditRecord}
 use Rattle.state.specs.declared.Fate.the-variants.{Unsent}
 use Rattle.state.specs.declared.Head.{Head}

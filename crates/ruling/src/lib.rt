@@ -6,7 +6,7 @@ ghost use lib.Dec.{leb};
 ghost use Rattle.protocol.specs.Lists.{natural};
 ghost use Rattle.protocol.specs.Plan.{is, whole};
 ghost use Rattle.protocol.specs.Calls.{edit, apart, no22, no25};
-ghost use Rattle.rules.specs.Rows.{firmIn};
+ghost use Rattle.rules.specs.Rules.{firmIn};
 ghost use Rattle.state.specs.View.{modeOf, keptAt};
 ghost use Rattle.ruling.specs.Edits.{changeRuling, editRuling, editHead, editRecord, editDecision};
 use change::Change;
@@ -170,13 +170,13 @@ fn edit_ruling<'a>(
     if !editable(mode) {
         return Ruling::Refused(31);
     }
-    if !rules::one_to(state::side_count(h), s) {
+    if !rows::one_to(state::side_count(h), s) {
         return Ruling::Refused(21);
     }
     if !is_client(client) {
         return Ruling::Refused(22);
     }
-    if !rules::one_to(rules::capped(h.measures, 32), m) {
+    if !rows::one_to(rows::capped(h.measures, 32), m) {
         return Ruling::Refused(23);
     }
     let made = change::make(kind, constant);
@@ -203,7 +203,7 @@ fn edit_head(h: Head) -> Head
     ensures { λ r. ⌜ r ≡ editHead h ⌝ }
 {
     let mode = h.mode;
-    let next = rules::capped(h.next, 999999) as u32 + 1;
+    let next = rows::capped(h.next, 999999) as u32 + 1;
     if is_whole(mode) {
         return Head {
             mode,
@@ -217,7 +217,7 @@ fn edit_head(h: Head) -> Head
             drafted: h.drafted,
         };
     }
-    let kept = rules::capped(h.kept, 255) as u32 + 1;
+    let kept = rows::capped(h.kept, 255) as u32 + 1;
     Head {
         mode,
         measures: h.measures,

@@ -10,7 +10,8 @@ use Rattle.protocol.specs.Plan.{active, isWaiting, isSettled, fits, made, appli
 use Rattle.protocol.specs.Calls.{Check, _unless_, _when_, Verdict, fine, refused, first}
 use Rattle.change.specs.declared.Change.{Change}
 use Rattle.change.specs.Change.{viewChange}
-use Rattle.rules.specs.Rows.{row, holdsIn}
+use Rattle.rows.specs.Rows.{row}
+use Rattle.rules.specs.Rules.{holdsIn}
 use Rattle.state.specs.declared.EditRecord.{EditRecord}
 use Rattle.state.specs.declared.Fate.the-variants.{Accepted, Revoked}
 use Rattle.state.specs.declared.Head.{Head}

@@ -45,11 +45,11 @@ fn try_draft<'a>(
 ) -> Outcome
     ensures { λ r. ⌜ r ≡ draftOutcome h (now (lower .entry)) (now (gap .entry)) (now (upper .entry)) (now (draft .entry)) m change old ⌝ }
 {
-    let n = rules::capped(h.drafted, 32);
+    let n = rows::capped(h.drafted, 32);
     let tried = rules::try_change(lower, gap, upper, h.rules, draft, 0, h.drafted, m, change);
     match tried {
         Trial::Effective(x) => {
-            if rules::one_to(n, m) {
+            if rows::one_to(n, m) {
                 return Outcome::Settled(true, x);
             }
             Outcome::Settled(true, old)

@@ -12,8 +12,8 @@ use Rattle.protocol.specs.Lists.{modify, snoc}
 use Rattle.protocol.specs.Plan.{Fate, unsent, waiting, accepted, revoked, fateNumber, fateIs, Kept, absentEdit, lookup}
 use Rattle.protocol.specs.Calls.{update}
 use Rattle.protocol.proofs.Laws.{cases}
-use Rattle.rules.specs.Rows.{span}
-use Rattle.rules.proofs.Spans.{span-same, span-snoc, modify-span, getD-set, getD-other}
+use Rattle.rows.specs.Rows.{span}
+use Rattle.rows.proofs.Spans.{span-same, span-snoc, modify-span, getD-set, getD-other}
 use Rattle.state.specs.declared.EditRecord.{EditRecord}
 use Rattle.state.specs.declared.Test.{Test}
 use Rattle.state.specs.declared.Test.the-variants.{UnsentOf, Waiting, Open, Settled}

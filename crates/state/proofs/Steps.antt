@@ -11,7 +11,7 @@ use lib.ListN.{length, getD, set}
 use Rattle.protocol.specs.Lists.{oneTo, all}
 use Rattle.protocol.specs.Calls.{Call, Check, first, checks, after, gives, ok}
 use Rattle.protocol.proofs.Laws.{Pass}
-use Rattle.rules.proofs.Spans.{getD-set, getD-other}
+use Rattle.rows.proofs.Spans.{getD-set, getD-other}
 use Rattle.state.specs.declared.Answered.{Answered}
 use Rattle.state.specs.declared.EditRecord.{EditRecord}
 use Rattle.state.specs.declared.Head.{Head}

@@ -16,8 +16,8 @@ use Rattle.protocol.specs.Lists.{bit, tally, modify, snoc}
 use native.Mathlib.Numerals.{add-one}
 use Rattle.protocol.specs.Plan.{Side, Mode, modeNumber, Content, Plan, absentSide, sideAt, sidesThat, lookup}
 use Rattle.protocol.proofs.Laws.{tally-same}
-use Rattle.rules.specs.Rows.{span, row}
-use Rattle.rules.proofs.Spans.{length-span, span-same, span-snoc, nth-span, modify-span, getD-set, getD-other}
+use Rattle.rows.specs.Rows.{span, row}
+use Rattle.rows.proofs.Spans.{length-span, span-same, span-snoc, nth-span, modify-span, getD-set, getD-other}
 use Rattle.state.proofs.State.{the-type}
 use Rattle.state.proofs.State.Laws.{the-laws}
 use Rattle.state.specs.declared.Head.{Head}

@@ -8,7 +8,8 @@ use lib.ListN.{getD}
 use Rattle.protocol.specs.Plan as model
 use Rattle.change.specs.Change.{viewChange}
 use Rattle.change.specs.declared.Change.the-variants.{Set}
-use Rattle.rules.specs.Rows.{span, row, rulesIn}
+use Rattle.rows.specs.Rows.{span, row}
+use Rattle.rules.specs.Rules.{rulesIn}
 use Rattle.state.specs.declared.Mode.{Mode}
 use Rattle.state.specs.declared.Mode.the-variants.{Blank, Whole, Split, Joining, Closing}
 use Rattle.state.specs.declared.Fate.{Fate}

@@ -126,7 +126,7 @@ pub fn side_count(h: Head) -> usize
     if mode_number(m) < 2 {
         return 1;
     }
-    rules::capped(h.added, 7) + 1
+    rows::capped(h.added, 7) + 1
 }
 
 // A side's place among the flags. A number that is no side's has some place too.
@@ -136,7 +136,7 @@ pub fn index(s: u32) -> usize
     if s == 0 {
         return 0;
     }
-    rules::capped(s - 1, 7)
+    rows::capped(s - 1, 7)
 }
 
 // Where a side's values begin.
@@ -162,7 +162,7 @@ pub fn position(h: Head, n: u32) -> usize
     ensures { λ r. ⌜ (r ≡ positionOf (endIn h) (keptIn h) n) × (r ≤ 256) ⌝ }
 {
     let e = end(h) as usize;
-    let k = rules::capped(h.kept, 256);
+    let k = rows::capped(h.kept, 256);
     let m = n as usize;
     if m == 0 {
         if 0 < k {
@@ -226,7 +226,7 @@ pub fn satisfies(e: EditRecord, t: Test) -> u32
 pub fn count(edits: [EditRecord; 256], h: Head, t: Test) -> u32
     ensures { λ r. ⌜ (r ≡ count (testOf t) (keptOf h edits)) × (r ≤ 256) ⌝ }
 {
-    let k = rules::capped(h.kept, 256);
+    let k = rows::capped(h.kept, 256);
     let mut n: u32 = 0;
     let mut i: usize = 0;
     while i < k {

@@ -11,7 +11,7 @@ use lib.ListN.{length, getD, set, length-set}
 use Rattle.protocol.specs.Lists.{bit}
 use Rattle.protocol.specs.Calls.{sent}
 use Rattle.protocol.proofs.Laws.{cases}
-use Rattle.rules.proofs.Spans.{span-same, map-span, getD-set, getD-other, below}
+use Rattle.rows.proofs.Spans.{span-same, map-span, getD-set, getD-other, below}
 use Rattle.state.specs.declared.EditRecord.{EditRecord}
 use Rattle.state.specs.declared.Head.{Head}
 use Rattle.state.specs.View.{keptIn, keptAt, keptOf, noRecord}

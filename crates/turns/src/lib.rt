@@ -22,7 +22,7 @@ pub fn send_refusal(h: Head, s: u32, arrived: bool, unsent: u32) -> u32
     if !state::is_active(mode) {
         return 31;
     }
-    if !rules::one_to(state::side_count(h), s) {
+    if !rows::one_to(state::side_count(h), s) {
         return 21;
     }
     if arrived {
@@ -66,7 +66,7 @@ pub fn confirm_refusal(h: Head, s: u32, confirmed: bool, unsent: u32) -> u32
     if state::mode_number(mode) != 4 {
         return 31;
     }
-    if !rules::one_to(state::side_count(h), s) {
+    if !rows::one_to(state::side_count(h), s) {
         return 21;
     }
     if confirmed {
@@ -147,7 +147,7 @@ fn sent_record(e: EditRecord, s: u32) -> EditRecord
 pub fn mark_sent(edits: [EditRecord; 256], h: Head, s: u32) -> [EditRecord; 256]
     ensures { λ r. ⌜ keptOf h r ≡ map (sent s) (keptOf h edits) ⌝ }
 {
-    let k = rules::capped(h.kept, 256);
+    let k = rows::capped(h.kept, 256);
     let mut next = edits;
     let mut i: usize = 0;
     while i < k {

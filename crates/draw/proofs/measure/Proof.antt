@@ -13,7 +13,7 @@ use Rattle.draw.proofs.measure.Reads as reads
 use Rattle.draw.proofs.measure.Lts as lts
 use Rattle.limits.proofs.measure_refusal.Reads as measure-refusal-reads
 use Rattle.limits.proofs.with_measures.Reads as with-measures-reads
-use Rattle.rules.proofs.capped.Reads as capped-reads
+use Rattle.rows.proofs.capped.Reads as capped-reads
 use Rattle.state.proofs.refuse.Reads as refuse-reads
 
 -- what the check found, of the number that was handed on

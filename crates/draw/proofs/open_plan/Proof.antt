@@ -7,7 +7,8 @@ use lib.IntN.{pos}
 use Rattle.protocol.specs.Lists.{none}
 use Rattle.protocol.specs.Plan.{blank, is}
 use Rattle.protocol.specs.Calls.{open-plan, gives}
-use Rattle.rules.specs.Rows.{row, holdsIn}
+use Rattle.rows.specs.Rows.{row}
+use Rattle.rules.specs.Rules.{holdsIn}
 use Rattle.state.specs.View.{modeOf, measuresIn}
 use Rattle.state.proofs.Meeting.{refused-meets, accepted-meets}
 use Rattle.draw.proofs.Draws.{some-left, no-value, open-checks, open-next}

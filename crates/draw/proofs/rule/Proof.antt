@@ -18,7 +18,7 @@ use Rattle.draw.proofs.rule.Lts as lts
 use Rattle.limits.proofs.rule_refusal.Reads as rule-refusal-reads
 use Rattle.limits.proofs.with_rules.Reads as with-rules-reads
 use Rattle.exact.proofs.number.Reads as number-reads
-use Rattle.rules.proofs.capped.Reads as capped-reads
+use Rattle.rows.proofs.capped.Reads as capped-reads
 use Rattle.state.proofs.refuse.Reads as refuse-reads
 
 abbrev asked : tie.Start → List Check

@@ -22,7 +22,7 @@ use Rattle.edit.proofs.edit.Lts as lts
 use Rattle.ruling.proofs.decide_edit.Reads as decide-edit-reads
 use Rattle.edit.proofs.spot.Reads as spot-reads
 use Rattle.exact.proofs.number.Reads as number-reads
-use Rattle.rules.proofs.capped.Reads as capped-reads
+use Rattle.rows.proofs.capped.Reads as capped-reads
 use Rattle.state.proofs.found.Reads as found-reads
 use Rattle.state.proofs.place.Reads as place-reads
 use Rattle.state.proofs.position.Reads as position-reads

@@ -3,7 +3,7 @@ use Prim.Native.Nat.{_+_, _≤_}
 use mathlib.Core.Path.{sym, _∙_}
 use borrow.Author.Tests.{not-true, not-false}
 use Rattle.protocol.specs.Plan.{is, joining}
-use Rattle.rules.proofs.Spans.{bit-one}
+use Rattle.rows.proofs.Spans.{bit-one}
 use Rattle.state.specs.View.{modeOf}
 use borrow.Author.Needs.{needs}
 use Rattle.figures.proofs.left_number.Statement.{statement}
@@ -12,7 +12,7 @@ use Rattle.figures.proofs.left_number.Reads as reads
 use Rattle.figures.proofs.left_number.Lts as lts
 use Rattle.figures.proofs.joining_bit.Reads as joining-bit-reads
 use Rattle.figures.proofs.pending_sides.Reads as pending-sides-reads
-use Rattle.rules.proofs.capped.Reads as capped-reads
+use Rattle.rows.proofs.capped.Reads as capped-reads
 use Rattle.state.proofs.is_active.Reads as is-active-reads
 use Rattle.state.proofs.unset.Reads as unset-reads
 

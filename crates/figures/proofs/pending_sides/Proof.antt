@@ -7,7 +7,7 @@ use mathlib.Core.Path.{_≡_, refl, sym, ap, _∙_}
 use lib.Dec.{ltb}
 use lib.ListN.{getD}
 use Rattle.protocol.specs.Lists.{bit}
-use Rattle.rules.proofs.Spans.{bit-one}
+use Rattle.rows.proofs.Spans.{bit-one}
 use Rattle.figures.specs.Reads.{pendingIn}
 use Rattle.state.proofs.Views.{tally-next, index-suc}
 use Rattle.figures.proofs.pending_sides.Statement.{statement}

@@ -10,8 +10,8 @@ use Rattle.figures.proofs.show_refusal.Statement.{statement}
 use Rattle.figures.proofs.show_refusal.Tie as tie
 use Rattle.figures.proofs.show_refusal.Reads as reads
 use Rattle.figures.proofs.show_refusal.Lts as lts
-use Rattle.rules.proofs.capped.Reads as capped-reads
-use Rattle.rules.proofs.one_to.Reads as one-to-reads
+use Rattle.rows.proofs.capped.Reads as capped-reads
+use Rattle.rows.proofs.one_to.Reads as one-to-reads
 use Rattle.state.proofs.mode_number.Reads as mode-number-reads
 use Rattle.state.proofs.side_count.Reads as side-count-reads
 

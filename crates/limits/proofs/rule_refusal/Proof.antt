@@ -16,7 +16,7 @@ use Rattle.limits.proofs.rule_refusal.Reads as reads
 use Rattle.limits.proofs.rule_refusal.Lts as lts
 use Rattle.limits.proofs.limits_ok.Reads as limits-ok-reads
 use Rattle.limits.proofs.pair_in.Reads as pair-in-reads
-use Rattle.rules.proofs.capped.Reads as capped-reads
+use Rattle.rows.proofs.capped.Reads as capped-reads
 use Rattle.state.proofs.mode_number.Reads as mode-number-reads
 
 -- the tests that were passed, and what the callees found of the numbers that were handed on

@@ -15,7 +15,7 @@ use Rattle.exact.proofs.number.Reads as number-reads
 use Rattle.part.proofs.split_base.Reads as split-base-reads
 use Rattle.part.proofs.split_head.Reads as split-head-reads
 use Rattle.part.proofs.split_refusal.Reads as split-refusal-reads
-use Rattle.rules.proofs.copy.Reads as copy-reads
+use Rattle.rows.proofs.copy.Reads as copy-reads
 use Rattle.state.proofs.index.Reads as index-reads
 use Rattle.state.proofs.offset.Reads as offset-reads
 use Rattle.state.proofs.refuse.Reads as refuse-reads

@@ -12,7 +12,7 @@ use Rattle.part.proofs.split_refusal.Statement.{statement}
 use Rattle.part.proofs.split_refusal.Tie as tie
 use Rattle.part.proofs.split_refusal.Reads as reads
 use Rattle.part.proofs.split_refusal.Lts as lts
-use Rattle.rules.proofs.one_to.Reads as one-to-reads
+use Rattle.rows.proofs.one_to.Reads as one-to-reads
 use Rattle.state.proofs.mode_number.Reads as mode-number-reads
 use Rattle.state.proofs.side_count.Reads as side-count-reads
 

@@ -8,7 +8,7 @@ use lib.ListN.{length, getD, take, drop}
 use mir.Facts.{toZ-ofZ}
 use Rattle.protocol.specs.Lists.{natural}
 use Rattle.protocol.specs.Calls.{Check, first, fine}
-use Rattle.rules.specs.Rows.{row}
+use Rattle.rows.specs.Rows.{row}
 use Rattle.state.specs.View.{measuresIn, offsetOf}
 use Rattle.state.specs.Meets.{refusalOf}
 use Rattle.state.proofs.Views.{row-length}
@@ -23,7 +23,7 @@ use Rattle.query.proofs.show.Lts as lts
 use Rattle.exact.proofs.number.Reads as number-reads
 use Rattle.query.proofs.fill.Reads as fill-reads
 use Rattle.figures.proofs.show_refusal.Reads as show-refusal-reads
-use Rattle.rules.proofs.capped.Reads as capped-reads
+use Rattle.rows.proofs.capped.Reads as capped-reads
 use Rattle.state.proofs.offset.Reads as offset-reads
 
 size : (c : tie.Start) → length (c .args .t1 .values) ≡ 256

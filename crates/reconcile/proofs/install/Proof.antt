@@ -10,7 +10,7 @@ use Rattle.reconcile.proofs.install.Reads as reads
 use Rattle.reconcile.proofs.install.Lts as lts
 use Rattle.turns.proofs.install_head.Reads as install-head-reads
 use Rattle.turns.proofs.install_refusal.Reads as install-refusal-reads
-use Rattle.rules.proofs.copy.Reads as copy-reads
+use Rattle.rows.proofs.copy.Reads as copy-reads
 use Rattle.state.proofs.count.Reads as count-reads
 use Rattle.state.proofs.refuse.Reads as refuse-reads
 use Rattle.state.proofs.unset.Reads as unset-reads

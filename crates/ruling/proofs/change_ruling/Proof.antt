@@ -11,7 +11,8 @@ use Rattle.exact.proofs.Ints.{fits32}
 use Rattle.protocol.specs.Plan.{firmlyNamed, keptLimit, holds, made, applied, fits}
 use Rattle.protocol.specs.Calls.{apart}
 use Rattle.change.specs.Change.{viewChange}
-use Rattle.rules.specs.Rows.{row, rulesIn, holdsIn, trialOf}
+use Rattle.rows.specs.Rows.{row}
+use Rattle.rules.specs.Rules.{rulesIn, holdsIn, trialOf}
 use Rattle.rules.proofs.Rows.{holds-is, firm-is, trial-out, trial-broken, trial-effective}
 use Rattle.state.specs.View.{modeOf, measuresIn, keptIn}
 use Rattle.ruling.specs.declared.Ruling.the-variants.{Granted}

@@ -5,7 +5,7 @@ use Rattle.ruling.proofs.edit_head.Tie as tie
 use Rattle.ruling.proofs.edit_head.Reads as reads
 use Rattle.ruling.proofs.edit_head.Lts as lts
 use Rattle.ruling.proofs.is_whole.Reads as is-whole-reads
-use Rattle.rules.proofs.capped.Reads as capped-reads
+use Rattle.rows.proofs.capped.Reads as capped-reads
 
 capped-requires : tie.Need-capped-requires
 capped-requires c κs = search needs

@@ -12,8 +12,9 @@ use Rattle.protocol.specs.Plan.{is, whole, applied, value}
 use Rattle.protocol.specs.Calls.{apart, no22, no25, first}
 use Rattle.change.specs.declared.Change.{Change}
 use Rattle.change.specs.Change.{viewChange, madeOf}
-use Rattle.rules.specs.Rows.{row, rulesIn}
-use Rattle.rules.proofs.Spans.{length-span}
+use Rattle.rows.specs.Rows.{row}
+use Rattle.rules.specs.Rules.{rulesIn}
+use Rattle.rows.proofs.Spans.{length-span}
 use Rattle.state.specs.View.{modeOf, sidesIn, measuresIn, offsetOf, keptIn, keptAt}
 use Rattle.ruling.specs.declared.Ruling.{Ruling}
 use Rattle.ruling.specs.Edits.{changeChecks, ruled, changeRuling, editRuling, changeOf, changeIn}
@@ -28,8 +29,8 @@ use Rattle.ruling.proofs.change_ruling.Reads as change-ruling-reads
 use Rattle.ruling.proofs.editable.Reads as editable-reads
 use Rattle.ruling.proofs.is_client.Reads as is-client-reads
 use Rattle.ruling.proofs.may_follow.Reads as may-follow-reads
-use Rattle.rules.proofs.capped.Reads as capped-reads
-use Rattle.rules.proofs.one_to.Reads as one-to-reads
+use Rattle.rows.proofs.capped.Reads as capped-reads
+use Rattle.rows.proofs.one_to.Reads as one-to-reads
 use Rattle.state.proofs.offset.Reads as offset-reads
 use Rattle.state.proofs.side_count.Reads as side-count-reads
 

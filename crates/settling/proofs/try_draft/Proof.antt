@@ -8,7 +8,7 @@ use Rattle.exact.proofs.Ints.{fits32}
 use Rattle.protocol.specs.Plan as model
 use Rattle.protocol.specs.Lists.{oneTo}
 use Rattle.change.specs.Change.{viewChange}
-use Rattle.rules.specs.Rows.{holdsIn, trialOf}
+use Rattle.rules.specs.Rules.{holdsIn, trialOf}
 use Rattle.rules.proofs.Rows.{trial-out, trial-broken, trial-effective}
 use Rattle.settling.specs.declared.Outcome.the-variants.{Settled}
 use Rattle.settling.specs.Replays.{draftIn, effectiveIn, draftOutcome}
@@ -17,8 +17,8 @@ use Rattle.settling.proofs.try_draft.Statement.{statement}
 use Rattle.settling.proofs.try_draft.Tie as tie
 use Rattle.settling.proofs.try_draft.Reads as reads
 use Rattle.settling.proofs.try_draft.Lts as lts
-use Rattle.rules.proofs.capped.Reads as capped-reads
-use Rattle.rules.proofs.one_to.Reads as one-to-reads
+use Rattle.rows.proofs.capped.Reads as capped-reads
+use Rattle.rows.proofs.one_to.Reads as one-to-reads
 use Rattle.rules.proofs.try_change.Reads as try-change-reads
 
 -- what the trial found

@@ -1,7 +1,7 @@
-use Rattle.rules.specs.Rows.{span}
+use Rattle.rows.specs.Rows.{span}
 use Rattle.state.proofs.Logs.{any-number}
-use Rattle.rules.proofs.Spans.{bit-one}
-use Rattle.rules.proofs.Spans.{count-span}
+use Rattle.rows.proofs.Spans.{bit-one}
+use Rattle.rows.proofs.Spans.{count-span}
 use mathlib.Core.Path.{refl}
 use borrow.Author.Needs.{needs}
 use native.Mathlib.Omega.{arith}
@@ -9,14 +9,14 @@ use Prim.Native.Nat.{ℕ, _≤_, _<_, _-_, _+_, min}
 use mathlib.Core.Path.{_≡_, sym, ap, _∙_}
 use lib.ListN.{getD}
 use Rattle.protocol.specs.Lists.{bit, count}
-use Rattle.rules.proofs.Spans.{Counted, count-begin, count-next, count-over}
+use Rattle.rows.proofs.Spans.{Counted, count-begin, count-next, count-over}
 use Rattle.state.specs.View.{keptAt, keptIn, endIn, noRecord}
 use Rattle.state.specs.Parts.{testOf}
 use Rattle.state.proofs.count.Statement.{statement}
 use Rattle.state.proofs.count.Tie as tie
 use Rattle.state.proofs.count.Reads as reads
 use Rattle.state.proofs.count.Lts as lts
-use Rattle.rules.proofs.capped.Reads as capped-reads
+use Rattle.rows.proofs.capped.Reads as capped-reads
 use Rattle.state.proofs.satisfies.Reads as satisfies-reads
 
 abbrev Inv-loop : tie.InvT-loop

@@ -10,7 +10,7 @@ use Rattle.state.proofs.position.Statement.{statement}
 use Rattle.state.proofs.position.Tie as tie
 use Rattle.state.proofs.position.Reads as reads
 use Rattle.state.proofs.position.Lts as lts
-use Rattle.rules.proofs.capped.Reads as capped-reads
+use Rattle.rows.proofs.capped.Reads as capped-reads
 use Rattle.state.proofs.end.Reads as end-reads
 
 end-requires : tie.Need-end-requires

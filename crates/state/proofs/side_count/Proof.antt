@@ -6,7 +6,7 @@ use Rattle.state.proofs.side_count.Statement.{statement}
 use Rattle.state.proofs.side_count.Tie as tie
 use Rattle.state.proofs.side_count.Reads as reads
 use Rattle.state.proofs.side_count.Lts as lts
-use Rattle.rules.proofs.capped.Reads as capped-reads
+use Rattle.rows.proofs.capped.Reads as capped-reads
 use Rattle.state.proofs.mode_number.Reads as mode-number-reads
 
 mode-number-requires : tie.Need-mode-number-requires

@@ -6,7 +6,7 @@ use mathlib.Core.Bool.{false, not}
 use mathlib.Core.Path.{_≡_, refl, sym, ap, _∙_}
 use lib.ListN.{getD}
 use Rattle.protocol.specs.Lists.{bit, tally}
-use Rattle.rules.proofs.Spans.{bit-one}
+use Rattle.rows.proofs.Spans.{bit-one}
 use Rattle.state.specs.View.{indexOf}
 use Rattle.state.specs.Parts.{unsetIn}
 use Rattle.state.proofs.unset.Statement.{statement}

@@ -10,7 +10,7 @@ use Rattle.turns.proofs.confirm_refusal.Statement.{statement}
 use Rattle.turns.proofs.confirm_refusal.Tie as tie
 use Rattle.turns.proofs.confirm_refusal.Reads as reads
 use Rattle.turns.proofs.confirm_refusal.Lts as lts
-use Rattle.rules.proofs.one_to.Reads as one-to-reads
+use Rattle.rows.proofs.one_to.Reads as one-to-reads
 use Rattle.state.proofs.mode_number.Reads as mode-number-reads
 use Rattle.state.proofs.side_count.Reads as side-count-reads
 

@@ -10,7 +10,7 @@ use Rattle.turns.proofs.mark_sent.Tie as tie
 use Rattle.turns.proofs.mark_sent.Reads as reads
 use Rattle.turns.proofs.mark_sent.Lts as lts
 use Rattle.turns.proofs.sent_record.Reads as sent-record-reads
-use Rattle.rules.proofs.capped.Reads as capped-reads
+use Rattle.rows.proofs.capped.Reads as capped-reads
 
 abbrev Inv-loop : tie.InvT-loop
 Inv-loop s k next₀ i₀ next i = (i ≤ k) × (k ≤ 256) × Sent s next₀ next i

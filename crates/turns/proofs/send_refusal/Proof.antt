@@ -11,7 +11,7 @@ use Rattle.turns.proofs.send_refusal.Statement.{statement}
 use Rattle.turns.proofs.send_refusal.Tie as tie
 use Rattle.turns.proofs.send_refusal.Reads as reads
 use Rattle.turns.proofs.send_refusal.Lts as lts
-use Rattle.rules.proofs.one_to.Reads as one-to-reads
+use Rattle.rows.proofs.one_to.Reads as one-to-reads
 use Rattle.state.proofs.is_active.Reads as is-active-reads
 use Rattle.state.proofs.side_count.Reads as side-count-reads
 

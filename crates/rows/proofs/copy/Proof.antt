@@ -4,16 +4,16 @@ use mathlib.Core.Path.{_≡_, refl, sym, ap, _∙_}
 use lib.ListN.{length}
 use mir.Facts.{toZ-ofZ}
 use Rattle.exact.proofs.Ints.{fits32}
-use Rattle.rules.specs.Rows.{copied, copiedIn}
-use Rattle.rules.proofs.Copies.{copied-next, length-copied}
+use Rattle.rows.specs.Rows.{copied, copiedIn}
+use Rattle.rows.proofs.Copies.{copied-next, length-copied}
 use Prim.Native.Nat.{_-_, _≤_, _+_, min}
-use Rattle.rules.specs.Rows.{copied}
-use Rattle.rules.proofs.copy.Statement.{statement}
-use Rattle.rules.proofs.copy.Tie as tie
-use Rattle.rules.proofs.copy.Reads as reads
-use Rattle.rules.proofs.copy.Lts as lts
-use Rattle.rules.proofs.lesser.Reads as lesser-reads
-use Rattle.rules.proofs.rest.Reads as rest-reads
+use Rattle.rows.specs.Rows.{copied}
+use Rattle.rows.proofs.copy.Statement.{statement}
+use Rattle.rows.proofs.copy.Tie as tie
+use Rattle.rows.proofs.copy.Reads as reads
+use Rattle.rows.proofs.copy.Lts as lts
+use Rattle.rows.proofs.lesser.Reads as lesser-reads
+use Rattle.rows.proofs.rest.Reads as rest-reads
 
 abbrev Inv-loop : tie.InvT-loop
 Inv-loop into₀ values from to n room size i₀ into i = (i ≤ size) × (into ≡ copied into₀ values from to i)

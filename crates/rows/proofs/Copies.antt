@@ -10,8 +10,8 @@ use lib.Dec.{eqb}
 use lib.IntN.{ℤ, pos}
 use lib.ListN.{length, getD, set, length-set}
 use Rattle.protocol.proofs.Laws.{cases}
-use Rattle.rules.specs.Rows.{row, copied, copiedIn}
-use Rattle.rules.proofs.Spans.{span-same, span-moved, getD-set, getD-other}
+use Rattle.rows.specs.Rows.{row, copied, copiedIn}
+use Rattle.rows.proofs.Spans.{span-same, span-moved, getD-set, getD-other}
 
 -- one value more, at places that need not be written as sums
 pub copied-next : (into values next : List ℤ) (from to i j k : ℕ) (v : ℤ) → next ≡ copied into values from to i → j ≡ from + i → k ≡ to + i → v ≡ getD values j (pos 0) → set next k v ≡ copied into values from to (i + 1)

@@ -1,36 +1,20 @@
--- Rows of values and rules as arrays hold them, and the tests on them. Assumes nothing.
-use Prim.Native.Nat.{ℕ, zero, suc, _+_, _-_, min}
-use mathlib.Core.Bool.{Bool, true, false, cond, _&&_, _||_}
-use mathlib.Core.List.{List, [], _∷_}
+-- Rules as arrays hold them, and their tests on a list of values. Assumes nothing.
+use Prim.Native.Nat.{ℕ, _+_, _-_}
+use mathlib.Core.Bool.{Bool, false, cond, _&&_, _||_}
+use mathlib.Core.List.{List}
 use lib.Dec.{eqb}
 use lib.IntN.{ℤ, pos, _+ℤ_}
 use lib.Signed.{ltZ}
-use lib.ListN.{length, getD, set}
+use lib.ListN.{getD}
 use Rattle.protocol.specs.Lists.{modify, all, any}
 use Rattle.protocol.specs.Plan as model
+use Rattle.rows.specs.Rows.{span, row}
 use Rattle.rules.specs.declared.Trial.{Trial}
 use Rattle.rules.specs.declared.Trial.the-variants.{Effective, OutOfRange, Broken}
-
--- f i, f (i + 1), and on: n of them
-abbrev pub span : {A : Type 0} → ℕ → ℕ → (ℕ → A) → List A
-span i zero f = []
-span i (suc n) f = f i ∷ span (suc i) n f
-
--- the n values of an array from a place on
-abbrev pub row : List ℤ → ℕ → ℕ → List ℤ
-row vs at n = span at n (λ i. getD vs i (pos 0))
 
 -- the values where measure m, if there is one, counts as x
 unfoldable pub withValue : ℕ → ℤ → List ℤ → List ℤ
 withValue m x vs = modify m (λ y. x) vs
-
--- n values of one array copied into another, from a place to a place; and the same as far as both arrays have the places
-unfoldable pub copied : List ℤ → List ℤ → ℕ → ℕ → ℕ → List ℤ
-copied into values from to zero = into
-copied into values from to (suc n) = set (copied into values from to n) (to + n) (getD values (from + n) (pos 0))
-
-abbrev pub copiedIn : List ℤ → List ℤ → ℕ → ℕ → ℕ → List ℤ
-copiedIn into values from to n = copied into values from to (min n (min (length into - to) (length values - from)))
 
 -- measure a plus c is less than measure b, where f gives a measure's value
 unfoldable pub pairHolds : (ℕ → ℤ) → ℕ → ℤ → ℕ → Bool

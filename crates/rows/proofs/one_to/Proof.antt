@@ -1,8 +1,8 @@
 use borrow.Author.Tests.{lt-ltb, le-ltb}
-use Rattle.rules.proofs.one_to.Statement.{statement}
-use Rattle.rules.proofs.one_to.Tie as tie
-use Rattle.rules.proofs.one_to.Reads as reads
-use Rattle.rules.proofs.one_to.Lts as lts
+use Rattle.rows.proofs.one_to.Statement.{statement}
+use Rattle.rows.proofs.one_to.Tie as tie
+use Rattle.rows.proofs.one_to.Reads as reads
+use Rattle.rows.proofs.one_to.Lts as lts
 
 returns : tie.Need-returns
 returns c = rw (lt-ltb 0 _ ((c .if1 .taken)))

@@ -10,7 +10,7 @@ use lib.Dec.{eqb, ltb}
 use lib.ListN.{length, getD, set, replicate}
 use Rattle.protocol.specs.Lists.{bit, tally, count, all, any, snoc, nth, modify}
 use Rattle.protocol.proofs.Laws.{cases}
-use Rattle.rules.specs.Rows.{span}
+use Rattle.rows.specs.Rows.{span}
 
 module _ {A : Type 0} where
   pub length-span : (i n : ℕ) (f : ℕ → A) → length (span i n f) ≡ n
