@@ -22,15 +22,16 @@ use Rattle.rows.specs.Rows.{span, row}
 use Rattle.rules.specs.Rules.{withValue}
 use Rattle.rows.proofs.Spans.{length-span}
 use Rattle.rules.proofs.Rows.{made-with, row-set, row-apart}
-use Rattle.state.specs.declared.EditRecord.{EditRecord}
-use Rattle.state.specs.declared.Fate.the-variants.{Unsent}
-use Rattle.state.specs.declared.Head.{Head}
+use Rattle.records.specs.declared.EditRecord.{EditRecord}
+use Rattle.records.specs.declared.Fate.the-variants.{Unsent}
+use Rattle.records.specs.declared.Head.{Head}
 use Rattle.state.specs.declared.State.{State}
-use Rattle.state.specs.View.{view, modeOf, single, sidesIn, sideOf, offsetOf, measuresIn, keptIn, endIn, keptAt, logOf, keptOf, rulesOf, noRecord}
+use Rattle.records.specs.Records.{modeOf, single, sidesIn, offsetOf, measuresIn, keptIn, endIn, keptAt, logOf, keptOf, noRecord}
+use Rattle.state.specs.View.{view, sideOf, rulesOf}
 use Rattle.state.specs.Parts.{namedIn}
 use Rattle.state.specs.Meets.{answerOf, SameIfRefused, Meets}
 use Rattle.state.proofs.Views.{Sized, plan-same, sides-most, sides-length, side-at, sides-modify, lookup-named}
-use Rattle.state.proofs.Logs.{log-snoc}
+use Rattle.records.proofs.Logs.{log-snoc}
 use Rattle.ruling.specs.declared.Decision.{Decision}
 use Rattle.ruling.specs.Edits.{editChecks, ruled, changeOf, changeIn, editRuling, editHead, editRecord, editDecision, spotOf, slotOf, editIn, stored}
 use Rattle.ruling.proofs.Rulings.{made-change}

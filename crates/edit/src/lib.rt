@@ -11,7 +11,7 @@ use state::State;
 pub fn spot(s: u32, m: u32) -> usize
     ensures { λ r. ⌜ (r ≡ spotOf s m) × (r < 256) ⌝ }
 {
-    let at = state::offset(s);
+    let at = records::offset(s);
     if m == 0 {
         return at;
     }
@@ -22,10 +22,10 @@ pub fn edit(p: State, s: i32, client: i32, after: i32, m: i32, kind: i32, consta
     ensures { λ r. ⌜ Meets (edit s client after m kind constant) p r ⌝ }
 {
     let h = p.head;
-    let i = state::position(h, exact::number(after));
-    let seat = state::place(i);
+    let i = records::position(h, exact::number(after));
+    let seat = records::place(i);
     let seen = p.edits[seat];
-    let named = state::found(i, seen);
+    let named = records::found(i, seen);
     let side = exact::number(s);
     let measure = exact::number(m);
     let at = spot(side, measure);

@@ -9,10 +9,10 @@ use Rattle.protocol.specs.Plan.{blank, is, measureLimit, ruleLimit}
 use Rattle.protocol.specs.Calls.{Check, _unless_, _when_, no11, no15}
 use Rattle.rows.specs.Rows.{row}
 use Rattle.rules.specs.Rules.{holdsIn}
-use Rattle.state.specs.declared.Head.{Head}
+use Rattle.records.specs.declared.Head.{Head}
 use Rattle.state.specs.declared.State.{State}
-use Rattle.state.specs.declared.Mode.the-variants.{Whole}
-use Rattle.state.specs.View.{modeOf, measuresIn}
+use Rattle.records.specs.declared.Mode.the-variants.{Whole}
+use Rattle.records.specs.Records.{modeOf, measuresIn}
 
 abbrev pub measureChecks : Head → ℤ → List Check
 measureChecks h v = (31 unless is blank (modeOf (h .mode))) ∷ (12 unless ltb (measuresIn h) measureLimit) ∷ no11 v ∷ []

@@ -16,9 +16,10 @@ use Rattle.protocol.proofs.Laws.{range, which}
 use Rattle.rows.specs.Rows.{span, row, copiedIn}
 use Rattle.rows.proofs.Spans.{span-same, span-snoc, map-span, getD-blank}
 use Rattle.state.specs.declared.Answer.the-variants.{Done, Number}
-use Rattle.state.specs.declared.Head.{Head}
+use Rattle.records.specs.declared.Head.{Head}
 use Rattle.state.specs.declared.State.{State}
-use Rattle.state.specs.View.{view, modeOf, sidesIn, sideOf, indexOf, offsetOf, measuresIn, endIn, keptIn, logOf, rulesOf}
+use Rattle.records.specs.Records.{modeOf, sidesIn, indexOf, offsetOf, measuresIn, endIn, keptIn, logOf}
+use Rattle.state.specs.View.{view, sideOf, rulesOf}
 use Rattle.state.specs.Parts.{refusedAs}
 use Rattle.state.specs.Meets.{refusalOf, Meets}
 use Rattle.state.proofs.Views.{plan-same, sides-length, side-at, first-row}

@@ -8,9 +8,9 @@ use Rattle.protocol.specs.Lists.{oneTo}
 use Rattle.protocol.specs.Plan.{whole, split, is, sideLimit}
 use Rattle.protocol.specs.Calls.{Check, _unless_}
 use Rattle.rows.specs.Rows.{copiedIn}
-use Rattle.state.specs.declared.Head.{Head}
-use Rattle.state.specs.declared.Mode.the-variants.{Split, Joining}
-use Rattle.state.specs.View.{modeOf, sidesIn}
+use Rattle.records.specs.declared.Head.{Head}
+use Rattle.records.specs.declared.Mode.the-variants.{Split, Joining}
+use Rattle.records.specs.Records.{modeOf, sidesIn}
 
 abbrev pub splitChecks : Head → ℕ → List Check
 splitChecks h s =

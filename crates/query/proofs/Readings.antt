@@ -15,14 +15,15 @@ use Rattle.protocol.specs.Calls.{show, fine, refused, first, checks, further, g
 use Rattle.protocol.proofs.Laws.{cases, range, yes-is, is-yes, tally-same}
 use Rattle.rows.specs.Rows.{span, row, copied, copiedIn}
 use Rattle.rows.proofs.Spans.{getD-set, getD-other, below}
-use Rattle.state.specs.declared.EditRecord.{EditRecord}
-use Rattle.state.specs.declared.Head.{Head}
+use Rattle.records.specs.declared.EditRecord.{EditRecord}
+use Rattle.records.specs.declared.Head.{Head}
 use Rattle.state.specs.declared.State.{State}
-use Rattle.state.specs.View.{view, sidesIn, indexOf, offsetOf, measuresIn, fateOf, keptAt, logOf, keptOf, noRecord}
-use Rattle.state.specs.Parts.{positionOf, placeOf, unsetIn}
-use Rattle.state.proofs.Views.{index-suc, sides-most, sides-length, side-at, row-length}
+use Rattle.records.specs.Records.{sidesIn, indexOf, offsetOf, measuresIn, fateOf, keptAt, logOf, keptOf, noRecord, positionOf, placeOf, unsetIn}
+use Rattle.state.specs.View.{view}
+use Rattle.records.proofs.Flags.{index-suc}
+use Rattle.state.proofs.Views.{sides-most, sides-length, side-at, row-length}
 use Rattle.state.proofs.Meeting.{fine-pass}
-use Rattle.state.proofs.Logs.{Placed, placed}
+use Rattle.records.proofs.Logs.{Placed, placed}
 use Rattle.figures.specs.Reads.{showChecks, pendingIn, unsentCounts, leftNumber}
 
 -- ---- fate

@@ -8,10 +8,10 @@ ghost use Rattle.protocol.specs.Calls.{fate-of, left, shown};
 ghost use Rattle.rows.specs.Rows.{row};
 ghost use Rattle.state.specs.View.{view};
 ghost use Rattle.state.specs.Meets.{Meets};
+use records::Test;
 use state::Answer;
 use state::Answered;
 use state::State;
-use state::Test;
 
 // ---- fate
 
@@ -19,15 +19,15 @@ pub fn fate(p: State, n: i32) -> Answered
     ensures { λ r. ⌜ Meets (fate-of n) p r ⌝ }
 {
     let h = p.head;
-    let i = state::position(h, exact::number(n));
+    let i = records::position(h, exact::number(n));
     if i == 0 {
         let answer = Answer::Pair(0, 0);
         return Answered { state: p, answer };
     }
-    let slot = state::place(i);
+    let slot = records::place(i);
     let e = p.edits[slot];
     let f = e.fate;
-    let answer = Answer::Pair(state::fate_number(f), e.place);
+    let answer = Answer::Pair(records::fate_number(f), e.place);
     Answered { state: p, answer }
 }
 
@@ -39,7 +39,7 @@ pub fn left(p: State) -> Answered
     let h = p.head;
     let edits = p.edits;
     let unsent = figures::unsent_counts(edits, h);
-    let unsettled = state::count(edits, h, Test::Open);
+    let unsettled = records::count(edits, h, Test::Open);
     let n = figures::left_number(h, &p.arrived, &p.confirmed, &unsent, unsettled);
     let answer = Answer::Number(n);
     Answered { state: p, answer }
@@ -69,7 +69,7 @@ pub fn show<'a>(p: State, s: i32, buffer: &'a mut [i32], refusal: &mut u32) -> &
         return &mut buffer[..0];
     }
     let n = rows::capped(h.measures, 32);
-    let at = state::offset(side);
+    let at = records::offset(side);
     fill(&p.values, at, n, &mut buffer[..]);
     &mut buffer[..n]
 }

@@ -15,12 +15,12 @@ use Rattle.rows.specs.Rows.{span, copiedIn}
 use Rattle.rows.proofs.Copies.{row-copied}
 use Rattle.rows.proofs.Spans.{getD-set}
 use Rattle.state.specs.declared.Answer.the-variants.{Done, Number}
-use Rattle.state.specs.declared.EditRecord.{EditRecord}
-use Rattle.state.specs.declared.Head.{Head}
-use Rattle.state.specs.declared.Mode.the-variants.{Closing}
+use Rattle.records.specs.declared.EditRecord.{EditRecord}
+use Rattle.records.specs.declared.Head.{Head}
+use Rattle.records.specs.declared.Mode.the-variants.{Closing}
 use Rattle.state.specs.declared.State.{State}
-use Rattle.state.specs.View.{view, modeOf, sidesIn, sideOf, indexOf, keptOf}
-use Rattle.state.specs.Parts.{unsetIn}
+use Rattle.records.specs.Records.{modeOf, sidesIn, indexOf, keptOf, unsetIn}
+use Rattle.state.specs.View.{view, sideOf}
 use Rattle.state.specs.Meets.{refusalOf, Meets}
 use Rattle.state.proofs.Views.{plan-same, sides-most, sides-length, side-at, sides-modify, flags-unset}
 use Rattle.state.proofs.Steps.{Checked, accepts, stored, flag-set, flag-other}

@@ -2,11 +2,11 @@
 // Each has a read-only check on what is lent to it, which a caller that owns the state can use too.
 ghost use Rattle.protocol.specs.Calls.{send, stop, confirm, install};
 ghost use Rattle.state.specs.Meets.{Meets};
+use records::Mode;
+use records::Test;
 use state::Answer;
 use state::Answered;
-use state::Mode;
 use state::State;
-use state::Test;
 
 // ---- the calls
 
@@ -16,8 +16,8 @@ pub fn send(p: State, s: i32) -> Answered
     let h = p.head;
     let side = exact::number(s);
     let edits = p.edits;
-    let n = state::count(edits, h, Test::UnsentOf(side));
-    let i = state::index(side);
+    let n = records::count(edits, h, Test::UnsentOf(side));
+    let i = records::index(side);
     let arrived = p.arrived[i];
     let k = turns::send_refusal(h, side, arrived, n);
     if k != 0 {
@@ -36,8 +36,8 @@ pub fn stop(p: State) -> Answered
 {
     let h = p.head;
     let edits = p.edits;
-    let waiting = state::count(edits, h, Test::Waiting);
-    let missing = state::unset(&p.arrived, h);
+    let waiting = records::count(edits, h, Test::Waiting);
+    let missing = records::unset(&p.arrived, h);
     let k = turns::stop_refusal(h, missing, waiting);
     if k != 0 {
         return state::refuse(p, k);
@@ -55,8 +55,8 @@ pub fn confirm(p: State, s: i32) -> Answered
     let h = p.head;
     let side = exact::number(s);
     let edits = p.edits;
-    let n = state::count(edits, h, Test::UnsentOf(side));
-    let i = state::index(side);
+    let n = records::count(edits, h, Test::UnsentOf(side));
+    let i = records::index(side);
     let confirmed = p.confirmed[i];
     let k = turns::confirm_refusal(h, side, confirmed, n);
     if k != 0 {
@@ -73,8 +73,8 @@ pub fn install(p: State) -> Answered
 {
     let h = p.head;
     let edits = p.edits;
-    let waiting = state::count(edits, h, Test::Waiting);
-    let missing = state::unset(&p.confirmed, h);
+    let waiting = records::count(edits, h, Test::Waiting);
+    let missing = records::unset(&p.confirmed, h);
     let k = turns::install_refusal(h, missing, waiting);
     if k != 0 {
         return state::refuse(p, k);

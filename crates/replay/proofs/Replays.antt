@@ -20,14 +20,15 @@ use Rattle.rows.specs.Rows.{row}
 use Rattle.rules.specs.Rules.{withValue, holdsIn}
 use Rattle.rows.proofs.Spans.{length-span}
 use Rattle.rules.proofs.Rows.{made-with, modify-out, holds-is, row-set}
-use Rattle.state.specs.declared.EditRecord.{EditRecord}
-use Rattle.state.specs.declared.Head.{Head}
+use Rattle.records.specs.declared.EditRecord.{EditRecord}
+use Rattle.records.specs.declared.Head.{Head}
 use Rattle.state.specs.declared.State.{State}
-use Rattle.state.specs.View.{view, modeOf, sidesIn, sideOf, indexOf, keptIn, endIn, keptAt, logOf, keptOf, rulesOf, noRecord}
-use Rattle.state.specs.Parts.{positionOf, placeOf, recordOf, unsetIn, namedIn}
+use Rattle.records.specs.Records.{modeOf, sidesIn, indexOf, keptIn, endIn, keptAt, logOf, keptOf, noRecord, positionOf, placeOf, recordOf, unsetIn}
+use Rattle.state.specs.View.{view, sideOf, rulesOf}
+use Rattle.state.specs.Parts.{namedIn}
 use Rattle.state.specs.Meets.{answerOf, SameIfRefused, Meets}
 use Rattle.state.proofs.Views.{Sized, plan-same, flags-unset, lookup-named}
-use Rattle.state.proofs.Logs.{Placed, placed, log-modify}
+use Rattle.records.proofs.Logs.{Placed, placed, log-modify}
 use Rattle.settling.specs.declared.Decision.{Decision}
 use Rattle.settling.specs.Replays.{replayChecks, draftIn, effectiveIn, draftOutcome, settledBy, replayOutcome, settledRecord, replayDecision, pointOf, slotIn, replayIn, stored}
 

@@ -4,9 +4,9 @@ ghost use Prim.Native.Nat.{_<_};
 ghost use Rattle.protocol.specs.Calls.{replay};
 ghost use Rattle.state.specs.Meets.{Meets};
 ghost use Rattle.settling.specs.Replays.{pointOf};
+use records::Test;
 use state::Answered;
 use state::State;
-use state::Test;
 
 // Where a measure stands in the draft.
 pub fn point(m: u32) -> usize
@@ -22,17 +22,17 @@ pub fn replay(p: State, n: i32) -> Answered
     ensures { λ r. ⌜ Meets (replay n) p r ⌝ }
 {
     let h = p.head;
-    let i = state::position(h, exact::number(n));
-    let slot = state::place(i);
+    let i = records::position(h, exact::number(n));
+    let slot = records::place(i);
     let standing = p.edits[slot];
-    let e = state::found(i, standing);
-    let j = state::position(h, e.earlier);
-    let seat = state::place(j);
+    let e = records::found(i, standing);
+    let j = records::position(h, e.earlier);
+    let seat = records::place(j);
     let seen = p.edits[seat];
-    let earlier = state::found(j, seen);
-    let missing = state::unset(&p.arrived, h);
+    let earlier = records::found(j, seen);
+    let missing = records::unset(&p.arrived, h);
     let edits = p.edits;
-    let place = state::count(edits, h, Test::Settled) + 1;
+    let place = records::count(edits, h, Test::Settled) + 1;
     let at = point(e.measure);
     let old = p.draft[at];
     let d = settling::decide_replay(

@@ -16,12 +16,12 @@ use Rattle.change.specs.declared.Made.the-variants.{Made as MadeOf, Refused as 
 use Rattle.change.specs.Change.{viewChange, madeOf}
 use Rattle.rows.specs.Rows.{row}
 use Rattle.rules.specs.Rules.{rulesIn}
-use Rattle.state.specs.declared.EditRecord.{EditRecord}
-use Rattle.state.specs.declared.Fate.the-variants.{Unsent}
-use Rattle.state.specs.declared.Head.{Head}
+use Rattle.records.specs.declared.EditRecord.{EditRecord}
+use Rattle.records.specs.declared.Fate.the-variants.{Unsent}
+use Rattle.records.specs.declared.Head.{Head}
 use Rattle.state.specs.declared.State.{State}
 use Rattle.state.specs.declared.Answer.the-variants.{Refused, Number}
-use Rattle.state.specs.View.{modeOf, sidesIn, measuresIn, offsetOf, keptIn, keptAt, noRecord}
+use Rattle.records.specs.Records.{modeOf, sidesIn, measuresIn, offsetOf, keptIn, keptAt, noRecord}
 use Rattle.state.specs.Parts.{namedIn}
 use Rattle.ruling.specs.declared.Ruling.{Ruling}
 use Rattle.ruling.specs.declared.Ruling.the-variants.{Refused as Denied, Granted}

@@ -12,13 +12,13 @@ use Rattle.change.specs.declared.Change.{Change}
 use Rattle.change.specs.Change.{viewChange}
 use Rattle.rows.specs.Rows.{row}
 use Rattle.rules.specs.Rules.{holdsIn}
-use Rattle.state.specs.declared.EditRecord.{EditRecord}
-use Rattle.state.specs.declared.Fate.the-variants.{Accepted, Revoked}
-use Rattle.state.specs.declared.Head.{Head}
+use Rattle.records.specs.declared.EditRecord.{EditRecord}
+use Rattle.records.specs.declared.Fate.the-variants.{Accepted, Revoked}
+use Rattle.records.specs.declared.Head.{Head}
 use Rattle.state.specs.declared.State.{State}
 use Rattle.state.specs.declared.Answer.the-variants.{Refused, Number}
-use Rattle.state.specs.View.{modeOf, sidesIn, endIn, keptIn, keptAt, keptOf, noRecord}
-use Rattle.state.specs.Parts.{positionOf, placeOf, unsetIn, namedIn}
+use Rattle.records.specs.Records.{modeOf, sidesIn, endIn, keptIn, keptAt, keptOf, noRecord, positionOf, placeOf, unsetIn}
+use Rattle.state.specs.Parts.{namedIn}
 use Rattle.settling.specs.declared.Outcome.{Outcome}
 use Rattle.settling.specs.declared.Outcome.the-variants.{Refused as Denied, Settled}
 use Rattle.settling.specs.declared.Decision.{Decision}

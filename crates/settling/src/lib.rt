@@ -3,14 +3,14 @@ ghost use mathlib.Core.Path.{_≡_};
 ghost use Prim.Native.Nat.{_<_};
 ghost use Rattle.protocol.specs.Plan.{isWaiting};
 ghost use Rattle.protocol.specs.Calls.{replay};
-ghost use Rattle.state.specs.View.{keptAt};
+ghost use Rattle.records.specs.Records.{keptAt};
 ghost use Rattle.settling.specs.Replays.{draftOutcome, replayOutcome, settledRecord, replayDecision};
 use change::Change;
+use records::EditRecord;
+use records::Fate;
+use records::Head;
 use rules::Trial;
 use state::Answer;
-use state::EditRecord;
-use state::Fate;
-use state::Head;
 
 // What the checks of a replay find: a refusal, or whether the edit is accepted and the value that the draft then has at its place.
 pub enum Outcome {
@@ -29,7 +29,7 @@ fn is_waiting(e: EditRecord) -> bool
     ensures { λ t. ⌜ t ≡ isWaiting (keptAt 0 e) ⌝ }
 {
     let f = e.fate;
-    state::fate_number(f) == 2
+    records::fate_number(f) == 2
 }
 
 // A change tried on the draft: whether it takes effect, and the value at its place then.
@@ -74,7 +74,7 @@ fn replay_outcome<'a>(
     ensures { λ r. ⌜ r ≡ replayOutcome h (now (lower .entry)) (now (gap .entry)) (now (upper .entry)) (now (draft .entry)) missing e earlier old ⌝ }
 {
     let mode = h.mode;
-    if !state::is_active(mode) {
+    if !records::is_active(mode) {
         return Outcome::Refused(31);
     }
     if missing != 0 {

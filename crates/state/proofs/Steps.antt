@@ -13,10 +13,11 @@ use Rattle.protocol.specs.Calls.{Call, Check, first, checks, after, gives, ok}
 use Rattle.protocol.proofs.Laws.{Pass}
 use Rattle.rows.proofs.Spans.{getD-set, getD-other}
 use Rattle.state.specs.declared.Answered.{Answered}
-use Rattle.state.specs.declared.EditRecord.{EditRecord}
-use Rattle.state.specs.declared.Head.{Head}
+use Rattle.records.specs.declared.EditRecord.{EditRecord}
+use Rattle.records.specs.declared.Head.{Head}
 use Rattle.state.specs.declared.State.{State}
-use Rattle.state.specs.View.{view, sidesIn, indexOf}
+use Rattle.records.specs.Records.{sidesIn, indexOf}
+use Rattle.state.specs.View.{view}
 use Rattle.state.specs.Parts.{refusedAs}
 use Rattle.state.specs.Meets.{answerOf, refusalOf, SameIfRefused, Meets}
 use Rattle.state.proofs.Views.{index-other}

@@ -6,10 +6,10 @@ use lib.Dec.{eqb, ltb}
 use Rattle.protocol.specs.Lists.{none, oneTo}
 use Rattle.protocol.specs.Plan.{joining, closing, modeNumber, is, active}
 use Rattle.protocol.specs.Calls.{Check, _unless_, _when_}
-use Rattle.state.specs.declared.Head.{Head}
-use Rattle.state.specs.declared.Mode.{Mode}
-use Rattle.state.specs.declared.Mode.the-variants.{Whole}
-use Rattle.state.specs.View.{modeOf, sidesIn}
+use Rattle.records.specs.declared.Head.{Head}
+use Rattle.records.specs.declared.Mode.{Mode}
+use Rattle.records.specs.declared.Mode.the-variants.{Whole}
+use Rattle.records.specs.Records.{modeOf, sidesIn}
 
 -- ---- checks
 

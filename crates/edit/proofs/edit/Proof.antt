@@ -7,8 +7,8 @@ use mir.Facts.{toZ-ofZ}
 use Rattle.exact.proofs.Ints.{fits32}
 use Rattle.protocol.specs.Lists.{natural}
 use Rattle.protocol.specs.Calls.{edit}
-use Rattle.state.specs.View.{endIn, keptIn, noRecord}
-use Rattle.state.specs.Parts.{positionOf, placeOf, recordOf, namedIn}
+use Rattle.records.specs.Records.{endIn, keptIn, noRecord, positionOf, placeOf, recordOf}
+use Rattle.state.specs.Parts.{namedIn}
 use Rattle.state.specs.Meets.{Meets}
 use Rattle.state.proofs.Views.{owned-sized}
 use Rattle.ruling.specs.declared.Decision.{Decision}
@@ -23,9 +23,9 @@ use Rattle.ruling.proofs.decide_edit.Reads as decide-edit-reads
 use Rattle.edit.proofs.spot.Reads as spot-reads
 use Rattle.exact.proofs.number.Reads as number-reads
 use Rattle.rows.proofs.capped.Reads as capped-reads
-use Rattle.state.proofs.found.Reads as found-reads
-use Rattle.state.proofs.place.Reads as place-reads
-use Rattle.state.proofs.position.Reads as position-reads
+use Rattle.records.proofs.found.Reads as found-reads
+use Rattle.records.proofs.place.Reads as place-reads
+use Rattle.records.proofs.position.Reads as position-reads
 
 number-requires : tie.Need-number-requires
 number-requires c κs = search needs

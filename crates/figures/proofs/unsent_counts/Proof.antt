@@ -5,13 +5,13 @@ use mathlib.Core.Path.{_≡_, refl, sym, ap, ap₂, _∙_}
 use native.Mathlib.Numerals.{add-one}
 use lib.ListN.{set}
 use Rattle.protocol.specs.Plan.{unsentOf}
-use Rattle.state.specs.View.{keptOf}
+use Rattle.records.specs.Records.{keptOf}
 use Rattle.figures.specs.Reads.{unsentCounts}
 use Rattle.figures.proofs.unsent_counts.Statement.{statement}
 use Rattle.figures.proofs.unsent_counts.Tie as tie
 use Rattle.figures.proofs.unsent_counts.Reads as reads
 use Rattle.figures.proofs.unsent_counts.Lts as lts
-use Rattle.state.proofs.count.Reads as count-reads
+use Rattle.records.proofs.count.Reads as count-reads
 
 abbrev Inv-loop : tie.InvT-loop
 Inv-loop edits h counts₀ i₀ counts i = (i ≤ 8) × (counts ≡ unsentCounts h edits i)

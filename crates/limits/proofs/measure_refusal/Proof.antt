@@ -5,14 +5,14 @@ use Rattle.protocol.specs.Plan.{inRange}
 use native.Mathlib.Omega.{arith}
 use mathlib.Core.Path.{sym, _∙_}
 use borrow.Author.Tests.{eq-eqb, ne-eqb, lt-ltb, le-ltb}
-use Rattle.state.specs.View.{measuresIn}
+use Rattle.records.specs.Records.{measuresIn}
 use borrow.Author.Needs.{needs}
 use Rattle.limits.proofs.measure_refusal.Statement.{statement}
 use Rattle.limits.proofs.measure_refusal.Tie as tie
 use Rattle.limits.proofs.measure_refusal.Reads as reads
 use Rattle.limits.proofs.measure_refusal.Lts as lts
 use Rattle.exact.proofs.in_range.Reads as in-range-reads
-use Rattle.state.proofs.mode_number.Reads as mode-number-reads
+use Rattle.records.proofs.mode_number.Reads as mode-number-reads
 
 mode-number-requires : tie.Need-mode-number-requires
 mode-number-requires c κs = search needs

@@ -8,7 +8,7 @@ use mir.Facts.{toZ-ofZ}
 use Rattle.protocol.specs.Lists.{oneTo}
 use Rattle.protocol.specs.Plan.{blank, is}
 use Rattle.protocol.specs.Calls.{no15}
-use Rattle.state.specs.View.{modeOf, measuresIn}
+use Rattle.records.specs.Records.{modeOf, measuresIn}
 use borrow.Author.Needs.{needs}
 use Rattle.limits.proofs.rule_refusal.Statement.{statement}
 use Rattle.limits.proofs.rule_refusal.Tie as tie
@@ -17,7 +17,7 @@ use Rattle.limits.proofs.rule_refusal.Lts as lts
 use Rattle.limits.proofs.limits_ok.Reads as limits-ok-reads
 use Rattle.limits.proofs.pair_in.Reads as pair-in-reads
 use Rattle.rows.proofs.capped.Reads as capped-reads
-use Rattle.state.proofs.mode_number.Reads as mode-number-reads
+use Rattle.records.proofs.mode_number.Reads as mode-number-reads
 
 -- the tests that were passed, and what the callees found of the numbers that were handed on
 mode-fine : (c : tie.Else1) → is blank (modeOf (c .before .before .args .h .mode)) ≡ true

@@ -4,7 +4,7 @@ use mathlib.Core.Path.{_≡_, sym, _∙_}
 use borrow.Author.Tests.{not-true, not-false, lt-ltb, le-ltb}
 use Rattle.protocol.specs.Lists.{oneTo}
 use Rattle.protocol.specs.Plan.{whole, split, modeNumber, is}
-use Rattle.state.specs.View.{modeOf, sidesIn}
+use Rattle.records.specs.Records.{modeOf, sidesIn}
 use Rattle.state.proofs.Steps.{side-tested}
 use Rattle.part.proofs.Partings.{one-or-two, not-one-or-two}
 use borrow.Author.Needs.{needs}
@@ -13,8 +13,8 @@ use Rattle.part.proofs.split_refusal.Tie as tie
 use Rattle.part.proofs.split_refusal.Reads as reads
 use Rattle.part.proofs.split_refusal.Lts as lts
 use Rattle.rows.proofs.one_to.Reads as one-to-reads
-use Rattle.state.proofs.mode_number.Reads as mode-number-reads
-use Rattle.state.proofs.side_count.Reads as side-count-reads
+use Rattle.records.proofs.mode_number.Reads as mode-number-reads
+use Rattle.records.proofs.side_count.Reads as side-count-reads
 
 -- the mode and the side's number passed
 past : (c : tie.Else3) → let a = c .before .before .before .before .before .before .args in ((is whole (modeOf (a .h .mode)) || is split (modeOf (a .h .mode))) ≡ true) × (oneTo (sidesIn (a .h)) (a .s) ≡ true)

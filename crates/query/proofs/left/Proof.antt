@@ -14,7 +14,7 @@ use Rattle.query.proofs.left.Reads as reads
 use Rattle.query.proofs.left.Lts as lts
 use Rattle.figures.proofs.left_number.Reads as left-number-reads
 use Rattle.figures.proofs.unsent_counts.Reads as unsent-counts-reads
-use Rattle.state.proofs.count.Reads as count-reads
+use Rattle.records.proofs.count.Reads as count-reads
 
 unsent-counts-requires : tie.Need-unsent-counts-requires
 unsent-counts-requires c κs = search needs

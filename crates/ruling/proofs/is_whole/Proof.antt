@@ -3,7 +3,7 @@ use Rattle.ruling.proofs.is_whole.Statement.{statement}
 use Rattle.ruling.proofs.is_whole.Tie as tie
 use Rattle.ruling.proofs.is_whole.Reads as reads
 use Rattle.ruling.proofs.is_whole.Lts as lts
-use Rattle.state.proofs.mode_number.Reads as mode-number-reads
+use Rattle.records.proofs.mode_number.Reads as mode-number-reads
 
 mode-number-requires : tie.Need-mode-number-requires
 mode-number-requires c κs = search needs

@@ -1,15 +1,14 @@
-use Rattle.state.specs.View.{keptAt}
-use Rattle.state.specs.declared.Test.the-variants.{UnsentOf}
+use Rattle.records.specs.Records.{keptAt, testOf}
+use Rattle.records.specs.declared.Test.the-variants.{UnsentOf}
 use mathlib.Core.Path.{sym, _∙_}
 use Rattle.protocol.proofs.Laws.{bit-zero, no-is}
-use Rattle.state.specs.Parts.{testOf}
 use Rattle.turns.proofs.Sends.{bit-some}
 use borrow.Author.Needs.{needs}
 use Rattle.turns.proofs.sent_record.Statement.{statement}
 use Rattle.turns.proofs.sent_record.Tie as tie
 use Rattle.turns.proofs.sent_record.Reads as reads
 use Rattle.turns.proofs.sent_record.Lts as lts
-use Rattle.state.proofs.satisfies.Reads as satisfies-reads
+use Rattle.records.proofs.satisfies.Reads as satisfies-reads
 
 satisfies-requires : tie.Need-satisfies-requires
 satisfies-requires c κs = search needs

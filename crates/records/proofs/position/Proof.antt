@@ -3,15 +3,14 @@ use Prim.Native.Nat.{ℕ, suc, _-_, _+_}
 use mathlib.Core.Path.{_≡_, ap, _∙_}
 use borrow.Author.Tests.{eq-eqb, ne-eqb, lt-ltb, le-ltb, le-leb, lt-leb}
 use native.Mathlib.Numerals.{add-one}
-use Rattle.state.specs.View.{endIn, keptIn}
-use Rattle.state.specs.Parts.{positionOf}
+use Rattle.records.specs.Records.{endIn, keptIn, positionOf}
 use borrow.Author.Needs.{needs}
-use Rattle.state.proofs.position.Statement.{statement}
-use Rattle.state.proofs.position.Tie as tie
-use Rattle.state.proofs.position.Reads as reads
-use Rattle.state.proofs.position.Lts as lts
+use Rattle.records.proofs.position.Statement.{statement}
+use Rattle.records.proofs.position.Tie as tie
+use Rattle.records.proofs.position.Reads as reads
+use Rattle.records.proofs.position.Lts as lts
 use Rattle.rows.proofs.capped.Reads as capped-reads
-use Rattle.state.proofs.end.Reads as end-reads
+use Rattle.records.proofs.end.Reads as end-reads
 
 end-requires : tie.Need-end-requires
 end-requires c κs = search needs

@@ -14,11 +14,10 @@ use Rattle.protocol.specs.Calls.{update}
 use Rattle.protocol.proofs.Laws.{cases}
 use Rattle.rows.specs.Rows.{span}
 use Rattle.rows.proofs.Spans.{span-same, span-snoc, modify-span, getD-set, getD-other}
-use Rattle.state.specs.declared.EditRecord.{EditRecord}
-use Rattle.state.specs.declared.Test.{Test}
-use Rattle.state.specs.declared.Test.the-variants.{UnsentOf, Waiting, Open, Settled}
-use Rattle.state.specs.View.{keptAt, logOf, noRecord}
-use Rattle.state.specs.Parts.{testOf, positionOf, placeOf, recordOf}
+use Rattle.records.specs.declared.EditRecord.{EditRecord}
+use Rattle.records.specs.declared.Test.{Test}
+use Rattle.records.specs.declared.Test.the-variants.{UnsentOf, Waiting, Open, Settled}
+use Rattle.records.specs.Records.{keptAt, logOf, noRecord, testOf, positionOf, placeOf, recordOf}
 
 pub open-low : (f : Fate) → (fateIs unsent f || fateIs waiting f) ≡ ltb (fateNumber f) 3
 open-low unsent = refl

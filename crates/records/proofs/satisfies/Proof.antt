@@ -1,12 +1,12 @@
 use borrow.Author.Tests.{eq-eqb, ne-eqb, lt-ltb, le-ltb}
-use Rattle.state.specs.View.{fateOf}
-use Rattle.state.proofs.Logs.{open-low}
+use Rattle.records.specs.Records.{fateOf}
+use Rattle.records.proofs.Logs.{open-low}
 use borrow.Author.Needs.{needs}
-use Rattle.state.proofs.satisfies.Statement.{statement}
-use Rattle.state.proofs.satisfies.Tie as tie
-use Rattle.state.proofs.satisfies.Reads as reads
-use Rattle.state.proofs.satisfies.Lts as lts
-use Rattle.state.proofs.fate_number.Reads as fate-number-reads
+use Rattle.records.proofs.satisfies.Statement.{statement}
+use Rattle.records.proofs.satisfies.Tie as tie
+use Rattle.records.proofs.satisfies.Reads as reads
+use Rattle.records.proofs.satisfies.Lts as lts
+use Rattle.records.proofs.fate_number.Reads as fate-number-reads
 
 fate-number-requires : tie.Need-fate-number-requires
 fate-number-requires c κs = search needs

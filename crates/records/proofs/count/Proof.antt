@@ -1,5 +1,5 @@
 use Rattle.rows.specs.Rows.{span}
-use Rattle.state.proofs.Logs.{any-number}
+use Rattle.records.proofs.Logs.{any-number}
 use Rattle.rows.proofs.Spans.{bit-one}
 use Rattle.rows.proofs.Spans.{count-span}
 use mathlib.Core.Path.{refl}
@@ -10,14 +10,13 @@ use mathlib.Core.Path.{_≡_, sym, ap, _∙_}
 use lib.ListN.{getD}
 use Rattle.protocol.specs.Lists.{bit, count}
 use Rattle.rows.proofs.Spans.{Counted, count-begin, count-next, count-over}
-use Rattle.state.specs.View.{keptAt, keptIn, endIn, noRecord}
-use Rattle.state.specs.Parts.{testOf}
-use Rattle.state.proofs.count.Statement.{statement}
-use Rattle.state.proofs.count.Tie as tie
-use Rattle.state.proofs.count.Reads as reads
-use Rattle.state.proofs.count.Lts as lts
+use Rattle.records.specs.Records.{keptAt, keptIn, endIn, noRecord, testOf}
+use Rattle.records.proofs.count.Statement.{statement}
+use Rattle.records.proofs.count.Tie as tie
+use Rattle.records.proofs.count.Reads as reads
+use Rattle.records.proofs.count.Lts as lts
 use Rattle.rows.proofs.capped.Reads as capped-reads
-use Rattle.state.proofs.satisfies.Reads as satisfies-reads
+use Rattle.records.proofs.satisfies.Reads as satisfies-reads
 
 abbrev Inv-loop : tie.InvT-loop
 Inv-loop t edits k n₀ i₀ n i = (i ≤ k) × Counted (testOf t) (λ j. keptAt 0 (getD edits j noRecord)) k i n

@@ -1,11 +1,11 @@
 use mathlib.Core.Path.{_≡_, sym, _∙_}
 use borrow.Author.Tests.{eq-eqb, ne-eqb}
 use borrow.Author.Needs.{needs}
-use Rattle.state.proofs.found.Statement.{statement}
-use Rattle.state.proofs.found.Tie as tie
-use Rattle.state.proofs.found.Reads as reads
-use Rattle.state.proofs.found.Lts as lts
-use Rattle.state.proofs.no_record.Reads as no-record-reads
+use Rattle.records.proofs.found.Statement.{statement}
+use Rattle.records.proofs.found.Tie as tie
+use Rattle.records.proofs.found.Reads as reads
+use Rattle.records.proofs.found.Lts as lts
+use Rattle.records.proofs.no_record.Reads as no-record-reads
 
 no-record-requires : tie.Need-no-record-requires
 no-record-requires c κs = search needs
