@@ -18,9 +18,9 @@ use Rattle.rules.specs.Rules.{rulesIn, withValue}
 use Rattle.rows.proofs.Spans.{length-span, span-same, span-snoc, getD-set, getD-other}
 use Rattle.rules.proofs.Rows.{holds-is}
 use Rattle.state.specs.declared.Answer.the-variants.{Number}
-use Rattle.records.specs.declared.Head.{Head}
+use Rattle.heads.specs.declared.Head.{Head}
 use Rattle.state.specs.declared.State.{State}
-use Rattle.records.specs.Records.{modeOf, sidesIn, measuresIn}
+use Rattle.heads.specs.Heads.{modeOf, sidesIn, measuresIn}
 use Rattle.state.specs.View.{view, sideOf, rulesOf}
 use Rattle.state.proofs.Views.{Sized, plan-same, sides-modify, sides-least, first-row, row-snoc, row-length}
 use Rattle.state.specs.Meets.{Meets}

@@ -53,7 +53,7 @@ pub fn open_plan(p: State) -> Answered
 {
     let h = p.head;
     let mode = h.mode;
-    if records::mode_number(mode) != 0 {
+    if heads::mode_number(mode) != 0 {
         return state::refuse(p, 31);
     }
     if h.measures == 0 {

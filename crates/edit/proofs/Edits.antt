@@ -24,9 +24,10 @@ use Rattle.rows.proofs.Spans.{length-span}
 use Rattle.rules.proofs.Rows.{made-with, row-set, row-apart}
 use Rattle.records.specs.declared.EditRecord.{EditRecord}
 use Rattle.records.specs.declared.Fate.the-variants.{Unsent}
-use Rattle.records.specs.declared.Head.{Head}
+use Rattle.heads.specs.declared.Head.{Head}
 use Rattle.state.specs.declared.State.{State}
-use Rattle.records.specs.Records.{modeOf, single, sidesIn, offsetOf, measuresIn, keptIn, endIn, keptAt, logOf, keptOf, noRecord}
+use Rattle.heads.specs.Heads.{modeOf, single, sidesIn, offsetOf, measuresIn, keptIn, endIn}
+use Rattle.records.specs.Records.{keptAt, logOf, keptOf, noRecord}
 use Rattle.state.specs.View.{view, sideOf, rulesOf}
 use Rattle.state.specs.Parts.{namedIn}
 use Rattle.state.specs.Meets.{answerOf, SameIfRefused, Meets}

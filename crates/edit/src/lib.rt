@@ -1,4 +1,4 @@
-// The call edit (01, "The calls"): a read-only decision on what is lent to it, and the stores. A caller that owns the state uses the same decision.
+// The call edit (01, "The calls"): the decision (`ruling`) and the stores. A caller that owns the state uses the same decision.
 ghost use mathlib.Core.Path.{_≡_};
 ghost use Prim.Native.Nat.{_<_};
 ghost use Rattle.protocol.specs.Calls.{edit};
@@ -11,7 +11,7 @@ use state::State;
 pub fn spot(s: u32, m: u32) -> usize
     ensures { λ r. ⌜ (r ≡ spotOf s m) × (r < 256) ⌝ }
 {
-    let at = records::offset(s);
+    let at = heads::offset(s);
     if m == 0 {
         return at;
     }
@@ -22,8 +22,8 @@ pub fn edit(p: State, s: i32, client: i32, after: i32, m: i32, kind: i32, consta
     ensures { λ r. ⌜ Meets (edit s client after m kind constant) p r ⌝ }
 {
     let h = p.head;
-    let i = records::position(h, exact::number(after));
-    let seat = records::place(i);
+    let i = heads::position(h, exact::number(after));
+    let seat = heads::place(i);
     let seen = p.edits[seat];
     let named = records::found(i, seen);
     let side = exact::number(s);

@@ -8,8 +8,9 @@ use Rattle.protocol.specs.Lists.{bit, oneTo, tally}
 use Rattle.protocol.specs.Plan.{blank, joining, is, active, unsentOf}
 use Rattle.protocol.specs.Calls.{Check, _unless_}
 use Rattle.records.specs.declared.EditRecord.{EditRecord}
-use Rattle.records.specs.declared.Head.{Head}
-use Rattle.records.specs.Records.{modeOf, sidesIn, indexOf, measuresIn, keptOf, unsetIn}
+use Rattle.heads.specs.declared.Head.{Head}
+use Rattle.heads.specs.Heads.{modeOf, sidesIn, indexOf, measuresIn, unsetIn}
+use Rattle.records.specs.Records.{keptOf}
 
 abbrev pub showChecks : Head → ℕ → ℕ → List Check
 showChecks h s room = (31 unless not (is blank (modeOf (h .mode)))) ∷ (21 unless oneTo (sidesIn h) s) ∷ (41 unless leb (measuresIn h) room) ∷ []

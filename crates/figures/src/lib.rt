@@ -7,12 +7,12 @@ ghost use lib.ListN.{length};
 ghost use Rattle.protocol.specs.Lists.{bit};
 ghost use Rattle.protocol.specs.Plan.{is, joining};
 ghost use Rattle.protocol.specs.Calls.{left, first};
-ghost use Rattle.records.specs.Records.{modeOf, sidesIn};
+ghost use Rattle.heads.specs.Heads.{modeOf, sidesIn};
 ghost use Rattle.state.specs.Meets.{refusalOf};
 ghost use Rattle.figures.specs.Reads.{showChecks, pendingIn, unsentCounts, leftNumber};
+use heads::Head;
+use heads::Mode;
 use records::EditRecord;
-use records::Head;
-use records::Mode;
 use records::Test;
 
 // ---- left
@@ -33,7 +33,7 @@ fn pending_bit(arrived: bool, unsent: u32) -> u32
 fn pending_sides<'a>(arrived: &'a [bool; 8], unsent: &'a [u32; 8], h: Head) -> u32
     ensures { λ r. ⌜ (r ≡ pendingIn (now (arrived .entry)) (now (unsent .entry)) (sidesIn h)) × (r ≤ 8) ⌝ }
 {
-    let n = records::side_count(h);
+    let n = heads::side_count(h);
     let mut k: u32 = 0;
     let mut i: usize = 0;
     while i < n {
@@ -48,11 +48,7 @@ fn pending_sides<'a>(arrived: &'a [bool; 8], unsent: &'a [u32; 8], h: Head) -> u
 fn joining_bit(mode: Mode) -> u32
     ensures { λ r. ⌜ r ≡ bit (is joining (modeOf mode)) ⌝ }
 {
-    if records::mode_number(mode) == 3 {
-        1
-    } else {
-        0
-    }
+    if heads::mode_number(mode) == 3 { 1 } else { 0 }
 }
 
 // The number left, from the counts of the kept edits: how many are unsent or waiting, and how many each side has unsent.
@@ -66,12 +62,12 @@ pub fn left_number<'a>(
     ensures { λ r. ⌜ r ≡ leftNumber h (now (arrived .entry)) (now (confirmed .entry)) (now (unsent .entry)) (min unsettled 256) ⌝ }
 {
     let mode = h.mode;
-    if !records::is_active(mode) {
+    if !heads::is_active(mode) {
         return 0;
     }
     let a = pending_sides(arrived, unsent, h);
     let b = rows::capped(unsettled, 256) as u32;
-    let c = records::unset(confirmed, h);
+    let c = heads::unset(confirmed, h);
     let j = joining_bit(mode);
     a + b + c + j + 1
 }
@@ -97,10 +93,10 @@ pub fn show_refusal(h: Head, s: u32, room: usize) -> u32
     ensures { λ r. ⌜ r ≡ refusalOf (first (showChecks h s room)) ⌝ }
 {
     let mode = h.mode;
-    if records::mode_number(mode) == 0 {
+    if heads::mode_number(mode) == 0 {
         return 31;
     }
-    if !rows::one_to(records::side_count(h), s) {
+    if !rows::one_to(heads::side_count(h), s) {
         return 21;
     }
     if rows::capped(h.measures, 32) <= room {

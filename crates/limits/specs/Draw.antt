@@ -1,4 +1,4 @@
--- The checks of each call from what it reads of the state, and the heads that the calls leave. Assumes nothing.
+-- The checks of measure, rule and open from what they read of the state, and the heads that the calls leave. Assumes nothing.
 use Prim.Native.Nat.{ℕ, min}
 use mathlib.Core.Bool.{not, _&&_}
 use mathlib.Core.List.{List, [], _∷_}
@@ -9,10 +9,10 @@ use Rattle.protocol.specs.Plan.{blank, is, measureLimit, ruleLimit}
 use Rattle.protocol.specs.Calls.{Check, _unless_, _when_, no11, no15}
 use Rattle.rows.specs.Rows.{row}
 use Rattle.rules.specs.Rules.{holdsIn}
-use Rattle.records.specs.declared.Head.{Head}
+use Rattle.heads.specs.declared.Head.{Head}
 use Rattle.state.specs.declared.State.{State}
-use Rattle.records.specs.declared.Mode.the-variants.{Whole}
-use Rattle.records.specs.Records.{modeOf, measuresIn}
+use Rattle.heads.specs.declared.Mode.the-variants.{Whole}
+use Rattle.heads.specs.Heads.{modeOf, measuresIn}
 
 abbrev pub measureChecks : Head → ℤ → List Check
 measureChecks h v = (31 unless is blank (modeOf (h .mode))) ∷ (12 unless ltb (measuresIn h) measureLimit) ∷ no11 v ∷ []

@@ -6,14 +6,14 @@ ghost use Rattle.protocol.specs.Lists.{oneTo};
 ghost use Rattle.protocol.specs.Calls.{rule, first, no15};
 ghost use Rattle.state.specs.Meets.{refusalOf};
 ghost use Rattle.limits.specs.Draw.{measureChecks, ruleChecks, measured, ruled, opened};
-use records::Head;
-use records::Mode;
+use heads::Head;
+use heads::Mode;
 
 pub fn measure_refusal(h: Head, v: i32) -> u32
     ensures { λ r. ⌜ r ≡ refusalOf (first (measureChecks h v)) ⌝ }
 {
     let mode = h.mode;
-    if records::mode_number(mode) != 0 {
+    if heads::mode_number(mode) != 0 {
         return 31;
     }
     if 32 <= h.measures {
@@ -72,7 +72,7 @@ pub fn rule_refusal(h: Head, a: u32, c: i32, b: u32, f: i32) -> u32
     ensures { λ r. ⌜ r ≡ refusalOf (first (ruleChecks h a c b f)) ⌝ }
 {
     let mode = h.mode;
-    if records::mode_number(mode) != 0 {
+    if heads::mode_number(mode) != 0 {
         return 31;
     }
     if 64 <= h.rules {

@@ -16,9 +16,10 @@ use Rattle.protocol.proofs.Laws.{range, which}
 use Rattle.rows.specs.Rows.{span, row, copiedIn}
 use Rattle.rows.proofs.Spans.{span-same, span-snoc, map-span, getD-blank}
 use Rattle.state.specs.declared.Answer.the-variants.{Done, Number}
-use Rattle.records.specs.declared.Head.{Head}
+use Rattle.heads.specs.declared.Head.{Head}
 use Rattle.state.specs.declared.State.{State}
-use Rattle.records.specs.Records.{modeOf, sidesIn, indexOf, offsetOf, measuresIn, endIn, keptIn, logOf}
+use Rattle.heads.specs.Heads.{modeOf, sidesIn, indexOf, offsetOf, measuresIn, endIn, keptIn}
+use Rattle.records.specs.Records.{logOf}
 use Rattle.state.specs.View.{view, sideOf, rulesOf}
 use Rattle.state.specs.Parts.{refusedAs}
 use Rattle.state.specs.Meets.{refusalOf, Meets}

@@ -4,8 +4,8 @@ ghost use mathlib.Core.Path.{_≡_};
 ghost use Rattle.protocol.specs.Calls.{split-side, join, first};
 ghost use Rattle.state.specs.Meets.{Meets, refusalOf};
 ghost use Rattle.part.specs.Parting.{splitChecks, splitHead, joinHead, splitBase};
-use records::Head;
-use records::Mode;
+use heads::Head;
+use heads::Mode;
 use state::Answer;
 use state::Answered;
 use state::State;
@@ -14,14 +14,14 @@ pub fn split_refusal(h: Head, s: u32) -> u32
     ensures { λ r. ⌜ r ≡ refusalOf (first (splitChecks h s)) ⌝ }
 {
     let mode = h.mode;
-    let m = records::mode_number(mode);
+    let m = heads::mode_number(mode);
     if m == 0 {
         return 31;
     }
     if 2 < m {
         return 31;
     }
-    let n = records::side_count(h);
+    let n = heads::side_count(h);
     if !rows::one_to(n, s) {
         return 21;
     }
@@ -39,8 +39,8 @@ fn split_head(h: Head) -> Head
 {
     let m = h.mode;
     let mode = Mode::Split;
-    let added = records::side_count(h) as u32;
-    if records::mode_number(m) == 1 {
+    let added = heads::side_count(h) as u32;
+    if heads::mode_number(m) == 1 {
         return Head {
             mode,
             measures: h.measures,
@@ -88,7 +88,7 @@ fn split_base(h: Head, base: [i32; 32], values: &[i32; 256]) -> [i32; 32]
     ensures { λ r. ⌜ r ≡ splitBase h base (now (values .entry)) ⌝ }
 {
     let m = h.mode;
-    if records::mode_number(m) == 1 {
+    if heads::mode_number(m) == 1 {
         let mut row = base;
         rows::copy(&mut row, values, 0, 0, 32);
         return row;
@@ -107,7 +107,7 @@ pub fn split(p: State, s: i32) -> Answered
     if k != 0 {
         return state::refuse(p, k);
     }
-    let n = records::side_count(h);
+    let n = heads::side_count(h);
     let to = n as u32 + 1;
     let head = split_head(h);
     let old = p.base;
@@ -116,11 +116,11 @@ pub fn split(p: State, s: i32) -> Answered
     rows::copy(
         &mut rows,
         &p.values,
-        records::offset(from),
-        records::offset(to),
+        heads::offset(from),
+        heads::offset(to),
         32,
     );
-    let i = records::index(to);
+    let i = heads::index(to);
     let mut q = p;
     q.head = head;
     q.base = base;
@@ -136,7 +136,7 @@ pub fn join(p: State) -> Answered
 {
     let h = p.head;
     let mode = h.mode;
-    if records::mode_number(mode) != 2 {
+    if heads::mode_number(mode) != 2 {
         return state::refuse(p, 31);
     }
     let head = join_head(h);

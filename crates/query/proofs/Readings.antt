@@ -16,11 +16,12 @@ use Rattle.protocol.proofs.Laws.{cases, range, yes-is, is-yes, tally-same}
 use Rattle.rows.specs.Rows.{span, row, copied, copiedIn}
 use Rattle.rows.proofs.Spans.{getD-set, getD-other, below}
 use Rattle.records.specs.declared.EditRecord.{EditRecord}
-use Rattle.records.specs.declared.Head.{Head}
+use Rattle.heads.specs.declared.Head.{Head}
 use Rattle.state.specs.declared.State.{State}
-use Rattle.records.specs.Records.{sidesIn, indexOf, offsetOf, measuresIn, fateOf, keptAt, logOf, keptOf, noRecord, positionOf, placeOf, unsetIn}
+use Rattle.heads.specs.Heads.{sidesIn, indexOf, offsetOf, measuresIn, positionOf, placeOf, unsetIn}
+use Rattle.records.specs.Records.{fateOf, keptAt, logOf, keptOf, noRecord}
 use Rattle.state.specs.View.{view}
-use Rattle.records.proofs.Flags.{index-suc}
+use Rattle.heads.proofs.Flags.{index-suc}
 use Rattle.state.proofs.Views.{sides-most, sides-length, side-at, row-length}
 use Rattle.state.proofs.Meeting.{fine-pass}
 use Rattle.records.proofs.Logs.{Placed, placed}

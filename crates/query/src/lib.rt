@@ -19,12 +19,12 @@ pub fn fate(p: State, n: i32) -> Answered
     ensures { λ r. ⌜ Meets (fate-of n) p r ⌝ }
 {
     let h = p.head;
-    let i = records::position(h, exact::number(n));
+    let i = heads::position(h, exact::number(n));
     if i == 0 {
         let answer = Answer::Pair(0, 0);
         return Answered { state: p, answer };
     }
-    let slot = records::place(i);
+    let slot = heads::place(i);
     let e = p.edits[slot];
     let f = e.fate;
     let answer = Answer::Pair(records::fate_number(f), e.place);
@@ -69,7 +69,7 @@ pub fn show<'a>(p: State, s: i32, buffer: &'a mut [i32], refusal: &mut u32) -> &
         return &mut buffer[..0];
     }
     let n = rows::capped(h.measures, 32);
-    let at = records::offset(side);
+    let at = heads::offset(side);
     fill(&p.values, at, n, &mut buffer[..]);
     &mut buffer[..n]
 }

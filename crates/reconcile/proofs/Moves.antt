@@ -16,10 +16,11 @@ use Rattle.rows.proofs.Copies.{row-copied}
 use Rattle.rows.proofs.Spans.{getD-set}
 use Rattle.state.specs.declared.Answer.the-variants.{Done, Number}
 use Rattle.records.specs.declared.EditRecord.{EditRecord}
-use Rattle.records.specs.declared.Head.{Head}
-use Rattle.records.specs.declared.Mode.the-variants.{Closing}
+use Rattle.heads.specs.declared.Head.{Head}
+use Rattle.heads.specs.declared.Mode.the-variants.{Closing}
 use Rattle.state.specs.declared.State.{State}
-use Rattle.records.specs.Records.{modeOf, sidesIn, indexOf, keptOf, unsetIn}
+use Rattle.heads.specs.Heads.{modeOf, sidesIn, indexOf, unsetIn}
+use Rattle.records.specs.Records.{keptOf}
 use Rattle.state.specs.View.{view, sideOf}
 use Rattle.state.specs.Meets.{refusalOf, Meets}
 use Rattle.state.proofs.Views.{plan-same, sides-most, sides-length, side-at, sides-modify, flags-unset}

@@ -2,7 +2,7 @@
 // Each has a read-only check on what is lent to it, which a caller that owns the state can use too.
 ghost use Rattle.protocol.specs.Calls.{send, stop, confirm, install};
 ghost use Rattle.state.specs.Meets.{Meets};
-use records::Mode;
+use heads::Mode;
 use records::Test;
 use state::Answer;
 use state::Answered;
@@ -17,7 +17,7 @@ pub fn send(p: State, s: i32) -> Answered
     let side = exact::number(s);
     let edits = p.edits;
     let n = records::count(edits, h, Test::UnsentOf(side));
-    let i = records::index(side);
+    let i = heads::index(side);
     let arrived = p.arrived[i];
     let k = turns::send_refusal(h, side, arrived, n);
     if k != 0 {
@@ -37,7 +37,7 @@ pub fn stop(p: State) -> Answered
     let h = p.head;
     let edits = p.edits;
     let waiting = records::count(edits, h, Test::Waiting);
-    let missing = records::unset(&p.arrived, h);
+    let missing = heads::unset(&p.arrived, h);
     let k = turns::stop_refusal(h, missing, waiting);
     if k != 0 {
         return state::refuse(p, k);
@@ -56,7 +56,7 @@ pub fn confirm(p: State, s: i32) -> Answered
     let side = exact::number(s);
     let edits = p.edits;
     let n = records::count(edits, h, Test::UnsentOf(side));
-    let i = records::index(side);
+    let i = heads::index(side);
     let confirmed = p.confirmed[i];
     let k = turns::confirm_refusal(h, side, confirmed, n);
     if k != 0 {
@@ -74,7 +74,7 @@ pub fn install(p: State) -> Answered
     let h = p.head;
     let edits = p.edits;
     let waiting = records::count(edits, h, Test::Waiting);
-    let missing = records::unset(&p.confirmed, h);
+    let missing = heads::unset(&p.confirmed, h);
     let k = turns::install_refusal(h, missing, waiting);
     if k != 0 {
         return state::refuse(p, k);

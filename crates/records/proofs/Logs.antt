@@ -17,7 +17,8 @@ use Rattle.rows.proofs.Spans.{span-same, span-snoc, modify-span, getD-set, getD
 use Rattle.records.specs.declared.EditRecord.{EditRecord}
 use Rattle.records.specs.declared.Test.{Test}
 use Rattle.records.specs.declared.Test.the-variants.{UnsentOf, Waiting, Open, Settled}
-use Rattle.records.specs.Records.{keptAt, logOf, noRecord, testOf, positionOf, placeOf, recordOf}
+use Rattle.heads.specs.Heads.{positionOf, placeOf}
+use Rattle.records.specs.Records.{keptAt, logOf, noRecord, testOf, recordOf}
 
 pub open-low : (f : Fate) → (fateIs unsent f || fateIs waiting f) ≡ ltb (fateNumber f) 3
 open-low unsent = refl

@@ -21,9 +21,10 @@ use Rattle.rules.specs.Rules.{withValue, holdsIn}
 use Rattle.rows.proofs.Spans.{length-span}
 use Rattle.rules.proofs.Rows.{made-with, modify-out, holds-is, row-set}
 use Rattle.records.specs.declared.EditRecord.{EditRecord}
-use Rattle.records.specs.declared.Head.{Head}
+use Rattle.heads.specs.declared.Head.{Head}
 use Rattle.state.specs.declared.State.{State}
-use Rattle.records.specs.Records.{modeOf, sidesIn, indexOf, keptIn, endIn, keptAt, logOf, keptOf, noRecord, positionOf, placeOf, recordOf, unsetIn}
+use Rattle.heads.specs.Heads.{modeOf, sidesIn, indexOf, keptIn, endIn, positionOf, placeOf, unsetIn}
+use Rattle.records.specs.Records.{keptAt, logOf, keptOf, noRecord, recordOf}
 use Rattle.state.specs.View.{view, sideOf, rulesOf}
 use Rattle.state.specs.Parts.{namedIn}
 use Rattle.state.specs.Meets.{answerOf, SameIfRefused, Meets}

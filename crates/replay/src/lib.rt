@@ -1,4 +1,4 @@
-// The call replay (01, "The calls"): a read-only decision on what is lent to it, and the stores. A caller that owns the state uses the same decision.
+// The call replay (01, "The calls"): the decision (`settling`) and the stores. A caller that owns the state uses the same decision.
 ghost use mathlib.Core.Path.{_≡_};
 ghost use Prim.Native.Nat.{_<_};
 ghost use Rattle.protocol.specs.Calls.{replay};
@@ -22,15 +22,15 @@ pub fn replay(p: State, n: i32) -> Answered
     ensures { λ r. ⌜ Meets (replay n) p r ⌝ }
 {
     let h = p.head;
-    let i = records::position(h, exact::number(n));
-    let slot = records::place(i);
+    let i = heads::position(h, exact::number(n));
+    let slot = heads::place(i);
     let standing = p.edits[slot];
     let e = records::found(i, standing);
-    let j = records::position(h, e.earlier);
-    let seat = records::place(j);
+    let j = heads::position(h, e.earlier);
+    let seat = heads::place(j);
     let seen = p.edits[seat];
     let earlier = records::found(j, seen);
-    let missing = records::unset(&p.arrived, h);
+    let missing = heads::unset(&p.arrived, h);
     let edits = p.edits;
     let place = records::count(edits, h, Test::Settled) + 1;
     let at = point(e.measure);

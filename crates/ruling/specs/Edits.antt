@@ -18,10 +18,11 @@ use Rattle.rows.specs.Rows.{row}
 use Rattle.rules.specs.Rules.{rulesIn}
 use Rattle.records.specs.declared.EditRecord.{EditRecord}
 use Rattle.records.specs.declared.Fate.the-variants.{Unsent}
-use Rattle.records.specs.declared.Head.{Head}
+use Rattle.heads.specs.declared.Head.{Head}
 use Rattle.state.specs.declared.State.{State}
 use Rattle.state.specs.declared.Answer.the-variants.{Refused, Number}
-use Rattle.records.specs.Records.{modeOf, sidesIn, measuresIn, offsetOf, keptIn, keptAt, noRecord}
+use Rattle.heads.specs.Heads.{modeOf, sidesIn, measuresIn, offsetOf, keptIn}
+use Rattle.records.specs.Records.{keptAt, noRecord}
 use Rattle.state.specs.Parts.{namedIn}
 use Rattle.ruling.specs.declared.Ruling.{Ruling}
 use Rattle.ruling.specs.declared.Ruling.the-variants.{Refused as Denied, Granted}

@@ -7,14 +7,15 @@ ghost use Rattle.protocol.specs.Lists.{natural};
 ghost use Rattle.protocol.specs.Plan.{is, whole};
 ghost use Rattle.protocol.specs.Calls.{edit, apart, no22, no25};
 ghost use Rattle.rules.specs.Rules.{firmIn};
-ghost use Rattle.records.specs.Records.{modeOf, keptAt};
+ghost use Rattle.heads.specs.Heads.{modeOf};
+ghost use Rattle.records.specs.Records.{keptAt};
 ghost use Rattle.ruling.specs.Edits.{changeRuling, editRuling, editHead, editRecord, editDecision};
 use change::Change;
 use change::Made;
+use heads::Head;
+use heads::Mode;
 use records::EditRecord;
 use records::Fate;
-use records::Head;
-use records::Mode;
 use rules::Trial;
 use state::Answer;
 
@@ -35,13 +36,13 @@ pub struct Decision {
 fn is_whole(mode: Mode) -> bool
     ensures { λ t. ⌜ t ≡ is whole (modeOf mode) ⌝ }
 {
-    records::mode_number(mode) == 1
+    heads::mode_number(mode) == 1
 }
 
 fn is_apart(mode: Mode) -> bool
     ensures { λ t. ⌜ t ≡ apart (modeOf mode) ⌝ }
 {
-    let n = records::mode_number(mode);
+    let n = heads::mode_number(mode);
     if n == 2 {
         return true;
     }
@@ -170,7 +171,7 @@ fn edit_ruling<'a>(
     if !editable(mode) {
         return Ruling::Refused(31);
     }
-    if !rows::one_to(records::side_count(h), s) {
+    if !rows::one_to(heads::side_count(h), s) {
         return Ruling::Refused(21);
     }
     if !is_client(client) {
@@ -193,7 +194,7 @@ fn edit_ruling<'a>(
         upper,
         firm,
         values,
-        records::offset(s),
+        heads::offset(s),
         m,
         change,
     )
@@ -247,7 +248,7 @@ fn edit_record(
     if is_whole(mode) {
         return standing;
     }
-    let replied = records::mode_number(mode) == 2;
+    let replied = heads::mode_number(mode) == 2;
     let fate = Fate::Unsent;
     EditRecord {
         change,

@@ -14,10 +14,11 @@ use Rattle.rows.specs.Rows.{row}
 use Rattle.rules.specs.Rules.{holdsIn}
 use Rattle.records.specs.declared.EditRecord.{EditRecord}
 use Rattle.records.specs.declared.Fate.the-variants.{Accepted, Revoked}
-use Rattle.records.specs.declared.Head.{Head}
+use Rattle.heads.specs.declared.Head.{Head}
 use Rattle.state.specs.declared.State.{State}
 use Rattle.state.specs.declared.Answer.the-variants.{Refused, Number}
-use Rattle.records.specs.Records.{modeOf, sidesIn, endIn, keptIn, keptAt, keptOf, noRecord, positionOf, placeOf, unsetIn}
+use Rattle.heads.specs.Heads.{modeOf, sidesIn, endIn, keptIn, positionOf, placeOf, unsetIn}
+use Rattle.records.specs.Records.{keptAt, keptOf, noRecord}
 use Rattle.state.specs.Parts.{namedIn}
 use Rattle.settling.specs.declared.Outcome.{Outcome}
 use Rattle.settling.specs.declared.Outcome.the-variants.{Refused as Denied, Settled}

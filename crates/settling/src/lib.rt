@@ -6,9 +6,9 @@ ghost use Rattle.protocol.specs.Calls.{replay};
 ghost use Rattle.records.specs.Records.{keptAt};
 ghost use Rattle.settling.specs.Replays.{draftOutcome, replayOutcome, settledRecord, replayDecision};
 use change::Change;
+use heads::Head;
 use records::EditRecord;
 use records::Fate;
-use records::Head;
 use rules::Trial;
 use state::Answer;
 
@@ -74,7 +74,7 @@ fn replay_outcome<'a>(
     ensures { λ r. ⌜ r ≡ replayOutcome h (now (lower .entry)) (now (gap .entry)) (now (upper .entry)) (now (draft .entry)) missing e earlier old ⌝ }
 {
     let mode = h.mode;
-    if !records::is_active(mode) {
+    if !heads::is_active(mode) {
         return Outcome::Refused(31);
     }
     if missing != 0 {

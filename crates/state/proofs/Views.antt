@@ -19,9 +19,10 @@ use Rattle.rows.specs.Rows.{span, row}
 use Rattle.rows.proofs.Spans.{length-span, span-same, span-snoc, nth-span, modify-span, getD-set, getD-other}
 use Rattle.state.proofs.State.{the-type}
 use Rattle.state.proofs.State.Laws.{the-laws}
-use Rattle.records.specs.declared.Head.{Head}
+use Rattle.heads.specs.declared.Head.{Head}
 use Rattle.state.specs.declared.State.{State}
-use Rattle.records.specs.Records.{modeOf, sidesIn, indexOf, measuresIn, endIn, keptIn, keptAt, positionOf, unsetIn}
+use Rattle.heads.specs.Heads.{modeOf, sidesIn, indexOf, measuresIn, endIn, keptIn, positionOf, unsetIn}
+use Rattle.records.specs.Records.{keptAt}
 use Rattle.state.specs.View.{view, sideOf}
 use Rattle.state.specs.Parts.{namedIn}
 use Rattle.records.proofs.Logs.{lookup-record}

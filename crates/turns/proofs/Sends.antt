@@ -13,8 +13,9 @@ use Rattle.protocol.specs.Calls.{sent}
 use Rattle.protocol.proofs.Laws.{cases}
 use Rattle.rows.proofs.Spans.{span-same, map-span, getD-set, getD-other, below}
 use Rattle.records.specs.declared.EditRecord.{EditRecord}
-use Rattle.records.specs.declared.Head.{Head}
-use Rattle.records.specs.Records.{keptIn, keptAt, keptOf, noRecord}
+use Rattle.heads.specs.declared.Head.{Head}
+use Rattle.heads.specs.Heads.{keptIn}
+use Rattle.records.specs.Records.{keptAt, keptOf, noRecord}
 
 pub bit-some : (b : Bool) → bit b ≢ 0 → b ≡ true
 bit-some true h = refl

@@ -1,4 +1,4 @@
--- The checks of each call from what is lent to it, and the heads that the calls leave. Assumes nothing.
+-- The checks of send, stop, confirm and install from what is lent to them, and the heads that the calls leave. Assumes nothing.
 use Prim.Native.Nat.{ℕ}
 use mathlib.Core.Bool.{Bool, not, _||_}
 use mathlib.Core.List.{List, [], _∷_}
@@ -6,10 +6,10 @@ use lib.Dec.{eqb, ltb}
 use Rattle.protocol.specs.Lists.{none, oneTo}
 use Rattle.protocol.specs.Plan.{joining, closing, modeNumber, is, active}
 use Rattle.protocol.specs.Calls.{Check, _unless_, _when_}
-use Rattle.records.specs.declared.Head.{Head}
-use Rattle.records.specs.declared.Mode.{Mode}
-use Rattle.records.specs.declared.Mode.the-variants.{Whole}
-use Rattle.records.specs.Records.{modeOf, sidesIn}
+use Rattle.heads.specs.declared.Head.{Head}
+use Rattle.heads.specs.declared.Mode.{Mode}
+use Rattle.heads.specs.declared.Mode.the-variants.{Whole}
+use Rattle.heads.specs.Heads.{modeOf, sidesIn}
 
 -- ---- checks
 

@@ -6,10 +6,10 @@ ghost use Rattle.protocol.specs.Calls.{stop, install, sent, first};
 ghost use Rattle.records.specs.Records.{keptAt, keptOf};
 ghost use Rattle.state.specs.Meets.{refusalOf};
 ghost use Rattle.turns.specs.Moves.{sendChecks, turnChecks, stopChecks, confirmChecks, installChecks, inMode, installHead};
+use heads::Head;
+use heads::Mode;
 use records::EditRecord;
 use records::Fate;
-use records::Head;
-use records::Mode;
 use records::Test;
 
 // ---- checks
@@ -19,10 +19,10 @@ pub fn send_refusal(h: Head, s: u32, arrived: bool, unsent: u32) -> u32
     ensures { λ r. ⌜ r ≡ refusalOf (first (sendChecks h s arrived unsent)) ⌝ }
 {
     let mode = h.mode;
-    if !records::is_active(mode) {
+    if !heads::is_active(mode) {
         return 31;
     }
-    if !rows::one_to(records::side_count(h), s) {
+    if !rows::one_to(heads::side_count(h), s) {
         return 21;
     }
     if arrived {
@@ -39,7 +39,7 @@ fn turn_refusal(h: Head, m: u32, k: u32, missing: u32, waiting: u32) -> u32
     ensures { λ r. ⌜ r ≡ refusalOf (first (turnChecks h m k missing waiting)) ⌝ }
 {
     let mode = h.mode;
-    if records::mode_number(mode) != m {
+    if heads::mode_number(mode) != m {
         return 31;
     }
     if missing != 0 {
@@ -63,10 +63,10 @@ pub fn confirm_refusal(h: Head, s: u32, confirmed: bool, unsent: u32) -> u32
     ensures { λ r. ⌜ r ≡ refusalOf (first (confirmChecks h s confirmed unsent)) ⌝ }
 {
     let mode = h.mode;
-    if records::mode_number(mode) != 4 {
+    if heads::mode_number(mode) != 4 {
         return 31;
     }
-    if !rows::one_to(records::side_count(h), s) {
+    if !rows::one_to(heads::side_count(h), s) {
         return 21;
     }
     if confirmed {

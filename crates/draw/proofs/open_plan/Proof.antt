@@ -9,7 +9,7 @@ use Rattle.protocol.specs.Plan.{blank, is}
 use Rattle.protocol.specs.Calls.{open-plan, gives}
 use Rattle.rows.specs.Rows.{row}
 use Rattle.rules.specs.Rules.{holdsIn}
-use Rattle.records.specs.Records.{modeOf, measuresIn}
+use Rattle.heads.specs.Heads.{modeOf, measuresIn}
 use Rattle.state.proofs.Meeting.{refused-meets, accepted-meets}
 use Rattle.draw.proofs.Draws.{some-left, no-value, open-checks, open-next}
 use borrow.Author.Needs.{needs}
@@ -19,7 +19,7 @@ use Rattle.draw.proofs.open_plan.Reads as reads
 use Rattle.draw.proofs.open_plan.Lts as lts
 use Rattle.limits.proofs.with_open.Reads as with-open-reads
 use Rattle.rules.proofs.rules_hold.Reads as rules-hold-reads
-use Rattle.records.proofs.mode_number.Reads as mode-number-reads
+use Rattle.heads.proofs.mode_number.Reads as mode-number-reads
 use Rattle.state.proofs.refuse.Reads as refuse-reads
 
 mode-fine : (c : tie.Else1) → is blank (modeOf (c .before .before .before .args .t1 .head .mode)) ≡ true

@@ -7,7 +7,8 @@ use mir.Facts.{toZ-ofZ}
 use Rattle.exact.proofs.Ints.{fits32}
 use Rattle.protocol.specs.Lists.{natural}
 use Rattle.protocol.specs.Calls.{edit}
-use Rattle.records.specs.Records.{endIn, keptIn, noRecord, positionOf, placeOf, recordOf}
+use Rattle.heads.specs.Heads.{endIn, keptIn, positionOf, placeOf}
+use Rattle.records.specs.Records.{noRecord, recordOf}
 use Rattle.state.specs.Parts.{namedIn}
 use Rattle.state.specs.Meets.{Meets}
 use Rattle.state.proofs.Views.{owned-sized}
@@ -24,8 +25,8 @@ use Rattle.edit.proofs.spot.Reads as spot-reads
 use Rattle.exact.proofs.number.Reads as number-reads
 use Rattle.rows.proofs.capped.Reads as capped-reads
 use Rattle.records.proofs.found.Reads as found-reads
-use Rattle.records.proofs.place.Reads as place-reads
-use Rattle.records.proofs.position.Reads as position-reads
+use Rattle.heads.proofs.place.Reads as place-reads
+use Rattle.heads.proofs.position.Reads as position-reads
 
 number-requires : tie.Need-number-requires
 number-requires c κs = search needs

@@ -4,7 +4,7 @@ use Rattle.figures.proofs.joining_bit.Statement.{statement}
 use Rattle.figures.proofs.joining_bit.Tie as tie
 use Rattle.figures.proofs.joining_bit.Reads as reads
 use Rattle.figures.proofs.joining_bit.Lts as lts
-use Rattle.records.proofs.mode_number.Reads as mode-number-reads
+use Rattle.heads.proofs.mode_number.Reads as mode-number-reads
 
 mode-number-requires : tie.Need-mode-number-requires
 mode-number-requires c κs = search needs

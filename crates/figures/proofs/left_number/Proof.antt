@@ -4,7 +4,7 @@ use mathlib.Core.Path.{sym, _∙_}
 use borrow.Author.Tests.{not-true, not-false}
 use Rattle.protocol.specs.Plan.{is, joining}
 use Rattle.rows.proofs.Spans.{bit-one}
-use Rattle.records.specs.Records.{modeOf}
+use Rattle.heads.specs.Heads.{modeOf}
 use borrow.Author.Needs.{needs}
 use Rattle.figures.proofs.left_number.Statement.{statement}
 use Rattle.figures.proofs.left_number.Tie as tie
@@ -13,8 +13,8 @@ use Rattle.figures.proofs.left_number.Lts as lts
 use Rattle.figures.proofs.joining_bit.Reads as joining-bit-reads
 use Rattle.figures.proofs.pending_sides.Reads as pending-sides-reads
 use Rattle.rows.proofs.capped.Reads as capped-reads
-use Rattle.records.proofs.is_active.Reads as is-active-reads
-use Rattle.records.proofs.unset.Reads as unset-reads
+use Rattle.heads.proofs.is_active.Reads as is-active-reads
+use Rattle.heads.proofs.unset.Reads as unset-reads
 
 parts : (c : tie.After-joining-bit) → c .before .before .before .pending-sides .result + c .before .before .capped .result + c .before .unset .result + c .joining-bit .result ≤ 273
 parts c =

@@ -1,4 +1,4 @@
-use Rattle.records.specs.Records.{indexOf}
+use Rattle.heads.specs.Heads.{indexOf}
 use borrow.Author.Needs.{needs}
 use native.Mathlib.Omega.{arith}
 use Prim.Native.Nat.{_≤_, _-_}
@@ -9,13 +9,13 @@ use lib.ListN.{getD}
 use Rattle.protocol.specs.Lists.{bit}
 use Rattle.rows.proofs.Spans.{bit-one}
 use Rattle.figures.specs.Reads.{pendingIn}
-use Rattle.records.proofs.Flags.{tally-next, index-suc}
+use Rattle.heads.proofs.Flags.{tally-next, index-suc}
 use Rattle.figures.proofs.pending_sides.Statement.{statement}
 use Rattle.figures.proofs.pending_sides.Tie as tie
 use Rattle.figures.proofs.pending_sides.Reads as reads
 use Rattle.figures.proofs.pending_sides.Lts as lts
 use Rattle.figures.proofs.pending_bit.Reads as pending-bit-reads
-use Rattle.records.proofs.side_count.Reads as side-count-reads
+use Rattle.heads.proofs.side_count.Reads as side-count-reads
 
 abbrev Inv-loop : tie.InvT-loop
 Inv-loop arrived unsent n k₀ i₀ k i = (i ≤ n) × (n ≤ 8) × (k ≤ i) × (k ≡ pendingIn arrived unsent i)

@@ -4,7 +4,7 @@ use borrow.Author.Tests.{eq-eqb, ne-eqb, le-leb, lt-leb, not-true, not-false}
 use lib.Dec.{eqb}
 use Rattle.protocol.specs.Lists.{oneTo}
 use Rattle.protocol.specs.Plan.{blank, is}
-use Rattle.records.specs.Records.{modeOf, sidesIn}
+use Rattle.heads.specs.Heads.{modeOf, sidesIn}
 use borrow.Author.Needs.{needs}
 use Rattle.figures.proofs.show_refusal.Statement.{statement}
 use Rattle.figures.proofs.show_refusal.Tie as tie
@@ -12,8 +12,8 @@ use Rattle.figures.proofs.show_refusal.Reads as reads
 use Rattle.figures.proofs.show_refusal.Lts as lts
 use Rattle.rows.proofs.capped.Reads as capped-reads
 use Rattle.rows.proofs.one_to.Reads as one-to-reads
-use Rattle.records.proofs.mode_number.Reads as mode-number-reads
-use Rattle.records.proofs.side_count.Reads as side-count-reads
+use Rattle.heads.proofs.mode_number.Reads as mode-number-reads
+use Rattle.heads.proofs.side_count.Reads as side-count-reads
 
 mode-fine : (c : tie.Else1) → is blank (modeOf (c .before .before .args .h .mode)) ≡ false
 mode-fine c = sym (ap (λ n. eqb n 0) (c .before .mode-number .ensures)) ∙ ne-eqb _ 0 (c .if1 .left)

@@ -6,7 +6,7 @@ use Rattle.part.proofs.split_base.Tie as tie
 use Rattle.part.proofs.split_base.Reads as reads
 use Rattle.part.proofs.split_base.Lts as lts
 use Rattle.rows.proofs.copy.Reads as copy-reads
-use Rattle.records.proofs.mode_number.Reads as mode-number-reads
+use Rattle.heads.proofs.mode_number.Reads as mode-number-reads
 
 mode-number-requires : tie.Need-mode-number-requires
 mode-number-requires c κs = search needs

@@ -9,7 +9,7 @@ use mir.Facts.{toZ-ofZ}
 use Rattle.protocol.specs.Lists.{natural}
 use Rattle.protocol.specs.Calls.{Check, first, fine}
 use Rattle.rows.specs.Rows.{row}
-use Rattle.records.specs.Records.{measuresIn, offsetOf}
+use Rattle.heads.specs.Heads.{measuresIn, offsetOf}
 use Rattle.state.specs.Meets.{refusalOf}
 use Rattle.state.proofs.Views.{row-length}
 use Rattle.state.proofs.Meeting.{verdict-refused, verdict-fine, fine-pass}
@@ -24,7 +24,7 @@ use Rattle.exact.proofs.number.Reads as number-reads
 use Rattle.query.proofs.fill.Reads as fill-reads
 use Rattle.figures.proofs.show_refusal.Reads as show-refusal-reads
 use Rattle.rows.proofs.capped.Reads as capped-reads
-use Rattle.records.proofs.offset.Reads as offset-reads
+use Rattle.heads.proofs.offset.Reads as offset-reads
 
 size : (c : tie.Start) → length (c .args .t1 .values) ≡ 256
 size c = search needs

@@ -12,7 +12,7 @@ use Rattle.reconcile.proofs.confirm.Lts as lts
 use Rattle.exact.proofs.number.Reads as number-reads
 use Rattle.turns.proofs.confirm_refusal.Reads as confirm-refusal-reads
 use Rattle.records.proofs.count.Reads as count-reads
-use Rattle.records.proofs.index.Reads as index-reads
+use Rattle.heads.proofs.index.Reads as index-reads
 use Rattle.state.proofs.refuse.Reads as refuse-reads
 
 flags : (c : tie.Start) → length (c .args .t1 .confirmed) ≡ 8

@@ -13,7 +13,7 @@ use Rattle.turns.proofs.install_refusal.Reads as install-refusal-reads
 use Rattle.rows.proofs.copy.Reads as copy-reads
 use Rattle.records.proofs.count.Reads as count-reads
 use Rattle.state.proofs.refuse.Reads as refuse-reads
-use Rattle.records.proofs.unset.Reads as unset-reads
+use Rattle.heads.proofs.unset.Reads as unset-reads
 
 checked : (c : tie.After-install-refusal) → Checked install (c .before .before .before .before .before .before .before .args .t1) (installing (c .before .before .before .before .before .before .before .args .t1)) (c .install-refusal .result)
 checked c = install-checked (c .before .before .before .before .before .before .before .args .t1) (c .before .before .before .before .count .ensures .0) (c .before .unset .ensures .0) (c .install-refusal .ensures)

@@ -13,7 +13,7 @@ use Rattle.exact.proofs.number.Reads as number-reads
 use Rattle.turns.proofs.mark_sent.Reads as mark-sent-reads
 use Rattle.turns.proofs.send_refusal.Reads as send-refusal-reads
 use Rattle.records.proofs.count.Reads as count-reads
-use Rattle.records.proofs.index.Reads as index-reads
+use Rattle.heads.proofs.index.Reads as index-reads
 use Rattle.state.proofs.refuse.Reads as refuse-reads
 
 flags : (c : tie.Start) → length (c .args .t1 .arrived) ≡ 8

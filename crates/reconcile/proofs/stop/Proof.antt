@@ -10,7 +10,7 @@ use Rattle.turns.proofs.in_mode.Reads as in-mode-reads
 use Rattle.turns.proofs.stop_refusal.Reads as stop-refusal-reads
 use Rattle.records.proofs.count.Reads as count-reads
 use Rattle.state.proofs.refuse.Reads as refuse-reads
-use Rattle.records.proofs.unset.Reads as unset-reads
+use Rattle.heads.proofs.unset.Reads as unset-reads
 
 checked : (c : tie.After-stop-refusal) → Checked stop (c .before .before .before .before .before .before .before .args .t1) (stopping (c .before .before .before .before .before .before .before .args .t1)) (c .stop-refusal .result)
 checked c = stop-checked (c .before .before .before .before .before .before .before .args .t1) (c .before .before .before .before .count .ensures .0) (c .before .unset .ensures .0) (c .stop-refusal .ensures)

@@ -10,7 +10,8 @@ use mathlib.Core.Path.{_≡_, sym, ap, _∙_}
 use lib.ListN.{getD}
 use Rattle.protocol.specs.Lists.{bit, count}
 use Rattle.rows.proofs.Spans.{Counted, count-begin, count-next, count-over}
-use Rattle.records.specs.Records.{keptAt, keptIn, endIn, noRecord, testOf}
+use Rattle.heads.specs.Heads.{keptIn, endIn}
+use Rattle.records.specs.Records.{keptAt, noRecord, testOf}
 use Rattle.records.proofs.count.Statement.{statement}
 use Rattle.records.proofs.count.Tie as tie
 use Rattle.records.proofs.count.Reads as reads

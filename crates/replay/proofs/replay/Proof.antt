@@ -6,7 +6,8 @@ use lib.ListN.{getD}
 use mir.Facts.{toZ-ofZ}
 use Rattle.exact.proofs.Ints.{fits32}
 use Rattle.protocol.specs.Lists.{natural}
-use Rattle.records.specs.Records.{endIn, keptIn, noRecord, positionOf, placeOf, recordOf}
+use Rattle.heads.specs.Heads.{endIn, keptIn, positionOf, placeOf}
+use Rattle.records.specs.Records.{noRecord, recordOf}
 use Rattle.state.specs.Parts.{namedIn}
 use Rattle.state.proofs.Views.{owned-sized}
 use Rattle.settling.specs.Replays.{replayOutcome, replayDecision, pointOf, slotIn, replayIn}
@@ -23,9 +24,9 @@ use Rattle.settling.proofs.decide_replay.Reads as decide-replay-reads
 use Rattle.replay.proofs.point.Reads as point-reads
 use Rattle.records.proofs.count.Reads as count-reads
 use Rattle.records.proofs.found.Reads as found-reads
-use Rattle.records.proofs.place.Reads as place-reads
-use Rattle.records.proofs.position.Reads as position-reads
-use Rattle.records.proofs.unset.Reads as unset-reads
+use Rattle.heads.proofs.place.Reads as place-reads
+use Rattle.heads.proofs.position.Reads as position-reads
+use Rattle.heads.proofs.unset.Reads as unset-reads
 
 number-requires : tie.Need-number-requires
 number-requires c κs = search needs

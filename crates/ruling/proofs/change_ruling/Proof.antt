@@ -14,7 +14,7 @@ use Rattle.change.specs.Change.{viewChange}
 use Rattle.rows.specs.Rows.{row}
 use Rattle.rules.specs.Rules.{rulesIn, holdsIn, trialOf}
 use Rattle.rules.proofs.Rows.{holds-is, firm-is, trial-out, trial-broken, trial-effective}
-use Rattle.records.specs.Records.{modeOf, measuresIn, keptIn}
+use Rattle.heads.specs.Heads.{modeOf, measuresIn, keptIn}
 use Rattle.ruling.specs.declared.Ruling.the-variants.{Granted}
 use Rattle.ruling.specs.Edits.{changeRuling}
 use borrow.Author.Needs.{needs}

@@ -5,7 +5,7 @@ use Rattle.ruling.proofs.edit_record.Tie as tie
 use Rattle.ruling.proofs.edit_record.Reads as reads
 use Rattle.ruling.proofs.edit_record.Lts as lts
 use Rattle.ruling.proofs.is_whole.Reads as is-whole-reads
-use Rattle.records.proofs.mode_number.Reads as mode-number-reads
+use Rattle.heads.proofs.mode_number.Reads as mode-number-reads
 
 is-whole-requires : tie.Need-is-whole-requires
 is-whole-requires c κs = search needs

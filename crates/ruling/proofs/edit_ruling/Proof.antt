@@ -15,7 +15,8 @@ use Rattle.change.specs.Change.{viewChange, madeOf}
 use Rattle.rows.specs.Rows.{row}
 use Rattle.rules.specs.Rules.{rulesIn}
 use Rattle.rows.proofs.Spans.{length-span}
-use Rattle.records.specs.Records.{modeOf, sidesIn, measuresIn, offsetOf, keptIn, keptAt}
+use Rattle.heads.specs.Heads.{modeOf, sidesIn, measuresIn, offsetOf, keptIn}
+use Rattle.records.specs.Records.{keptAt}
 use Rattle.ruling.specs.declared.Ruling.{Ruling}
 use Rattle.ruling.specs.Edits.{changeChecks, ruled, changeRuling, editRuling, changeOf, changeIn}
 use Rattle.ruling.proofs.Rulings.{made-no, made-yes}
@@ -31,8 +32,8 @@ use Rattle.ruling.proofs.is_client.Reads as is-client-reads
 use Rattle.ruling.proofs.may_follow.Reads as may-follow-reads
 use Rattle.rows.proofs.capped.Reads as capped-reads
 use Rattle.rows.proofs.one_to.Reads as one-to-reads
-use Rattle.records.proofs.offset.Reads as offset-reads
-use Rattle.records.proofs.side_count.Reads as side-count-reads
+use Rattle.heads.proofs.offset.Reads as offset-reads
+use Rattle.heads.proofs.side_count.Reads as side-count-reads
 
 -- what each check tests
 ok31 : (c : tie.After-editable) → let h = c .before .args .h in (is whole (modeOf (h .mode)) || apart (modeOf (h .mode))) ≡ c .editable .result

@@ -10,7 +10,7 @@ use Rattle.settling.proofs.replay_outcome.Reads as reads
 use Rattle.settling.proofs.replay_outcome.Lts as lts
 use Rattle.settling.proofs.is_waiting.Reads as is-waiting-reads
 use Rattle.settling.proofs.try_draft.Reads as try-draft-reads
-use Rattle.records.proofs.is_active.Reads as is-active-reads
+use Rattle.heads.proofs.is_active.Reads as is-active-reads
 
 is-active-requires : tie.Need-is-active-requires
 is-active-requires c κs = search needs

@@ -3,7 +3,7 @@ use mathlib.Core.Path.{_≡_, sym, _∙_}
 use borrow.Author.Tests.{not-true, not-false, ne-eqb}
 use Rattle.protocol.specs.Lists.{oneTo}
 use Rattle.protocol.specs.Plan.{modeNumber}
-use Rattle.records.specs.Records.{modeOf, sidesIn}
+use Rattle.heads.specs.Heads.{modeOf, sidesIn}
 use Rattle.state.proofs.Steps.{side-tested}
 use borrow.Author.Needs.{needs}
 use Rattle.turns.proofs.confirm_refusal.Statement.{statement}
@@ -11,8 +11,8 @@ use Rattle.turns.proofs.confirm_refusal.Tie as tie
 use Rattle.turns.proofs.confirm_refusal.Reads as reads
 use Rattle.turns.proofs.confirm_refusal.Lts as lts
 use Rattle.rows.proofs.one_to.Reads as one-to-reads
-use Rattle.records.proofs.mode_number.Reads as mode-number-reads
-use Rattle.records.proofs.side_count.Reads as side-count-reads
+use Rattle.heads.proofs.mode_number.Reads as mode-number-reads
+use Rattle.heads.proofs.side_count.Reads as side-count-reads
 
 -- the mode and the side's number passed
 past : (c : tie.Else2) → let a = c .before .before .before .before .before .args in (modeNumber (modeOf (a .h .mode)) ≡ 4) × (oneTo (sidesIn (a .h)) (a .s) ≡ true)

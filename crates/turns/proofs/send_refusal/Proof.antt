@@ -4,7 +4,7 @@ use mathlib.Core.Path.{_≡_, sym, _∙_}
 use borrow.Author.Tests.{not-true, not-false, lt-ltb}
 use Rattle.protocol.specs.Lists.{oneTo}
 use Rattle.protocol.specs.Plan.{active}
-use Rattle.records.specs.Records.{modeOf, sidesIn}
+use Rattle.heads.specs.Heads.{modeOf, sidesIn}
 use Rattle.state.proofs.Steps.{side-tested}
 use borrow.Author.Needs.{needs}
 use Rattle.turns.proofs.send_refusal.Statement.{statement}
@@ -12,8 +12,8 @@ use Rattle.turns.proofs.send_refusal.Tie as tie
 use Rattle.turns.proofs.send_refusal.Reads as reads
 use Rattle.turns.proofs.send_refusal.Lts as lts
 use Rattle.rows.proofs.one_to.Reads as one-to-reads
-use Rattle.records.proofs.is_active.Reads as is-active-reads
-use Rattle.records.proofs.side_count.Reads as side-count-reads
+use Rattle.heads.proofs.is_active.Reads as is-active-reads
+use Rattle.heads.proofs.side_count.Reads as side-count-reads
 
 -- the mode and the side's number passed
 past : (c : tie.Else2) → let a = c .before .before .before .before .before .args in (active (modeOf (a .h .mode)) ≡ true) × (oneTo (sidesIn (a .h)) (a .s) ≡ true)

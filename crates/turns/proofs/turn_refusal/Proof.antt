@@ -4,7 +4,7 @@ use Rattle.turns.proofs.turn_refusal.Statement.{statement}
 use Rattle.turns.proofs.turn_refusal.Tie as tie
 use Rattle.turns.proofs.turn_refusal.Reads as reads
 use Rattle.turns.proofs.turn_refusal.Lts as lts
-use Rattle.records.proofs.mode_number.Reads as mode-number-reads
+use Rattle.heads.proofs.mode_number.Reads as mode-number-reads
 
 mode-number-requires : tie.Need-mode-number-requires
 mode-number-requires c κs = search needs

@@ -3,14 +3,14 @@ use Prim.Native.Nat.{ℕ, suc, _-_, _+_}
 use mathlib.Core.Path.{_≡_, ap, _∙_}
 use borrow.Author.Tests.{eq-eqb, ne-eqb, lt-ltb, le-ltb, le-leb, lt-leb}
 use native.Mathlib.Numerals.{add-one}
-use Rattle.records.specs.Records.{endIn, keptIn, positionOf}
+use Rattle.heads.specs.Heads.{endIn, keptIn, positionOf}
 use borrow.Author.Needs.{needs}
-use Rattle.records.proofs.position.Statement.{statement}
-use Rattle.records.proofs.position.Tie as tie
-use Rattle.records.proofs.position.Reads as reads
-use Rattle.records.proofs.position.Lts as lts
+use Rattle.heads.proofs.position.Statement.{statement}
+use Rattle.heads.proofs.position.Tie as tie
+use Rattle.heads.proofs.position.Reads as reads
+use Rattle.heads.proofs.position.Lts as lts
 use Rattle.rows.proofs.capped.Reads as capped-reads
-use Rattle.records.proofs.end.Reads as end-reads
+use Rattle.heads.proofs.end.Reads as end-reads
 
 end-requires : tie.Need-end-requires
 end-requires c κs = search needs

@@ -2,12 +2,12 @@ use native.Mathlib.Omega.{arith}
 use borrow.Author.Tests.{lt-ltb, le-ltb}
 use native.Mathlib.Numerals.{add-one}
 use borrow.Author.Needs.{needs}
-use Rattle.records.proofs.side_count.Statement.{statement}
-use Rattle.records.proofs.side_count.Tie as tie
-use Rattle.records.proofs.side_count.Reads as reads
-use Rattle.records.proofs.side_count.Lts as lts
+use Rattle.heads.proofs.side_count.Statement.{statement}
+use Rattle.heads.proofs.side_count.Tie as tie
+use Rattle.heads.proofs.side_count.Reads as reads
+use Rattle.heads.proofs.side_count.Lts as lts
 use Rattle.rows.proofs.capped.Reads as capped-reads
-use Rattle.records.proofs.mode_number.Reads as mode-number-reads
+use Rattle.heads.proofs.mode_number.Reads as mode-number-reads
 
 mode-number-requires : tie.Need-mode-number-requires
 mode-number-requires c κs = search needs

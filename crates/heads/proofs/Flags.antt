@@ -7,7 +7,7 @@ use mathlib.Core.List.{List}
 use lib.ListN.{getD}
 use Rattle.protocol.specs.Lists.{bit, tally}
 use native.Mathlib.Numerals.{add-one}
-use Rattle.records.specs.Records.{indexOf, unsetIn}
+use Rattle.heads.specs.Heads.{indexOf, unsetIn}
 
 -- one side more, and its place among the flags
 pub tally-next : (f : ℕ → Bool) (i k b : ℕ) → k ≡ tally f i → b ≡ bit (f (suc i)) → k + b ≡ tally f (i + 1)

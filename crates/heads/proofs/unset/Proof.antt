@@ -1,4 +1,4 @@
-use Rattle.records.proofs.Flags.{unset-next}
+use Rattle.heads.proofs.Flags.{unset-next}
 use borrow.Author.Needs.{needs}
 use native.Mathlib.Omega.{arith}
 use Prim.Native.Nat.{ℕ, suc, _≤_, _<_, _-_, _+_, min}
@@ -7,13 +7,13 @@ use mathlib.Core.Path.{_≡_, refl, sym, ap, _∙_}
 use lib.ListN.{getD}
 use Rattle.protocol.specs.Lists.{bit, tally}
 use Rattle.rows.proofs.Spans.{bit-one}
-use Rattle.records.specs.Records.{indexOf, unsetIn}
-use Rattle.records.proofs.unset.Statement.{statement}
-use Rattle.records.proofs.unset.Tie as tie
-use Rattle.records.proofs.unset.Reads as reads
-use Rattle.records.proofs.unset.Lts as lts
-use Rattle.records.proofs.bit_unless.Reads as bit-unless-reads
-use Rattle.records.proofs.side_count.Reads as side-count-reads
+use Rattle.heads.specs.Heads.{indexOf, unsetIn}
+use Rattle.heads.proofs.unset.Statement.{statement}
+use Rattle.heads.proofs.unset.Tie as tie
+use Rattle.heads.proofs.unset.Reads as reads
+use Rattle.heads.proofs.unset.Lts as lts
+use Rattle.heads.proofs.bit_unless.Reads as bit-unless-reads
+use Rattle.heads.proofs.side_count.Reads as side-count-reads
 
 abbrev Inv-loop : tie.InvT-loop
 Inv-loop flags n k₀ i₀ k i = (i ≤ n) × (n ≤ 8) × (k ≤ i) × (k ≡ unsetIn flags i)
