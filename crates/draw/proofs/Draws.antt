@@ -13,17 +13,19 @@ use Rattle.protocol.specs.Lists.{natural, none, snoc}
 use Rattle.protocol.specs.Plan.{Rule, blank, is, modeNumber, measureLimit, ruleLimit}
 use Rattle.protocol.specs.Calls.{measure, rule, open-plan, first, checks, further, firstValues, onValues, ruleOf, after, gives, ok}
 use Rattle.protocol.proofs.Laws.{is-yes, yes-is}
-use Rattle.rules.specs.Rows.{row, rulesIn, withValue}
-use Rattle.rules.proofs.Spans.{length-span, span-same, span-snoc, getD-set, getD-other}
+use Rattle.rows.specs.Rows.{row}
+use Rattle.rules.specs.Rules.{rulesIn, withValue}
+use Rattle.rows.proofs.Spans.{length-span, span-same, span-snoc, getD-set, getD-other}
 use Rattle.rules.proofs.Rows.{holds-is}
 use Rattle.state.specs.declared.Answer.the-variants.{Number}
-use Rattle.state.specs.declared.Head.{Head}
+use Rattle.heads.specs.declared.Head.{Head}
 use Rattle.state.specs.declared.State.{State}
-use Rattle.state.specs.View.{view, modeOf, sidesIn, sideOf, measuresIn, rulesOf}
+use Rattle.heads.specs.Heads.{modeOf, sidesIn, measuresIn}
+use Rattle.state.specs.View.{view, sideOf, rulesOf}
 use Rattle.state.proofs.Views.{Sized, plan-same, sides-modify, sides-least, first-row, row-snoc, row-length}
 use Rattle.state.specs.Meets.{Meets}
 use Rattle.state.proofs.Steps.{Checked, accepts}
-use Rattle.draw.specs.Draw.{measureChecks, ruleChecks, openChecks, measured, ruled, opened}
+use Rattle.limits.specs.Draw.{measureChecks, ruleChecks, openChecks, measured, ruled, opened}
 
 drawn-length : (p : State) → length (firstValues (view p .content)) ≡ measuresIn (p .head)
 drawn-length p = ap length (first-row p) ∙ row-length (p .values) 0 (measuresIn (p .head))

@@ -18,21 +18,24 @@ use Rattle.protocol.specs.Calls.{Call, edit, Check, Verdict, fine, refused, fir
 use Rattle.protocol.proofs.Laws.{cases, yes-is, no-is, is-yes, which, range, Fine, Pass, passed}
 use Rattle.change.specs.declared.Change.{Change}
 use Rattle.change.specs.Change.{viewChange, madeOf}
-use Rattle.rules.specs.Rows.{span, row, withValue}
-use Rattle.rules.proofs.Spans.{length-span}
+use Rattle.rows.specs.Rows.{span, row}
+use Rattle.rules.specs.Rules.{withValue}
+use Rattle.rows.proofs.Spans.{length-span}
 use Rattle.rules.proofs.Rows.{made-with, row-set, row-apart}
-use Rattle.state.specs.declared.EditRecord.{EditRecord}
-use Rattle.state.specs.declared.Fate.the-variants.{Unsent}
-use Rattle.state.specs.declared.Head.{Head}
+use Rattle.records.specs.declared.EditRecord.{EditRecord}
+use Rattle.records.specs.declared.Fate.the-variants.{Unsent}
+use Rattle.heads.specs.declared.Head.{Head}
 use Rattle.state.specs.declared.State.{State}
-use Rattle.state.specs.View.{view, modeOf, single, sidesIn, sideOf, offsetOf, measuresIn, keptIn, endIn, keptAt, logOf, keptOf, rulesOf, noRecord}
+use Rattle.heads.specs.Heads.{modeOf, single, sidesIn, offsetOf, measuresIn, keptIn, endIn}
+use Rattle.records.specs.Records.{keptAt, logOf, keptOf, noRecord}
+use Rattle.state.specs.View.{view, sideOf, rulesOf}
 use Rattle.state.specs.Parts.{namedIn}
 use Rattle.state.specs.Meets.{answerOf, SameIfRefused, Meets}
 use Rattle.state.proofs.Views.{Sized, plan-same, sides-most, sides-length, side-at, sides-modify, lookup-named}
-use Rattle.state.proofs.Logs.{log-snoc}
-use Rattle.edit.specs.declared.Decision.{Decision}
-use Rattle.edit.specs.Edits.{editChecks, ruled, changeOf, changeIn, editRuling, editHead, editRecord, editDecision, spotOf, slotOf, editIn, stored}
-use Rattle.edit.proofs.Rulings.{made-change}
+use Rattle.records.proofs.Logs.{log-snoc}
+use Rattle.ruling.specs.declared.Decision.{Decision}
+use Rattle.ruling.specs.Edits.{editChecks, ruled, changeOf, changeIn, editRuling, editHead, editRecord, editDecision, spotOf, slotOf, editIn, stored}
+use Rattle.ruling.proofs.Rulings.{made-change}
 
 -- two sides' rows do not meet
 rows-apart : (s k i j : ℕ) → 0 < s → s ≤ 8 → 0 < k → k ≤ 8 → k ≢ s → j < 32 → offsetOf k ≤ i → i < offsetOf k + 32 → i ≢ offsetOf s + j

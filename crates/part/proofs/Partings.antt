@@ -13,19 +13,21 @@ use Rattle.protocol.specs.Lists.{oneTo, natural, snoc}
 use Rattle.protocol.specs.Plan.{Plan, modeNumber, whole, split, is, Side, sideAt}
 use Rattle.protocol.specs.Calls.{first, checks, further, after, gives, ok, join, split-side, reset, freshSide, firstValues, withBase, withKept, withSides}
 use Rattle.protocol.proofs.Laws.{range, which}
-use Rattle.rules.specs.Rows.{span, row, copiedIn}
-use Rattle.rules.proofs.Spans.{span-same, span-snoc, map-span, getD-blank}
+use Rattle.rows.specs.Rows.{span, row, copiedIn}
+use Rattle.rows.proofs.Spans.{span-same, span-snoc, map-span, getD-blank}
 use Rattle.state.specs.declared.Answer.the-variants.{Done, Number}
-use Rattle.state.specs.declared.Head.{Head}
+use Rattle.heads.specs.declared.Head.{Head}
 use Rattle.state.specs.declared.State.{State}
-use Rattle.state.specs.View.{view, modeOf, sidesIn, sideOf, indexOf, offsetOf, measuresIn, endIn, keptIn, logOf, rulesOf}
+use Rattle.heads.specs.Heads.{modeOf, sidesIn, indexOf, offsetOf, measuresIn, endIn, keptIn}
+use Rattle.records.specs.Records.{logOf}
+use Rattle.state.specs.View.{view, sideOf, rulesOf}
 use Rattle.state.specs.Parts.{refusedAs}
 use Rattle.state.specs.Meets.{refusalOf, Meets}
 use Rattle.state.proofs.Views.{plan-same, sides-length, side-at, first-row}
 use Rattle.state.proofs.Meeting.{refused-meets, accepted-meets}
 use Rattle.part.specs.Parting.{splitChecks, splitHead, joinHead, splitBase}
 use Rattle.state.proofs.Steps.{Checked, accepts, stored, flag-set, flag-other}
-use Rattle.rules.proofs.Copies.{row-copied, row-beside}
+use Rattle.rows.proofs.Copies.{row-copied, row-beside}
 
 -- ---- join
 

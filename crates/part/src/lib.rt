@@ -4,25 +4,25 @@ ghost use mathlib.Core.Path.{_≡_};
 ghost use Rattle.protocol.specs.Calls.{split-side, join, first};
 ghost use Rattle.state.specs.Meets.{Meets, refusalOf};
 ghost use Rattle.part.specs.Parting.{splitChecks, splitHead, joinHead, splitBase};
+use heads::Head;
+use heads::Mode;
 use state::Answer;
 use state::Answered;
-use state::Head;
-use state::Mode;
 use state::State;
 
 pub fn split_refusal(h: Head, s: u32) -> u32
     ensures { λ r. ⌜ r ≡ refusalOf (first (splitChecks h s)) ⌝ }
 {
     let mode = h.mode;
-    let m = state::mode_number(mode);
+    let m = heads::mode_number(mode);
     if m == 0 {
         return 31;
     }
     if 2 < m {
         return 31;
     }
-    let n = state::side_count(h);
-    if !rules::one_to(n, s) {
+    let n = heads::side_count(h);
+    if !rows::one_to(n, s) {
         return 21;
     }
     if n < 8 {
@@ -39,8 +39,8 @@ fn split_head(h: Head) -> Head
 {
     let m = h.mode;
     let mode = Mode::Split;
-    let added = state::side_count(h) as u32;
-    if state::mode_number(m) == 1 {
+    let added = heads::side_count(h) as u32;
+    if heads::mode_number(m) == 1 {
         return Head {
             mode,
             measures: h.measures,
@@ -88,9 +88,9 @@ fn split_base(h: Head, base: [i32; 32], values: &[i32; 256]) -> [i32; 32]
     ensures { λ r. ⌜ r ≡ splitBase h base (now (values .entry)) ⌝ }
 {
     let m = h.mode;
-    if state::mode_number(m) == 1 {
+    if heads::mode_number(m) == 1 {
         let mut row = base;
-        rules::copy(&mut row, values, 0, 0, 32);
+        rows::copy(&mut row, values, 0, 0, 32);
         return row;
     }
     base
@@ -107,20 +107,20 @@ pub fn split(p: State, s: i32) -> Answered
     if k != 0 {
         return state::refuse(p, k);
     }
-    let n = state::side_count(h);
+    let n = heads::side_count(h);
     let to = n as u32 + 1;
     let head = split_head(h);
     let old = p.base;
     let base = split_base(h, old, &p.values);
     let mut rows = p.values;
-    rules::copy(
+    rows::copy(
         &mut rows,
         &p.values,
-        state::offset(from),
-        state::offset(to),
+        heads::offset(from),
+        heads::offset(to),
         32,
     );
-    let i = state::index(to);
+    let i = heads::index(to);
     let mut q = p;
     q.head = head;
     q.base = base;
@@ -136,7 +136,7 @@ pub fn join(p: State) -> Answered
 {
     let h = p.head;
     let mode = h.mode;
-    if state::mode_number(mode) != 2 {
+    if heads::mode_number(mode) != 2 {
         return state::refuse(p, 31);
     }
     let head = join_head(h);

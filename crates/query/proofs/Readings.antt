@@ -13,17 +13,19 @@ use Rattle.protocol.specs.Lists.{bit, natural, oneTo, tally, count}
 use Rattle.protocol.specs.Plan.{Kept, fateNumber, isOpen, sideAt, lookup, unsentOf, pending}
 use Rattle.protocol.specs.Calls.{show, fine, refused, first, checks, further, gives, step, fateIn, leftIn, shown}
 use Rattle.protocol.proofs.Laws.{cases, range, yes-is, is-yes, tally-same}
-use Rattle.rules.specs.Rows.{span, row, copied, copiedIn}
-use Rattle.rules.proofs.Spans.{getD-set, getD-other, below}
-use Rattle.state.specs.declared.EditRecord.{EditRecord}
-use Rattle.state.specs.declared.Head.{Head}
+use Rattle.rows.specs.Rows.{span, row, copied, copiedIn}
+use Rattle.rows.proofs.Spans.{getD-set, getD-other, below}
+use Rattle.records.specs.declared.EditRecord.{EditRecord}
+use Rattle.heads.specs.declared.Head.{Head}
 use Rattle.state.specs.declared.State.{State}
-use Rattle.state.specs.View.{view, sidesIn, indexOf, offsetOf, measuresIn, fateOf, keptAt, logOf, keptOf, noRecord}
-use Rattle.state.specs.Parts.{positionOf, placeOf, unsetIn}
-use Rattle.state.proofs.Views.{index-suc, sides-most, sides-length, side-at, row-length}
+use Rattle.heads.specs.Heads.{sidesIn, indexOf, offsetOf, measuresIn, positionOf, placeOf, unsetIn}
+use Rattle.records.specs.Records.{fateOf, keptAt, logOf, keptOf, noRecord}
+use Rattle.state.specs.View.{view}
+use Rattle.heads.proofs.Flags.{index-suc}
+use Rattle.state.proofs.Views.{sides-most, sides-length, side-at, row-length}
 use Rattle.state.proofs.Meeting.{fine-pass}
-use Rattle.state.proofs.Logs.{Placed, placed}
-use Rattle.query.specs.Reads.{showChecks, pendingIn, unsentCounts, leftNumber}
+use Rattle.records.proofs.Logs.{Placed, placed}
+use Rattle.figures.specs.Reads.{showChecks, pendingIn, unsentCounts, leftNumber}
 
 -- ---- fate
 

@@ -15,19 +15,22 @@ use Rattle.protocol.specs.Calls.{Call, show, fate-of, left, Verdict, fine, refu
 use Rattle.protocol.proofs.Laws.{cases, yes-is}
 use Rattle.format.specs.Sheets.{stepOf}
 use Rattle.guarantee.proofs.Kept.{settled-count}
-use Rattle.rules.specs.Rows.{row}
-use Rattle.rules.proofs.Spans.{length-span}
+use Rattle.rows.specs.Rows.{row}
+use Rattle.rows.proofs.Spans.{length-span}
 use Rattle.state.specs.declared.State.{State}
-use Rattle.state.specs.View.{view, fateOf, keptAt, endIn, keptIn, noRecord}
-use Rattle.state.specs.Parts.{positionOf, placeOf}
+use Rattle.state.specs.View.{view}
+use Rattle.records.specs.Records.{fateOf, keptAt, noRecord}
+use Rattle.heads.specs.Heads.{endIn, keptIn}
+use Rattle.heads.specs.Heads.{positionOf, placeOf}
 use Rattle.state.specs.Meets.{answerOf}
 use Rattle.state.proofs.Meeting.{fine-pass}
-use Rattle.query.specs.Reads.{showChecks, leftNumber}
+use Rattle.figures.specs.Reads.{showChecks, leftNumber}
 use Rattle.query.proofs.Readings.{fate-none, fate-some, left-by, show-checks, shown-row}
 use Rattle.tally.specs.declared.Tallies.{Tallies}
 use Rattle.tally.specs.Tallies.{Counted}
 use Rattle.reads.specs.declared.Reading.{Reading}
-use Rattle.reads.specs.Readings.{readCall, alone, fateAnswer, showBy, showReading, readingOf, withRow}
+use Rattle.reads.specs.Readings.{readCall, alone, fateAnswer, showBy, showReading, readingOf}
+use Rattle.writer.specs.Writes.{withRow}
 
 module _ (p : State) (t : Tallies) (h : Counted t (view p .content .kept)) where
   abbrev pub placeIn : ℤ → ℕ
@@ -72,3 +75,14 @@ module _ (p : State) (t : Tallies) (h : Counted t (view p .content .kept)) where
       cases (eqb op 12) (λ e. rw e (show-right a))
       (λ e. rw e (cases (eqb op 13) (λ f. rw f (fate-right a))
       (λ f. rw f (cases (eqb op 14) (λ g. rw g (left-right a)) (λ g. rw g (refl, refl))))))
+
+  -- where the values of a reading stand
+  pub reading-bounds : (op : ℕ) (a : ℤ) → (readingIn op a .from ≤ 224) × (readingIn op a .width ≤ 32)
+  reading-bounds op a =
+      cases (eqb op 12) (λ e. rw e (by (first (showChecks (p .head) (natural a) measureLimit))))
+      (λ e. rw e (cases (eqb op 13) (λ f. rw f (omega arith, omega arith))
+      (λ f. rw f (cases (eqb op 14) (λ g. rw g (omega arith, omega arith)) (λ g. rw g (omega arith, omega arith))))))
+    where
+      by : (v : Verdict) → (showBy v (p .head) (natural a) .from ≤ 224) × (showBy v (p .head) (natural a) .width ≤ 32)
+      by fine = (omega arith, omega arith)
+      by (refused k) = (omega arith, omega arith)

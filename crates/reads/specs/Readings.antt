@@ -1,21 +1,20 @@
 -- What the reading calls answer from what is lent to them. Assumes nothing.
 use Prim.Native.Nat.{ℕ, _-_, min}
 use mathlib.Core.Bool.{Bool, cond}
-use mathlib.Core.List.{List, [], _∷_, _++_}
+use mathlib.Core.List.{List}
 use mathlib.Core.Option.{Option, none, some}
 use lib.Dec.{eqb}
 use lib.IntN.{ℤ}
 use Rattle.protocol.specs.Lists.{natural}
 use Rattle.protocol.specs.Plan.{fateNumber, measureLimit}
-use Rattle.protocol.specs.Calls as model
 use Rattle.protocol.specs.Calls.{Call, show, fate-of, left, Verdict, fine, refused, first}
-use Rattle.rules.specs.Rows.{row}
-use Rattle.state.specs.declared.EditRecord.{EditRecord}
-use Rattle.state.specs.declared.Head.{Head}
+use Rattle.records.specs.declared.EditRecord.{EditRecord}
+use Rattle.heads.specs.declared.Head.{Head}
 use Rattle.state.specs.declared.Answer.{Answer}
 use Rattle.state.specs.declared.Answer.the-variants.{Refused, Done, Number, Pair}
-use Rattle.state.specs.View.{fateOf, keptIn, offsetOf, measuresIn}
-use Rattle.query.specs.Reads.{showChecks, leftNumber}
+use Rattle.records.specs.Records.{fateOf}
+use Rattle.heads.specs.Heads.{keptIn, offsetOf, measuresIn}
+use Rattle.figures.specs.Reads.{showChecks, leftNumber}
 use Rattle.reads.specs.declared.Reading.{Reading}
 
 -- the reading calls by their number in the order of 01
@@ -40,8 +39,3 @@ readingOf op a h i e arrived confirmed unsent settled =
     cond (eqb op 12) (showReading h (natural a))
     (cond (eqb op 13) (alone (fateAnswer i e))
     (cond (eqb op 14) (alone (Number (leftNumber h arrived confirmed unsent (min (keptIn h - settled) 256)))) (alone (Refused 51))))
-
--- the numbers that a reading gives: the answer's own and the values
-abbrev pub withRow : model.Answer → List ℤ → model.Answer
-withRow (model.no k) vs = model.no k
-withRow (model.ok xs) vs = model.ok (xs ++ vs)

@@ -1,11 +1,11 @@
 // The calls that only read (show, fate, left), and a line that cannot be read, answered from what the owner of a state lends.
 ghost use mathlib.Core.Path.{_≡_};
 ghost use Prim.Native.Nat.{_-_, min};
-ghost use Rattle.state.specs.View.{keptIn};
+ghost use Rattle.heads.specs.Heads.{keptIn};
 ghost use Rattle.reads.specs.Readings.{fateAnswer, showReading, readingOf};
 use state::Answer;
-use state::EditRecord;
-use state::Head;
+use records::EditRecord;
+use heads::Head;
 
 // An answer, and where the values stand that it gives besides: none but for a show that is accepted.
 pub struct Reading {
@@ -22,14 +22,14 @@ fn fate_answer(i: usize, e: EditRecord) -> Answer
         return Answer::Pair(0, 0);
     }
     let f = e.fate;
-    Answer::Pair(state::fate_number(f), e.place)
+    Answer::Pair(records::fate_number(f), e.place)
 }
 
 // The side's values, where they stand. A sheet's show has room for 32.
 fn show_reading(h: Head, s: u32) -> Reading
     ensures { λ r. ⌜ r ≡ showReading h s ⌝ }
 {
-    let k = query::show_refusal(h, s, 32);
+    let k = figures::show_refusal(h, s, 32);
     if k != 0 {
         let answer = Answer::Refused(k);
         return Reading {
@@ -41,8 +41,8 @@ fn show_reading(h: Head, s: u32) -> Reading
     let answer = Answer::Done;
     Reading {
         answer,
-        from: state::offset(s),
-        width: rules::capped(h.measures, 32),
+        from: heads::offset(s),
+        width: rows::capped(h.measures, 32),
     }
 }
 
@@ -50,7 +50,7 @@ fn show_reading(h: Head, s: u32) -> Reading
 fn unsettled(h: Head, settled: u32) -> u32
     ensures { λ r. ⌜ r ≡ keptIn h - settled ⌝ }
 {
-    let k = rules::capped(h.kept, 256) as u32;
+    let k = rows::capped(h.kept, 256) as u32;
     if settled < k {
         return k - settled;
     }
@@ -83,7 +83,7 @@ pub fn read<'a>(
         };
     }
     if op == 14 {
-        let n = query::left_number(h, arrived, confirmed, unsent, unsettled(h, settled));
+        let n = figures::left_number(h, arrived, confirmed, unsent, unsettled(h, settled));
         let answer = Answer::Number(n);
         return Reading {
             answer,

@@ -1,32 +1,31 @@
--- Laws of send, stop, confirm and install: the checks from what is lent, edits sent, the plan after each call. Assumes nothing.
-use Prim.Native.Nat.{ℕ, _+_, _<_, _≤_, min}
+-- Laws of send, stop, confirm and install: the checks from what is lent, and the plan after each call. Assumes nothing.
+use Prim.Native.Nat.{ℕ, min}
 use native.Mathlib.Omega.{arith}
 use mathlib.Core.Bool.{Bool, true, false, not, cond, _||_}
-use mathlib.Core.Path.{_≡_, refl, sym, ap, ap₂, _∙_}
-use mathlib.Core.Logic.{_≢_}
+use mathlib.Core.Path.{_≡_, refl, ap, ap₂, _∙_}
 use mathlib.Core.List.{List, [], _∷_, map}
-use borrow.Author.Tests.{eqb-true, eqb-false}
 use lib.Dec.{T, eqb, ltb, eqb→eq}
 use lib.IntN.{ℤ, pos}
-use lib.ListN.{length, getD, set, length-set}
-use Rattle.protocol.specs.Lists.{bit, none, oneTo, natural, count, modify}
+use lib.ListN.{length, getD, set}
+use Rattle.protocol.specs.Lists.{none, oneTo, natural, count, modify}
 use Rattle.protocol.specs.Plan.{modeNumber, closing, is, active, isWaiting, Side, sideAt, sidesThat, unsentOf}
 use Rattle.protocol.specs.Calls.{Call, Check, _unless_, _when_, first, refused, checks, further, after, gives, ok, stop, confirm, send, install, hasArrived, hasConfirmed, sent}
-use Rattle.protocol.proofs.Laws.{cases, range, is-yes}
-use Rattle.rules.specs.Rows.{span, copiedIn}
-use Rattle.rules.proofs.Copies.{row-copied}
-use Rattle.rules.proofs.Spans.{span-same, map-span, getD-set, getD-other, below}
+use Rattle.protocol.proofs.Laws.{range, is-yes}
+use Rattle.rows.specs.Rows.{span, copiedIn}
+use Rattle.rows.proofs.Copies.{row-copied}
+use Rattle.rows.proofs.Spans.{getD-set}
 use Rattle.state.specs.declared.Answer.the-variants.{Done, Number}
-use Rattle.state.specs.declared.EditRecord.{EditRecord}
-use Rattle.state.specs.declared.Head.{Head}
-use Rattle.state.specs.declared.Mode.the-variants.{Closing}
+use Rattle.records.specs.declared.EditRecord.{EditRecord}
+use Rattle.heads.specs.declared.Head.{Head}
+use Rattle.heads.specs.declared.Mode.the-variants.{Closing}
 use Rattle.state.specs.declared.State.{State}
-use Rattle.state.specs.View.{view, modeOf, sidesIn, sideOf, indexOf, keptIn, keptAt, keptOf, noRecord}
-use Rattle.state.specs.Parts.{unsetIn}
+use Rattle.heads.specs.Heads.{modeOf, sidesIn, indexOf, unsetIn}
+use Rattle.records.specs.Records.{keptOf}
+use Rattle.state.specs.View.{view, sideOf}
 use Rattle.state.specs.Meets.{refusalOf, Meets}
 use Rattle.state.proofs.Views.{plan-same, sides-most, sides-length, side-at, sides-modify, flags-unset}
 use Rattle.state.proofs.Steps.{Checked, accepts, stored, flag-set, flag-other}
-use Rattle.reconcile.specs.Moves.{sendChecks, turnChecks, stopChecks, confirmChecks, installChecks, inMode, installHead}
+use Rattle.turns.specs.Moves.{sendChecks, turnChecks, stopChecks, confirmChecks, installChecks, inMode, installHead}
 
 -- ---- the checks of each call
 
@@ -107,34 +106,6 @@ module _ (p : State) (s : ℤ) {side i n k : ℕ} (w : Named p s side i n) where
   unfolding checks further
   send-checked e =
       named-checked (send s) p s (active (view p .mode)) (λ x. x .arrived) (p .arrived) (λ x u. (33 unless (not x || ltb 0 u)) ∷ []) (λ x. refl) refl w e
-
--- ---- edits sent
-
-pub bit-some : (b : Bool) → bit b ≢ 0 → b ≡ true
-bit-some true h = refl
-bit-some false h = absurd (h refl)
-
--- the first i edits are sent, the rest are as before
-pub record Sent (s : ℕ) (before next : List EditRecord) (i : ℕ) : Type 0 where
-  pub size : length next ≡ 256
-  pub done : (j : ℕ) → j < i → (n : ℕ) → keptAt n (getD next j noRecord) ≡ sent s (keptAt n (getD before j noRecord))
-  pub rest : (j : ℕ) → i ≤ j → getD next j noRecord ≡ getD before j noRecord
-
-pub sent-begin : (s : ℕ) (es : List EditRecord) → length es ≡ 256 → Sent s es es 0
-sent-begin s es e = record { size = e; done = λ j a. absurd (omega arith); rest = λ j a. refl }
-
-pub sent-next : (s : ℕ) (before next : List EditRecord) (i : ℕ) (r : EditRecord) → i < 256 → Sent s before next i → ((n : ℕ) → keptAt n r ≡ sent s (keptAt n (getD next i noRecord))) → Sent s before (set next i r) (i + 1)
-sent-next s before next i r h w e = record { size = length-set next i r ∙ w .size; done = done; rest = λ j a. getD-other next i j r noRecord (λ z. omega arith) ∙ w .rest j (omega arith) }
-  where
-    done : (j : ℕ) → j < i + 1 → (n : ℕ) → keptAt n (getD (set next i r) j noRecord) ≡ sent s (keptAt n (getD before j noRecord))
-    done j a n =
-        cases (eqb j i)
-        (λ t. let l = w .size in rw (eqb-true j i t) (ap (keptAt n) (getD-set next i r noRecord (omega arith)) ∙ e n ∙ ap (λ x. sent s (keptAt n x)) (w .rest i (omega arith))))
-        (λ t. let ne = eqb-false j i t in ap (keptAt n) (getD-other next i j r noRecord ne) ∙ w .done j (below i j ne a) n)
-
-pub sent-over : (s : ℕ) (h : Head) (before next : List EditRecord) (i : ℕ) → keptIn h ≤ i → Sent s before next i → keptOf h next ≡ map (sent s) (keptOf h before)
-sent-over s h before next i k w =
-    span-same 0 (keptIn h) _ _ (λ j a b. w .done j (omega arith) _) ∙ sym (map-span (sent s) 0 (keptIn h) _)
 
 -- ---- the plan after each call
 

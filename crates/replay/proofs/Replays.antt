@@ -16,19 +16,22 @@ use Rattle.protocol.specs.Plan.{isWaiting, isSettled, effective, fits, holds, m
 use Rattle.protocol.specs.Calls.{Call, replay, Check, Verdict, fine, refused, first, checks, further, replayable, settled, outcome, update, nextPlace, after, gives, ok, stepBy, step}
 use Rattle.protocol.proofs.Laws.{cases, is-yes, range, Fine, Pass, passed}
 use Rattle.change.specs.Change.{viewChange}
-use Rattle.rules.specs.Rows.{row, withValue, holdsIn}
-use Rattle.rules.proofs.Spans.{length-span}
+use Rattle.rows.specs.Rows.{row}
+use Rattle.rules.specs.Rules.{withValue, holdsIn}
+use Rattle.rows.proofs.Spans.{length-span}
 use Rattle.rules.proofs.Rows.{made-with, modify-out, holds-is, row-set}
-use Rattle.state.specs.declared.EditRecord.{EditRecord}
-use Rattle.state.specs.declared.Head.{Head}
+use Rattle.records.specs.declared.EditRecord.{EditRecord}
+use Rattle.heads.specs.declared.Head.{Head}
 use Rattle.state.specs.declared.State.{State}
-use Rattle.state.specs.View.{view, modeOf, sidesIn, sideOf, indexOf, keptIn, endIn, keptAt, logOf, keptOf, rulesOf, noRecord}
-use Rattle.state.specs.Parts.{positionOf, placeOf, recordOf, unsetIn, namedIn}
+use Rattle.heads.specs.Heads.{modeOf, sidesIn, indexOf, keptIn, endIn, positionOf, placeOf, unsetIn}
+use Rattle.records.specs.Records.{keptAt, logOf, keptOf, noRecord, recordOf}
+use Rattle.state.specs.View.{view, sideOf, rulesOf}
+use Rattle.state.specs.Parts.{namedIn}
 use Rattle.state.specs.Meets.{answerOf, SameIfRefused, Meets}
 use Rattle.state.proofs.Views.{Sized, plan-same, flags-unset, lookup-named}
-use Rattle.state.proofs.Logs.{Placed, placed, log-modify}
-use Rattle.replay.specs.declared.Decision.{Decision}
-use Rattle.replay.specs.Replays.{replayChecks, draftIn, effectiveIn, draftOutcome, settledBy, replayOutcome, settledRecord, replayDecision, pointOf, slotIn, replayIn, stored}
+use Rattle.records.proofs.Logs.{Placed, placed, log-modify}
+use Rattle.settling.specs.declared.Decision.{Decision}
+use Rattle.settling.specs.Replays.{replayChecks, draftIn, effectiveIn, draftOutcome, settledBy, replayOutcome, settledRecord, replayDecision, pointOf, slotIn, replayIn, stored}
 
 module _ (p : State) (z : Sized p) (n : ℤ) where
   abbrev h : Head

@@ -1,180 +1,12 @@
-// The call replay (01, "The calls"): a read-only decision on what is lent to it, and the stores. A caller that owns the state uses the same decision.
+// The call replay (01, "The calls"): the decision (`settling`) and the stores. A caller that owns the state uses the same decision.
 ghost use mathlib.Core.Path.{_≡_};
-ghost use Prim.Native.Nat.{_<_, min};
-ghost use Rattle.protocol.specs.Plan.{isWaiting};
+ghost use Prim.Native.Nat.{_<_};
 ghost use Rattle.protocol.specs.Calls.{replay};
-ghost use Rattle.state.specs.View.{keptAt};
 ghost use Rattle.state.specs.Meets.{Meets};
-ghost use Rattle.replay.specs.Replays.{draftOutcome, replayOutcome, settledRecord, replayDecision, pointOf};
-use change::Change;
-use rules::Trial;
-use state::Answer;
+ghost use Rattle.settling.specs.Replays.{pointOf};
+use records::Test;
 use state::Answered;
-use state::EditRecord;
-use state::Fate;
-use state::Head;
 use state::State;
-use state::Test;
-
-// What the checks of a replay find: a refusal, or whether the edit is accepted and the value that the draft then has at its place.
-pub enum Outcome {
-    Refused(u32),
-    Settled(bool, i32),
-}
-
-// What a replay stores: a value of the draft and a record, and its answer.
-pub struct Decision {
-    pub amount: i32,
-    pub entry: EditRecord,
-    pub answer: Answer,
-}
-
-fn is_waiting(e: EditRecord) -> bool
-    ensures { λ t. ⌜ t ≡ isWaiting (keptAt 0 e) ⌝ }
-{
-    let f = e.fate;
-    state::fate_number(f) == 2
-}
-
-// A change tried on the draft: whether it takes effect, and the value at its place then.
-fn try_draft<'a>(
-    h: Head,
-    lower: &'a [u32; 64],
-    gap: &'a [i32; 64],
-    upper: &'a [u32; 64],
-    draft: &'a [i32],
-    m: u32,
-    change: Change,
-    old: i32,
-) -> Outcome
-    ensures { λ r. ⌜ r ≡ draftOutcome h (now (lower .entry)) (now (gap .entry)) (now (upper .entry)) (now (draft .entry)) m change old ⌝ }
-{
-    let n = rules::capped(h.drafted, 32);
-    let tried = rules::try_change(lower, gap, upper, h.rules, draft, 0, h.drafted, m, change);
-    match tried {
-        Trial::Effective(x) => {
-            if rules::one_to(n, m) {
-                return Outcome::Settled(true, x);
-            }
-            Outcome::Settled(true, old)
-        }
-        Trial::OutOfRange => Outcome::Settled(false, old),
-        Trial::Broken => Outcome::Settled(false, old),
-    }
-}
-
-// The checks 31, 34, 35, 36 and the trial, from how many first logs are missing, the edit, and the one that it names as earlier.
-fn replay_outcome<'a>(
-    h: Head,
-    lower: &'a [u32; 64],
-    gap: &'a [i32; 64],
-    upper: &'a [u32; 64],
-    draft: &'a [i32],
-    missing: u32,
-    e: EditRecord,
-    earlier: EditRecord,
-    old: i32,
-) -> Outcome
-    ensures { λ r. ⌜ r ≡ replayOutcome h (now (lower .entry)) (now (gap .entry)) (now (upper .entry)) (now (draft .entry)) missing e earlier old ⌝ }
-{
-    let mode = h.mode;
-    if !state::is_active(mode) {
-        return Outcome::Refused(31);
-    }
-    if missing != 0 {
-        return Outcome::Refused(34);
-    }
-    if !is_waiting(e) {
-        return Outcome::Refused(35);
-    }
-    if is_waiting(earlier) {
-        return Outcome::Refused(36);
-    }
-    let change = e.change;
-    try_draft(h, lower, gap, upper, draft, e.measure, change, old)
-}
-
-fn settled_record(e: EditRecord, accepted: bool, place: u32) -> EditRecord
-    ensures { λ r. ⌜ r ≡ settledRecord e accepted place ⌝ }
-{
-    let change = e.change;
-    if accepted {
-        let fate = Fate::Accepted;
-        return EditRecord {
-            change,
-            fate,
-            side: e.side,
-            client: e.client,
-            earlier: e.earlier,
-            measure: e.measure,
-            place,
-            replied: e.replied,
-        };
-    }
-    let fate = Fate::Revoked;
-    EditRecord {
-        change,
-        fate,
-        side: e.side,
-        client: e.client,
-        earlier: e.earlier,
-        measure: e.measure,
-        place,
-        replied: e.replied,
-    }
-}
-
-fn replay_decision(outcome: Outcome, standing: EditRecord, old: i32, place: u32) -> Decision
-    ensures { λ r. ⌜ r ≡ replayDecision outcome standing old place ⌝ }
-{
-    match outcome {
-        Outcome::Refused(k) => {
-            let answer = Answer::Refused(k);
-            Decision {
-                amount: old,
-                entry: standing,
-                answer,
-            }
-        }
-        Outcome::Settled(accepted, x) => {
-            let entry = settled_record(standing, accepted, place);
-            if accepted {
-                let answer = Answer::Number(3);
-                return Decision {
-                    amount: x,
-                    entry,
-                    answer,
-                };
-            }
-            let answer = Answer::Number(4);
-            Decision {
-                amount: x,
-                entry,
-                answer,
-            }
-        }
-    }
-}
-
-// What a replay stores, from what stands at its places; place is the next in the order of settling.
-pub fn decide_replay<'a>(
-    h: Head,
-    lower: &'a [u32; 64],
-    gap: &'a [i32; 64],
-    upper: &'a [u32; 64],
-    draft: &'a [i32],
-    missing: u32,
-    e: EditRecord,
-    earlier: EditRecord,
-    standing: EditRecord,
-    old: i32,
-    place: u32,
-) -> Decision
-    ensures { λ r. ⌜ r ≡ replayDecision (replayOutcome h (now (lower .entry)) (now (gap .entry)) (now (upper .entry)) (now (draft .entry)) missing e earlier old) standing old place ⌝ }
-{
-    let outcome = replay_outcome(h, lower, gap, upper, draft, missing, e, earlier, old);
-    replay_decision(outcome, standing, old, place)
-}
 
 // Where a measure stands in the draft.
 pub fn point(m: u32) -> usize
@@ -183,27 +15,27 @@ pub fn point(m: u32) -> usize
     if m == 0 {
         return 0;
     }
-    rules::capped(m - 1, 31)
+    rows::capped(m - 1, 31)
 }
 
 pub fn replay(p: State, n: i32) -> Answered
     ensures { λ r. ⌜ Meets (replay n) p r ⌝ }
 {
     let h = p.head;
-    let i = state::position(h, exact::number(n));
-    let slot = state::place(i);
+    let i = heads::position(h, exact::number(n));
+    let slot = heads::place(i);
     let standing = p.edits[slot];
-    let e = state::found(i, standing);
-    let j = state::position(h, e.earlier);
-    let seat = state::place(j);
+    let e = records::found(i, standing);
+    let j = heads::position(h, e.earlier);
+    let seat = heads::place(j);
     let seen = p.edits[seat];
-    let earlier = state::found(j, seen);
-    let missing = state::unset(&p.arrived, h);
+    let earlier = records::found(j, seen);
+    let missing = heads::unset(&p.arrived, h);
     let edits = p.edits;
-    let place = state::count(edits, h, Test::Settled) + 1;
+    let place = records::count(edits, h, Test::Settled) + 1;
     let at = point(e.measure);
     let old = p.draft[at];
-    let d = decide_replay(
+    let d = settling::decide_replay(
         h,
         &p.lower,
         &p.gap,

@@ -15,9 +15,10 @@ use Rattle.protocol.specs.Plan.{Rule, Change, inRange, value, ruleHolds, holds,
 use Rattle.protocol.proofs.Laws.{cases, range, is-yes, in-range, nth-same, nth-other}
 use Rattle.rules.specs.declared.Trial.{Trial}
 use Rattle.rules.specs.declared.Trial.the-variants.{Effective, OutOfRange, Broken}
-use Rattle.rules.specs.Rows.{span, row, withValue, pairHolds, holdsAt, holdsIn, copiedIn, namesPair, firmAt, firmIn, rulesIn, trialOf}
-use Rattle.rules.proofs.Copies.{length-copied, copied-inside, copied-outside}
-use Rattle.rules.proofs.Spans.{length-span, span-same, nth-span, nth-past, modify-span, all-span, any-span, getD-blank, getD-set, getD-other}
+use Rattle.rows.specs.Rows.{span, row, copiedIn}
+use Rattle.rules.specs.Rules.{withValue, pairHolds, holdsAt, holdsIn, namesPair, firmAt, firmIn, rulesIn, trialOf}
+use Rattle.rows.proofs.Copies.{length-copied, copied-inside, copied-outside}
+use Rattle.rows.proofs.Spans.{length-span, span-same, nth-span, nth-past, modify-span, all-span, any-span, getD-blank, getD-set, getD-other}
 
 -- ---- values of a row
 

@@ -4,10 +4,11 @@ ghost use mathlib.Core.Bool.{_&&_};
 ghost use Prim.Native.Nat.{ℕ, _-_, min};
 ghost use lib.IntN.{pos};
 ghost use lib.ListN.{getD};
-ghost use Rattle.protocol.specs.Lists.{oneTo, all};
+ghost use Rattle.protocol.specs.Lists.{all};
 ghost use Rattle.protocol.specs.Plan.{value};
 ghost use Rattle.change.specs.Change.{viewChange};
-ghost use Rattle.rules.specs.Rows.{span, row, withValue, pairHolds, holdsAt, holdsIn, firmIn, namesPair, copiedIn, paddedValue, trialOf};
+ghost use Rattle.rows.specs.Rows.{span, row};
+ghost use Rattle.rules.specs.Rules.{withValue, pairHolds, holdsAt, holdsIn, firmIn, namesPair, paddedValue, trialOf};
 use change::Applied;
 use change::Change;
 
@@ -16,24 +17,6 @@ pub enum Trial {
     Effective(i32),
     OutOfRange,
     Broken,
-}
-
-pub fn capped(n: u32, cap: usize) -> usize
-    ensures { λ r. ⌜ r ≡ min n cap ⌝ }
-{
-    let k = n as usize;
-    if k < cap { k } else { cap }
-}
-
-// n is one of 1 to k.
-pub fn one_to(k: usize, n: u32) -> bool
-    ensures { λ t. ⌜ t ≡ oneTo k n ⌝ }
-{
-    let m = n as usize;
-    if 0 < m {
-        return m <= k;
-    }
-    false
 }
 
 // The value of measure m in the row of n values that begins at a place; 0 where there is none.
@@ -54,35 +37,6 @@ fn value_at(values: &[i32], at: usize, n: usize, m: u32) -> i32
     0
 }
 
-// ---- rows copied
-
-fn lesser(a: usize, b: usize) -> usize
-    ensures { λ r. ⌜ r ≡ min a b ⌝ }
-{
-    if a < b { a } else { b }
-}
-
-// What an array of n has from a place on.
-fn rest(n: usize, at: usize) -> usize
-    ensures { λ r. ⌜ r ≡ n - at ⌝ }
-{
-    if at < n { n - at } else { 0 }
-}
-
-// Copies n values from a place to a place, as far as both arrays have them.
-pub fn copy(into: &mut [i32], values: &[i32], from: usize, to: usize, n: usize)
-    ensures { λ r. ⌜ now (into .exit) ≡ copiedIn (now (into .entry)) (now (values .entry)) from to n ⌝ }
-{
-    let room = rest(into.len(), to);
-    let size = lesser(n, lesser(room, rest(values.len(), from)));
-    let mut i: usize = 0;
-    while i < size {
-        let v = values[from + i];
-        into[to + i] = v;
-        i += 1;
-    }
-}
-
 // ---- the rules on a row, where one measure counts as another number
 
 // The row of at most 32 values that begins at a place, from place 1 on, where measure m counts as x. Place 0 and what lies past the row
@@ -90,10 +44,10 @@ pub fn copy(into: &mut [i32], values: &[i32], from: usize, to: usize, n: usize)
 fn padded(values: &[i32], at: usize, n: u32, m: u32, x: i32) -> [i32; 33]
     ensures { λ r. ⌜ ((k : ℕ) → getD r k (pos 0) ≡ value (withValue m x (row (now (values .entry)) at (min n 32))) k) ⌝ }
 {
-    let size = capped(n, 32);
+    let size = rows::capped(n, 32);
     let mut row = [0i32; 33];
-    copy(&mut row, values, at, 1, size);
-    if one_to(size, m) {
+    rows::copy(&mut row, values, at, 1, size);
+    if rows::one_to(size, m) {
         row[m as usize] = x;
     }
     row
@@ -126,7 +80,7 @@ fn row_holds<'a>(
 ) -> bool
     ensures { λ t. ⌜ t ≡ all (holdsAt (now (lower .entry)) (now (gap .entry)) (now (upper .entry)) (paddedValue (now (row .entry)))) (span 0 (min k 64) (λ i. i)) ⌝ }
 {
-    let end = capped(k, 64);
+    let end = rows::capped(k, 64);
     let mut i: usize = 0;
     while i < end {
         let a = lower[i];
@@ -184,7 +138,7 @@ pub fn firm_named<'a>(
 ) -> bool
     ensures { λ t. ⌜ t ≡ firmIn (now (lower .entry)) (now (upper .entry)) (now (firm .entry)) (min k 64) m ⌝ }
 {
-    let end = capped(k, 64);
+    let end = rows::capped(k, 64);
     let mut i: usize = 0;
     while i < end {
         let f = firm[i];
@@ -212,7 +166,7 @@ pub fn try_change<'a>(
 ) -> Trial
     ensures { λ r. ⌜ r ≡ trialOf (holdsIn (now (lower .entry)) (now (gap .entry)) (now (upper .entry)) (min k 64)) m (viewChange change) (row (now (values .entry)) at (min n 32)) ⌝ }
 {
-    let made = change::apply(change, value_at(values, at, capped(n, 32), m));
+    let made = change::apply(change, value_at(values, at, rows::capped(n, 32), m));
     let Applied::InRange(x) = made else {
         return Trial::OutOfRange;
     };

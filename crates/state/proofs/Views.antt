@@ -2,7 +2,7 @@
 use Prim.Native.Nat.{ℕ, zero, suc, _+_, _<_, _≤_, min}
 use native.Mathlib.Omega.{arith}
 use mathlib.Core.Bool.{Bool, true, false, not, cond}
-use mathlib.Core.Path.{_≡_, refl, sym, ap, ap₂, _∙_}
+use mathlib.Core.Path.{_≡_, sym, ap, ap₂, _∙_}
 use mathlib.Core.Logic.{_≢_}
 use mathlib.Core.List.{List, [], _∷_, map}
 use borrow.Author.Needs.{needs}
@@ -12,19 +12,20 @@ use denote.Struct.Laws.{val}
 use lib.Dec.{eqb, ltb}
 use lib.IntN.{ℤ, pos}
 use lib.ListN.{length, getD, set, length-map}
-use Rattle.protocol.specs.Lists.{bit, tally, modify, snoc}
-use native.Mathlib.Numerals.{add-one}
+use Rattle.protocol.specs.Lists.{tally, modify, snoc}
 use Rattle.protocol.specs.Plan.{Side, Mode, modeNumber, Content, Plan, absentSide, sideAt, sidesThat, lookup}
 use Rattle.protocol.proofs.Laws.{tally-same}
-use Rattle.rules.specs.Rows.{span, row}
-use Rattle.rules.proofs.Spans.{length-span, span-same, span-snoc, nth-span, modify-span, getD-set, getD-other}
+use Rattle.rows.specs.Rows.{span, row}
+use Rattle.rows.proofs.Spans.{length-span, span-same, span-snoc, nth-span, modify-span, getD-set, getD-other}
 use Rattle.state.proofs.State.{the-type}
 use Rattle.state.proofs.State.Laws.{the-laws}
-use Rattle.state.specs.declared.Head.{Head}
+use Rattle.heads.specs.declared.Head.{Head}
 use Rattle.state.specs.declared.State.{State}
-use Rattle.state.specs.View.{view, modeOf, sidesIn, sideOf, indexOf, measuresIn, endIn, keptIn, keptAt}
-use Rattle.state.specs.Parts.{positionOf, unsetIn, namedIn}
-use Rattle.state.proofs.Logs.{lookup-record}
+use Rattle.heads.specs.Heads.{modeOf, sidesIn, indexOf, measuresIn, endIn, keptIn, positionOf, unsetIn}
+use Rattle.records.specs.Records.{keptAt}
+use Rattle.state.specs.View.{view, sideOf}
+use Rattle.state.specs.Parts.{namedIn}
+use Rattle.records.proofs.Logs.{lookup-record}
 
 -- ---- lengths
 
@@ -94,17 +95,6 @@ pub row-snoc : (vs : List ℤ) (at n : ℕ) (v : ℤ) → at + n < length vs →
 row-snoc vs at n v h =
     span-snoc at n (λ i. getD (set vs (at + n) v) i (pos 0))
     ∙ ap₂ (λ xs x. snoc xs x) (span-same at n _ _ (λ k a b. getD-other vs (at + n) k v (pos 0) (λ e. omega arith))) (getD-set vs (at + n) v (pos 0) h)
-
--- one side more, and its place among the flags
-pub tally-next : (f : ℕ → Bool) (i k b : ℕ) → k ≡ tally f i → b ≡ bit (f (suc i)) → k + b ≡ tally f (i + 1)
-tally-next f i k b e g = let m = ap (tally f) (add-one i) in omega arith
-
-pub index-suc : (i : ℕ) → i < 8 → indexOf (suc i) ≡ i
-index-suc i h = omega arith
-
--- one flag more
-pub unset-next : (flags : List Bool) (i k b : ℕ) → i < 8 → k ≡ unsetIn flags i → b ≡ bit (not (getD flags i false)) → k + b ≡ unsetIn flags (i + 1)
-unset-next flags i k b h e f = tally-next (λ s. not (getD flags (indexOf s) false)) i k b e (f ∙ ap (λ j. bit (not (getD flags j false))) (sym (index-suc i h)))
 
 -- how many sides have a flag that is not set, as the protocol counts them
 pub flags-unset : (p : State) (flag : Side → Bool) (flags : List Bool) → ((s : ℕ) → flag (sideOf p s) ≡ getD flags (indexOf s) false) → sidesThat (λ s. not (flag (sideAt (view p .content) s))) (view p .content) ≡ unsetIn flags (sidesIn (p .head))

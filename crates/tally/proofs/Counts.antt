@@ -8,14 +8,14 @@ use mathlib.Core.List.{List, [], _∷_, map}
 use borrow.Author.Tests.{eqb-true, eqb-false, eq-eqb, ne-eqb}
 use lib.Dec.{T, eqb, leb, nleb→lt}
 use lib.IntN.{ℤ, pos}
-use lib.ListN.{length, getD, set, replicate}
+use lib.ListN.{length, getD, set, replicate, length-set}
 use Rattle.protocol.specs.Lists.{bit, oneTo, natural, count, snoc}
 use Rattle.protocol.specs.Plan.{Kept, Fate, unsent, waiting, accepted, revoked, fateIs, Mode, is, whole, Plan, Content, isUnsent, isWaiting, isOpen, isSettled, lookup, unsentOf, keptLimit}
 use Rattle.protocol.specs.Calls.{Call, measure, rule, open-plan, split-side, edit, join, send, replay, stop, confirm, install, show, fate-of, left, checks, further, apart, after, sent, settled, outcome, update, replayable, nextPlace}
 use Rattle.protocol.proofs.Laws.{cases, both, is-yes, yes-is, no-is, which, range, Pass, count-map, count-snoc}
 use Rattle.guarantee.proofs.Kept.{count-settle, open-sent, unsent-sent, unsent-other, settled-count}
-use Rattle.rules.proofs.Spans.{getD-set, getD-other}
-use Rattle.state.specs.View.{indexOf}
+use Rattle.rows.proofs.Spans.{getD-set, getD-other}
+use Rattle.heads.specs.Heads.{indexOf}
 use Rattle.state.proofs.Views.{index-other}
 use Rattle.tally.specs.declared.Tallies.{Tallies}
 use Rattle.tally.specs.Tallies.{Counted, noTallies, oneUnsent, allSent, oneSettled, tallyAfter, opOf, firstNumber}
@@ -215,3 +215,18 @@ module _ (t : Tallies) (p : Plan) (long : length (t .unsent) ≡ 8) (room : leng
   counted-after (show s room) g = h
   counted-after (fate-of n) g = h
   counted-after left g = h
+
+-- there are always eight counts of unsent edits
+pub tallied-long : (op s : ℕ) (w : Bool) (t : Tallies) → length (t .unsent) ≡ 8 → length (tallyAfter op s w t .unsent) ≡ 8
+tallied-long op s w t h =
+    cases (eqb op 4) (λ a. rw a (by w))
+    (λ a. rw a (cases (eqb op 5) (λ b. rw b (by′ w))
+    (λ b. rw b (cases (eqb op 7) (λ c. rw c (length-set (t .unsent) (indexOf s) 0 ∙ h)) (λ c. rw c (cases (eqb op 8) (λ d. rw d h) (λ d. rw d h)))))))
+  where
+    by : (w : Bool) → length (cond w noTallies t .unsent) ≡ 8
+    by true = refl
+    by false = h
+
+    by′ : (w : Bool) → length (cond w t (oneUnsent s t) .unsent) ≡ 8
+    by′ true = h
+    by′ false = length-set (t .unsent) (indexOf s) _ ∙ h

@@ -9,7 +9,7 @@ use lib.ListN.{getD, set, replicate}
 use Rattle.protocol.specs.Lists.{count}
 use Rattle.protocol.specs.Plan.{Kept, isWaiting, isSettled, unsentOf}
 use Rattle.protocol.specs.Calls.{Call, measure, rule, open-plan, split-side, edit, join, send, replay, stop, confirm, install, show, fate-of, left}
-use Rattle.state.specs.View.{indexOf}
+use Rattle.heads.specs.Heads.{indexOf}
 use Rattle.tally.specs.declared.Tallies.{Tallies}
 
 -- what the counts say of the kept edits

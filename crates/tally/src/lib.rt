@@ -23,9 +23,9 @@ pub fn no_tallies() -> Tallies
 fn one_unsent(t: Tallies, s: u32) -> Tallies
     ensures { λ r. ⌜ r ≡ oneUnsent s t ⌝ }
 {
-    let i = state::index(s);
+    let i = heads::index(s);
     let u = t.unsent[i];
-    let n = rules::capped(u, 255) as u32 + 1;
+    let n = rows::capped(u, 255) as u32 + 1;
     let mut next = t;
     next.unsent[i] = n;
     next
@@ -35,9 +35,9 @@ fn one_unsent(t: Tallies, s: u32) -> Tallies
 fn all_sent(t: Tallies, s: u32) -> Tallies
     ensures { λ r. ⌜ r ≡ allSent s t ⌝ }
 {
-    let i = state::index(s);
+    let i = heads::index(s);
     let u = t.unsent[i];
-    let n = (rules::capped(t.waiting, 256) + rules::capped(u, 256)) as u32;
+    let n = (rows::capped(t.waiting, 256) + rows::capped(u, 256)) as u32;
     let mut next = t;
     next.unsent[i] = 0;
     next.waiting = n;
@@ -48,8 +48,8 @@ fn all_sent(t: Tallies, s: u32) -> Tallies
 fn one_settled(t: Tallies) -> Tallies
     ensures { λ r. ⌜ r ≡ oneSettled t ⌝ }
 {
-    let w = rules::capped(t.waiting, 256);
-    let n = rules::capped(t.settled, 255) as u32 + 1;
+    let w = rows::capped(t.waiting, 256);
+    let n = rows::capped(t.settled, 255) as u32 + 1;
     let mut next = t;
     next.settled = n;
     next.waiting = 0;

@@ -161,7 +161,7 @@ fn say_all(values: &[i32; 8]) {
 fn try_show(p: State, s: i32, room: i32) {
     let mut space = [77i32; 8];
     let mut refusal: u32 = 99;
-    let n = rules::capped(exact::number(room), 8);
+    let n = rows::capped(exact::number(room), 8);
     let part = plan::show(p, s, &mut space[..n], &mut refusal);
     io::write_all(1, b"  part");
     say_values(part);

@@ -4,16 +4,16 @@ use Rattle.protocol.specs.Calls.{measure, first}
 use Rattle.state.specs.Meets.{refusalOf}
 use Rattle.state.proofs.Views.{owned-sized}
 use Rattle.state.proofs.Steps.{Checked, refuses}
-use Rattle.draw.specs.Draw.{measureChecks}
+use Rattle.limits.specs.Draw.{measureChecks}
 use Rattle.draw.proofs.Draws.{measure-checks, measure-accepts}
 use borrow.Author.Needs.{needs}
 use Rattle.draw.proofs.measure.Statement.{statement}
 use Rattle.draw.proofs.measure.Tie as tie
 use Rattle.draw.proofs.measure.Reads as reads
 use Rattle.draw.proofs.measure.Lts as lts
-use Rattle.draw.proofs.measure_refusal.Reads as measure-refusal-reads
-use Rattle.draw.proofs.with_measures.Reads as with-measures-reads
-use Rattle.rules.proofs.capped.Reads as capped-reads
+use Rattle.limits.proofs.measure_refusal.Reads as measure-refusal-reads
+use Rattle.limits.proofs.with_measures.Reads as with-measures-reads
+use Rattle.rows.proofs.capped.Reads as capped-reads
 use Rattle.state.proofs.refuse.Reads as refuse-reads
 
 -- what the check found, of the number that was handed on

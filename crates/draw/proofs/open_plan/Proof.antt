@@ -7,8 +7,9 @@ use lib.IntN.{pos}
 use Rattle.protocol.specs.Lists.{none}
 use Rattle.protocol.specs.Plan.{blank, is}
 use Rattle.protocol.specs.Calls.{open-plan, gives}
-use Rattle.rules.specs.Rows.{row, holdsIn}
-use Rattle.state.specs.View.{modeOf, measuresIn}
+use Rattle.rows.specs.Rows.{row}
+use Rattle.rules.specs.Rules.{holdsIn}
+use Rattle.heads.specs.Heads.{modeOf, measuresIn}
 use Rattle.state.proofs.Meeting.{refused-meets, accepted-meets}
 use Rattle.draw.proofs.Draws.{some-left, no-value, open-checks, open-next}
 use borrow.Author.Needs.{needs}
@@ -16,9 +17,9 @@ use Rattle.draw.proofs.open_plan.Statement.{statement}
 use Rattle.draw.proofs.open_plan.Tie as tie
 use Rattle.draw.proofs.open_plan.Reads as reads
 use Rattle.draw.proofs.open_plan.Lts as lts
-use Rattle.draw.proofs.with_open.Reads as with-open-reads
+use Rattle.limits.proofs.with_open.Reads as with-open-reads
 use Rattle.rules.proofs.rules_hold.Reads as rules-hold-reads
-use Rattle.state.proofs.mode_number.Reads as mode-number-reads
+use Rattle.heads.proofs.mode_number.Reads as mode-number-reads
 use Rattle.state.proofs.refuse.Reads as refuse-reads
 
 mode-fine : (c : tie.Else1) → is blank (modeOf (c .before .before .before .args .t1 .head .mode)) ≡ true

@@ -8,17 +8,17 @@ use Rattle.protocol.specs.Calls.{rule, Check, first}
 use Rattle.state.specs.Meets.{refusalOf}
 use Rattle.state.proofs.Views.{owned-sized}
 use Rattle.state.proofs.Steps.{Checked, refuses}
-use Rattle.draw.specs.Draw.{ruleChecks}
+use Rattle.limits.specs.Draw.{ruleChecks}
 use Rattle.draw.proofs.Draws.{rule-checks, rule-accepts}
 use borrow.Author.Needs.{needs}
 use Rattle.draw.proofs.rule.Statement.{statement}
 use Rattle.draw.proofs.rule.Tie as tie
 use Rattle.draw.proofs.rule.Reads as reads
 use Rattle.draw.proofs.rule.Lts as lts
-use Rattle.draw.proofs.rule_refusal.Reads as rule-refusal-reads
-use Rattle.draw.proofs.with_rules.Reads as with-rules-reads
+use Rattle.limits.proofs.rule_refusal.Reads as rule-refusal-reads
+use Rattle.limits.proofs.with_rules.Reads as with-rules-reads
 use Rattle.exact.proofs.number.Reads as number-reads
-use Rattle.rules.proofs.capped.Reads as capped-reads
+use Rattle.rows.proofs.capped.Reads as capped-reads
 use Rattle.state.proofs.refuse.Reads as refuse-reads
 
 abbrev asked : tie.Start → List Check

@@ -7,25 +7,26 @@ use mir.Facts.{toZ-ofZ}
 use Rattle.exact.proofs.Ints.{fits32}
 use Rattle.protocol.specs.Lists.{natural}
 use Rattle.protocol.specs.Calls.{edit}
-use Rattle.state.specs.View.{endIn, keptIn, noRecord}
-use Rattle.state.specs.Parts.{positionOf, placeOf, recordOf, namedIn}
+use Rattle.heads.specs.Heads.{endIn, keptIn, positionOf, placeOf}
+use Rattle.records.specs.Records.{noRecord, recordOf}
+use Rattle.state.specs.Parts.{namedIn}
 use Rattle.state.specs.Meets.{Meets}
 use Rattle.state.proofs.Views.{owned-sized}
-use Rattle.edit.specs.declared.Decision.{Decision}
-use Rattle.edit.specs.Edits.{editRuling, editDecision, spotOf, slotOf, editIn}
+use Rattle.ruling.specs.declared.Decision.{Decision}
+use Rattle.ruling.specs.Edits.{editRuling, editDecision, spotOf, slotOf, editIn}
 use Rattle.edit.proofs.Edits.{edit-meets}
 use borrow.Author.Needs.{needs}
 use Rattle.edit.proofs.edit.Statement.{statement}
 use Rattle.edit.proofs.edit.Tie as tie
 use Rattle.edit.proofs.edit.Reads as reads
 use Rattle.edit.proofs.edit.Lts as lts
-use Rattle.edit.proofs.decide_edit.Reads as decide-edit-reads
+use Rattle.ruling.proofs.decide_edit.Reads as decide-edit-reads
 use Rattle.edit.proofs.spot.Reads as spot-reads
 use Rattle.exact.proofs.number.Reads as number-reads
-use Rattle.rules.proofs.capped.Reads as capped-reads
-use Rattle.state.proofs.found.Reads as found-reads
-use Rattle.state.proofs.place.Reads as place-reads
-use Rattle.state.proofs.position.Reads as position-reads
+use Rattle.rows.proofs.capped.Reads as capped-reads
+use Rattle.records.proofs.found.Reads as found-reads
+use Rattle.heads.proofs.place.Reads as place-reads
+use Rattle.heads.proofs.position.Reads as position-reads
 
 number-requires : tie.Need-number-requires
 number-requires c κs = search needs

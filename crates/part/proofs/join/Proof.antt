@@ -6,7 +6,7 @@ use Rattle.part.proofs.join.Tie as tie
 use Rattle.part.proofs.join.Reads as reads
 use Rattle.part.proofs.join.Lts as lts
 use Rattle.part.proofs.join_head.Reads as join-head-reads
-use Rattle.state.proofs.mode_number.Reads as mode-number-reads
+use Rattle.heads.proofs.mode_number.Reads as mode-number-reads
 use Rattle.state.proofs.refuse.Reads as refuse-reads
 
 mode-number-requires : tie.Need-mode-number-requires

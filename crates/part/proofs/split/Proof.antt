@@ -15,11 +15,11 @@ use Rattle.exact.proofs.number.Reads as number-reads
 use Rattle.part.proofs.split_base.Reads as split-base-reads
 use Rattle.part.proofs.split_head.Reads as split-head-reads
 use Rattle.part.proofs.split_refusal.Reads as split-refusal-reads
-use Rattle.rules.proofs.copy.Reads as copy-reads
-use Rattle.state.proofs.index.Reads as index-reads
-use Rattle.state.proofs.offset.Reads as offset-reads
+use Rattle.rows.proofs.copy.Reads as copy-reads
+use Rattle.heads.proofs.index.Reads as index-reads
+use Rattle.heads.proofs.offset.Reads as offset-reads
 use Rattle.state.proofs.refuse.Reads as refuse-reads
-use Rattle.state.proofs.side_count.Reads as side-count-reads
+use Rattle.heads.proofs.side_count.Reads as side-count-reads
 
 sizes : (c : tie.Start) → (length (c .args .t1 .base) ≡ 32) × (length (c .args .t1 .values) ≡ 256) × (length (c .args .t1 .arrived) ≡ 8) × (length (c .args .t1 .confirmed) ≡ 8)
 sizes c = (search needs, search needs, search needs, search needs)

@@ -5,8 +5,8 @@ use Rattle.part.proofs.split_base.Statement.{statement}
 use Rattle.part.proofs.split_base.Tie as tie
 use Rattle.part.proofs.split_base.Reads as reads
 use Rattle.part.proofs.split_base.Lts as lts
-use Rattle.rules.proofs.copy.Reads as copy-reads
-use Rattle.state.proofs.mode_number.Reads as mode-number-reads
+use Rattle.rows.proofs.copy.Reads as copy-reads
+use Rattle.heads.proofs.mode_number.Reads as mode-number-reads
 
 mode-number-requires : tie.Need-mode-number-requires
 mode-number-requires c κs = search needs

@@ -5,8 +5,8 @@ use Rattle.part.proofs.split_head.Statement.{statement}
 use Rattle.part.proofs.split_head.Tie as tie
 use Rattle.part.proofs.split_head.Reads as reads
 use Rattle.part.proofs.split_head.Lts as lts
-use Rattle.state.proofs.mode_number.Reads as mode-number-reads
-use Rattle.state.proofs.side_count.Reads as side-count-reads
+use Rattle.heads.proofs.mode_number.Reads as mode-number-reads
+use Rattle.heads.proofs.side_count.Reads as side-count-reads
 
 side-count-requires : tie.Need-side-count-requires
 side-count-requires c κs = search needs

@@ -3,8 +3,7 @@ use mathlib.Core.Path.{_≡_, refl, sym, ap, _∙_}
 use mir.Facts.{toZ-ofZ}
 use Rattle.protocol.specs.Lists.{natural}
 use Rattle.protocol.specs.Calls.{fate-of, ok, checks, further, after, gives}
-use Rattle.state.specs.View.{endIn, keptIn}
-use Rattle.state.specs.Parts.{positionOf}
+use Rattle.heads.specs.Heads.{endIn, keptIn, positionOf}
 use Rattle.state.proofs.Meeting.{accepted-meets}
 use Rattle.query.proofs.Readings.{fate-none, fate-some}
 use borrow.Author.Needs.{needs}
@@ -13,9 +12,9 @@ use Rattle.query.proofs.fate.Tie as tie
 use Rattle.query.proofs.fate.Reads as reads
 use Rattle.query.proofs.fate.Lts as lts
 use Rattle.exact.proofs.number.Reads as number-reads
-use Rattle.state.proofs.fate_number.Reads as fate-number-reads
-use Rattle.state.proofs.place.Reads as place-reads
-use Rattle.state.proofs.position.Reads as position-reads
+use Rattle.records.proofs.fate_number.Reads as fate-number-reads
+use Rattle.heads.proofs.place.Reads as place-reads
+use Rattle.heads.proofs.position.Reads as position-reads
 
 at : (c : tie.After-position) → let s = c .before .before .before in let h = s .args .t1 .head in c .position .result ≡ positionOf (endIn h) (keptIn h) (natural (s .args .n))
 at c = let s = c .before .before .before in let h = s .args .t1 .head in

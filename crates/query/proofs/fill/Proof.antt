@@ -5,7 +5,7 @@ use Rattle.query.proofs.fill.Statement.{statement}
 use Rattle.query.proofs.fill.Tie as tie
 use Rattle.query.proofs.fill.Reads as reads
 use Rattle.query.proofs.fill.Lts as lts
-use Rattle.rules.proofs.copy.Reads as copy-reads
+use Rattle.rows.proofs.copy.Reads as copy-reads
 
 copy-requires : tie.Need-copy-requires
 copy-requires c κs = search needs

@@ -5,16 +5,16 @@ use mathlib.Core.Path.{_≡_, refl, ap, ap₂, _∙_}
 use lib.IntN.{pos}
 use Rattle.protocol.specs.Calls.{left, ok, checks, further, after, gives}
 use Rattle.state.proofs.Meeting.{accepted-meets}
-use Rattle.query.specs.Reads.{leftNumber}
+use Rattle.figures.specs.Reads.{leftNumber}
 use Rattle.query.proofs.Readings.{left-is}
 use borrow.Author.Needs.{needs}
 use Rattle.query.proofs.left.Statement.{statement}
 use Rattle.query.proofs.left.Tie as tie
 use Rattle.query.proofs.left.Reads as reads
 use Rattle.query.proofs.left.Lts as lts
-use Rattle.query.proofs.left_number.Reads as left-number-reads
-use Rattle.query.proofs.unsent_counts.Reads as unsent-counts-reads
-use Rattle.state.proofs.count.Reads as count-reads
+use Rattle.figures.proofs.left_number.Reads as left-number-reads
+use Rattle.figures.proofs.unsent_counts.Reads as unsent-counts-reads
+use Rattle.records.proofs.count.Reads as count-reads
 
 unsent-counts-requires : tie.Need-unsent-counts-requires
 unsent-counts-requires c κs = search needs

@@ -8,12 +8,12 @@ use lib.ListN.{length, getD, take, drop}
 use mir.Facts.{toZ-ofZ}
 use Rattle.protocol.specs.Lists.{natural}
 use Rattle.protocol.specs.Calls.{Check, first, fine}
-use Rattle.rules.specs.Rows.{row}
-use Rattle.state.specs.View.{measuresIn, offsetOf}
+use Rattle.rows.specs.Rows.{row}
+use Rattle.heads.specs.Heads.{measuresIn, offsetOf}
 use Rattle.state.specs.Meets.{refusalOf}
 use Rattle.state.proofs.Views.{row-length}
 use Rattle.state.proofs.Meeting.{verdict-refused, verdict-fine, fine-pass}
-use Rattle.query.specs.Reads.{showChecks}
+use Rattle.figures.specs.Reads.{showChecks}
 use Rattle.query.proofs.Readings.{shown-refused, shown-fine, front}
 use borrow.Author.Needs.{needs}
 use Rattle.query.proofs.show.Statement.{statement}
@@ -22,9 +22,9 @@ use Rattle.query.proofs.show.Reads as reads
 use Rattle.query.proofs.show.Lts as lts
 use Rattle.exact.proofs.number.Reads as number-reads
 use Rattle.query.proofs.fill.Reads as fill-reads
-use Rattle.query.proofs.show_refusal.Reads as show-refusal-reads
-use Rattle.rules.proofs.capped.Reads as capped-reads
-use Rattle.state.proofs.offset.Reads as offset-reads
+use Rattle.figures.proofs.show_refusal.Reads as show-refusal-reads
+use Rattle.rows.proofs.capped.Reads as capped-reads
+use Rattle.heads.proofs.offset.Reads as offset-reads
 
 size : (c : tie.Start) → length (c .args .t1 .values) ≡ 256
 size c = search needs

@@ -7,7 +7,7 @@ use Rattle.reads.proofs.fate_answer.Statement.{statement}
 use Rattle.reads.proofs.fate_answer.Tie as tie
 use Rattle.reads.proofs.fate_answer.Reads as reads
 use Rattle.reads.proofs.fate_answer.Lts as lts
-use Rattle.state.proofs.fate_number.Reads as fate-number-reads
+use Rattle.records.proofs.fate_number.Reads as fate-number-reads
 
 returns : tie.Need-returns
 returns c = rw (eq-eqb _ 0 ((c .if1 .taken)))

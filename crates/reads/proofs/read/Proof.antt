@@ -4,7 +4,7 @@ use borrow.Author.Tests.{eq-eqb, ne-eqb}
 use mir.Facts.{toZ-ofZ}
 use Rattle.protocol.specs.Lists.{natural}
 use Rattle.state.specs.declared.Answer.the-variants.{Number}
-use Rattle.query.specs.Reads.{leftNumber}
+use Rattle.figures.specs.Reads.{leftNumber}
 use Rattle.reads.specs.Readings.{showReading, alone}
 use borrow.Author.Needs.{needs}
 use Rattle.reads.proofs.read.Statement.{statement}
@@ -12,7 +12,7 @@ use Rattle.reads.proofs.read.Tie as tie
 use Rattle.reads.proofs.read.Reads as reads
 use Rattle.reads.proofs.read.Lts as lts
 use Rattle.exact.proofs.number.Reads as number-reads
-use Rattle.query.proofs.left_number.Reads as left-number-reads
+use Rattle.figures.proofs.left_number.Reads as left-number-reads
 use Rattle.reads.proofs.fate_answer.Reads as fate-answer-reads
 use Rattle.reads.proofs.show_reading.Reads as show-reading-reads
 use Rattle.reads.proofs.unsettled.Reads as unsettled-reads

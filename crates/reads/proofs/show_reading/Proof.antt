@@ -1,6 +1,6 @@
 use mathlib.Core.Path.{_≡_, ap, sym, _∙_}
 use Rattle.protocol.specs.Calls.{first}
-use Rattle.query.specs.Reads.{showChecks}
+use Rattle.figures.specs.Reads.{showChecks}
 use Rattle.state.specs.declared.Answer.the-variants.{Done}
 use Rattle.state.proofs.Meeting.{verdict-refused, verdict-fine}
 use Rattle.reads.specs.Readings.{showBy}
@@ -9,9 +9,9 @@ use Rattle.reads.proofs.show_reading.Statement.{statement}
 use Rattle.reads.proofs.show_reading.Tie as tie
 use Rattle.reads.proofs.show_reading.Reads as reads
 use Rattle.reads.proofs.show_reading.Lts as lts
-use Rattle.query.proofs.show_refusal.Reads as show-refusal-reads
-use Rattle.rules.proofs.capped.Reads as capped-reads
-use Rattle.state.proofs.offset.Reads as offset-reads
+use Rattle.figures.proofs.show_refusal.Reads as show-refusal-reads
+use Rattle.rows.proofs.capped.Reads as capped-reads
+use Rattle.heads.proofs.offset.Reads as offset-reads
 
 show-refusal-requires : tie.Need-show-refusal-requires
 show-refusal-requires c κs = search needs

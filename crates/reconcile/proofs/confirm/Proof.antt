@@ -10,9 +10,9 @@ use Rattle.reconcile.proofs.confirm.Tie as tie
 use Rattle.reconcile.proofs.confirm.Reads as reads
 use Rattle.reconcile.proofs.confirm.Lts as lts
 use Rattle.exact.proofs.number.Reads as number-reads
-use Rattle.reconcile.proofs.confirm_refusal.Reads as confirm-refusal-reads
-use Rattle.state.proofs.count.Reads as count-reads
-use Rattle.state.proofs.index.Reads as index-reads
+use Rattle.turns.proofs.confirm_refusal.Reads as confirm-refusal-reads
+use Rattle.records.proofs.count.Reads as count-reads
+use Rattle.heads.proofs.index.Reads as index-reads
 use Rattle.state.proofs.refuse.Reads as refuse-reads
 
 flags : (c : tie.Start) → length (c .args .t1 .confirmed) ≡ 8

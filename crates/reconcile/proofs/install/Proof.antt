@@ -8,12 +8,12 @@ use Rattle.reconcile.proofs.install.Statement.{statement}
 use Rattle.reconcile.proofs.install.Tie as tie
 use Rattle.reconcile.proofs.install.Reads as reads
 use Rattle.reconcile.proofs.install.Lts as lts
-use Rattle.reconcile.proofs.install_head.Reads as install-head-reads
-use Rattle.reconcile.proofs.install_refusal.Reads as install-refusal-reads
-use Rattle.rules.proofs.copy.Reads as copy-reads
-use Rattle.state.proofs.count.Reads as count-reads
+use Rattle.turns.proofs.install_head.Reads as install-head-reads
+use Rattle.turns.proofs.install_refusal.Reads as install-refusal-reads
+use Rattle.rows.proofs.copy.Reads as copy-reads
+use Rattle.records.proofs.count.Reads as count-reads
 use Rattle.state.proofs.refuse.Reads as refuse-reads
-use Rattle.state.proofs.unset.Reads as unset-reads
+use Rattle.heads.proofs.unset.Reads as unset-reads
 
 checked : (c : tie.After-install-refusal) → Checked install (c .before .before .before .before .before .before .before .args .t1) (installing (c .before .before .before .before .before .before .before .args .t1)) (c .install-refusal .result)
 checked c = install-checked (c .before .before .before .before .before .before .before .args .t1) (c .before .before .before .before .count .ensures .0) (c .before .unset .ensures .0) (c .install-refusal .ensures)

@@ -10,10 +10,10 @@ use Rattle.reconcile.proofs.send.Tie as tie
 use Rattle.reconcile.proofs.send.Reads as reads
 use Rattle.reconcile.proofs.send.Lts as lts
 use Rattle.exact.proofs.number.Reads as number-reads
-use Rattle.reconcile.proofs.mark_sent.Reads as mark-sent-reads
-use Rattle.reconcile.proofs.send_refusal.Reads as send-refusal-reads
-use Rattle.state.proofs.count.Reads as count-reads
-use Rattle.state.proofs.index.Reads as index-reads
+use Rattle.turns.proofs.mark_sent.Reads as mark-sent-reads
+use Rattle.turns.proofs.send_refusal.Reads as send-refusal-reads
+use Rattle.records.proofs.count.Reads as count-reads
+use Rattle.heads.proofs.index.Reads as index-reads
 use Rattle.state.proofs.refuse.Reads as refuse-reads
 
 flags : (c : tie.Start) → length (c .args .t1 .arrived) ≡ 8

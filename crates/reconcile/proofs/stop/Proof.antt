@@ -6,11 +6,11 @@ use Rattle.reconcile.proofs.stop.Statement.{statement}
 use Rattle.reconcile.proofs.stop.Tie as tie
 use Rattle.reconcile.proofs.stop.Reads as reads
 use Rattle.reconcile.proofs.stop.Lts as lts
-use Rattle.reconcile.proofs.in_mode.Reads as in-mode-reads
-use Rattle.reconcile.proofs.stop_refusal.Reads as stop-refusal-reads
-use Rattle.state.proofs.count.Reads as count-reads
+use Rattle.turns.proofs.in_mode.Reads as in-mode-reads
+use Rattle.turns.proofs.stop_refusal.Reads as stop-refusal-reads
+use Rattle.records.proofs.count.Reads as count-reads
 use Rattle.state.proofs.refuse.Reads as refuse-reads
-use Rattle.state.proofs.unset.Reads as unset-reads
+use Rattle.heads.proofs.unset.Reads as unset-reads
 
 checked : (c : tie.After-stop-refusal) → Checked stop (c .before .before .before .before .before .before .before .args .t1) (stopping (c .before .before .before .before .before .before .before .args .t1)) (c .stop-refusal .result)
 checked c = stop-checked (c .before .before .before .before .before .before .before .args .t1) (c .before .before .before .before .count .ensures .0) (c .before .unset .ensures .0) (c .stop-refusal .ensures)

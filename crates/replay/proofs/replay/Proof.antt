@@ -6,10 +6,11 @@ use lib.ListN.{getD}
 use mir.Facts.{toZ-ofZ}
 use Rattle.exact.proofs.Ints.{fits32}
 use Rattle.protocol.specs.Lists.{natural}
-use Rattle.state.specs.View.{endIn, keptIn, noRecord}
-use Rattle.state.specs.Parts.{positionOf, placeOf, recordOf, namedIn}
+use Rattle.heads.specs.Heads.{endIn, keptIn, positionOf, placeOf}
+use Rattle.records.specs.Records.{noRecord, recordOf}
+use Rattle.state.specs.Parts.{namedIn}
 use Rattle.state.proofs.Views.{owned-sized}
-use Rattle.replay.specs.Replays.{replayOutcome, replayDecision, pointOf, slotIn, replayIn}
+use Rattle.settling.specs.Replays.{replayOutcome, replayDecision, pointOf, slotIn, replayIn}
 use Rattle.replay.proofs.Replays.{replay-meets}
 use native.Mathlib.Omega.{arith}
 use Prim.Native.Nat.{_<_}
@@ -19,13 +20,13 @@ use Rattle.replay.proofs.replay.Tie as tie
 use Rattle.replay.proofs.replay.Reads as reads
 use Rattle.replay.proofs.replay.Lts as lts
 use Rattle.exact.proofs.number.Reads as number-reads
-use Rattle.replay.proofs.decide_replay.Reads as decide-replay-reads
+use Rattle.settling.proofs.decide_replay.Reads as decide-replay-reads
 use Rattle.replay.proofs.point.Reads as point-reads
-use Rattle.state.proofs.count.Reads as count-reads
-use Rattle.state.proofs.found.Reads as found-reads
-use Rattle.state.proofs.place.Reads as place-reads
-use Rattle.state.proofs.position.Reads as position-reads
-use Rattle.state.proofs.unset.Reads as unset-reads
+use Rattle.records.proofs.count.Reads as count-reads
+use Rattle.records.proofs.found.Reads as found-reads
+use Rattle.heads.proofs.place.Reads as place-reads
+use Rattle.heads.proofs.position.Reads as position-reads
+use Rattle.heads.proofs.unset.Reads as unset-reads
 
 number-requires : tie.Need-number-requires
 number-requires c κs = search needs

@@ -3,13 +3,13 @@ use native.Mathlib.Omega.{arith}
 use Prim.Native.Nat.{_<_, _-_, _+_, min}
 use mathlib.Core.Path.{sym, _∙_}
 use Rattle.protocol.specs.Lists.{any}
-use Rattle.rules.specs.Rows.{firmAt, firmIn}
-use Rattle.rules.proofs.Spans.{Walked, walk-begin, any-next, any-stop, any-over}
+use Rattle.rules.specs.Rules.{firmAt, firmIn}
+use Rattle.rows.proofs.Spans.{Walked, walk-begin, any-next, any-stop, any-over}
 use Rattle.rules.proofs.firm_named.Statement.{statement}
 use Rattle.rules.proofs.firm_named.Tie as tie
 use Rattle.rules.proofs.firm_named.Reads as reads
 use Rattle.rules.proofs.firm_named.Lts as lts
-use Rattle.rules.proofs.capped.Reads as capped-reads
+use Rattle.rows.proofs.capped.Reads as capped-reads
 use Rattle.rules.proofs.names_firmly.Reads as names-firmly-reads
 
 abbrev Inv-loop : tie.InvT-loop

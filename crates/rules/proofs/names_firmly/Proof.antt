@@ -1,5 +1,5 @@
 use borrow.Author.Tests.{eq-eqb, ne-eqb}
-use Rattle.rules.specs.Rows.{namesPair}
+use Rattle.rules.specs.Rules.{namesPair}
 use borrow.Author.Needs.{needs}
 use Rattle.rules.proofs.names_firmly.Statement.{statement}
 use Rattle.rules.proofs.names_firmly.Tie as tie

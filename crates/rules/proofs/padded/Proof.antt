@@ -8,16 +8,16 @@ use lib.ListN.{getD, set, replicate}
 use mir.Facts.{toZ-ofZ}
 use Rattle.protocol.specs.Lists.{oneTo}
 use Rattle.protocol.proofs.Laws.{range, is-yes}
-use Rattle.rules.specs.Rows.{copiedIn}
+use Rattle.rows.specs.Rows.{copiedIn}
 use Rattle.rules.proofs.Rows.{padded-with, padded-out}
 use borrow.Author.Needs.{needs}
 use Rattle.rules.proofs.padded.Statement.{statement}
 use Rattle.rules.proofs.padded.Tie as tie
 use Rattle.rules.proofs.padded.Reads as reads
 use Rattle.rules.proofs.padded.Lts as lts
-use Rattle.rules.proofs.capped.Reads as capped-reads
-use Rattle.rules.proofs.copy.Reads as copy-reads
-use Rattle.rules.proofs.one_to.Reads as one-to-reads
+use Rattle.rows.proofs.capped.Reads as capped-reads
+use Rattle.rows.proofs.copy.Reads as copy-reads
+use Rattle.rows.proofs.one_to.Reads as one-to-reads
 
 -- the row as it was copied, and the measure as it was tested
 module _ (c : tie.After-one-to) where

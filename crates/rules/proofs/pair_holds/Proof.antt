@@ -3,7 +3,7 @@ use lib.IntN.{_+ℤ_}
 use lib.Signed.{ltZ}
 use mir.Facts.{toZ-ofZ}
 use Rattle.exact.proofs.Ints.{wide, wide-fits, fits32, fits64}
-use Rattle.rules.specs.Rows.{pairHolds}
+use Rattle.rules.specs.Rules.{pairHolds}
 use borrow.Author.Needs.{needs}
 use Rattle.rules.proofs.pair_holds.Statement.{statement}
 use Rattle.rules.proofs.pair_holds.Tie as tie

@@ -8,13 +8,13 @@ use mir.Facts.{toZ-ofZ}
 use borrow.Author.Tests.{not-true, not-false}
 use Rattle.exact.proofs.Ints.{fits32}
 use Rattle.protocol.specs.Lists.{all}
-use Rattle.rules.specs.Rows.{pairHolds, holdsAt, paddedValue}
-use Rattle.rules.proofs.Spans.{Walked, walk-begin, all-next, all-stop, all-over}
+use Rattle.rules.specs.Rules.{pairHolds, holdsAt, paddedValue}
+use Rattle.rows.proofs.Spans.{Walked, walk-begin, all-next, all-stop, all-over}
 use Rattle.rules.proofs.row_holds.Statement.{statement}
 use Rattle.rules.proofs.row_holds.Tie as tie
 use Rattle.rules.proofs.row_holds.Reads as reads
 use Rattle.rules.proofs.row_holds.Lts as lts
-use Rattle.rules.proofs.capped.Reads as capped-reads
+use Rattle.rows.proofs.capped.Reads as capped-reads
 use Rattle.rules.proofs.pair_holds.Reads as pair-holds-reads
 
 abbrev Inv-loop : tie.InvT-loop

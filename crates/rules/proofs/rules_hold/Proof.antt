@@ -2,7 +2,8 @@ use Prim.Native.Nat.{min}
 use mathlib.Core.Path.{_≡_, ap, _∙_}
 use mir.Facts.{toZ-ofZ}
 use Rattle.protocol.specs.Plan.{value}
-use Rattle.rules.specs.Rows.{row, withValue, holdsIn, paddedValue}
+use Rattle.rows.specs.Rows.{row}
+use Rattle.rules.specs.Rules.{withValue, holdsIn, paddedValue}
 use Rattle.rules.proofs.Rows.{holds-read}
 use borrow.Author.Needs.{needs}
 use Rattle.rules.proofs.rules_hold.Statement.{statement}

@@ -11,7 +11,8 @@ use Rattle.change.proofs.Changes.{ranged-in, ranged-out}
 use mathlib.Core.Bool.{Bool, true, false, cond}
 use mathlib.Core.List.{List}
 use Rattle.rules.specs.declared.Trial.the-variants.{Effective, Broken}
-use Rattle.rules.specs.Rows.{row, withValue, holdsIn, trialOf}
+use Rattle.rows.specs.Rows.{row}
+use Rattle.rules.specs.Rules.{withValue, holdsIn, trialOf}
 use Rattle.rules.proofs.Rows.{trial-parts}
 use borrow.Author.Needs.{needs}
 use Rattle.rules.proofs.try_change.Statement.{statement}
@@ -19,7 +20,7 @@ use Rattle.rules.proofs.try_change.Tie as tie
 use Rattle.rules.proofs.try_change.Reads as reads
 use Rattle.rules.proofs.try_change.Lts as lts
 use Rattle.change.proofs.apply.Reads as apply-reads
-use Rattle.rules.proofs.capped.Reads as capped-reads
+use Rattle.rows.proofs.capped.Reads as capped-reads
 use Rattle.rules.proofs.rules_hold.Reads as rules-hold-reads
 use Rattle.rules.proofs.value_at.Reads as value-at-reads
 

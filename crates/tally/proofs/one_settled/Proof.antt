@@ -6,7 +6,7 @@ use Rattle.tally.proofs.one_settled.Statement.{statement}
 use Rattle.tally.proofs.one_settled.Tie as tie
 use Rattle.tally.proofs.one_settled.Reads as reads
 use Rattle.tally.proofs.one_settled.Lts as lts
-use Rattle.rules.proofs.capped.Reads as capped-reads
+use Rattle.rows.proofs.capped.Reads as capped-reads
 
 capped-requires : tie.Need-capped-requires
 capped-requires c κs = search needs

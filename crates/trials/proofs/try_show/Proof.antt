@@ -11,7 +11,7 @@ use Rattle.trials.proofs.try_show.Lts as lts
 use Rattle.exact.proofs.number.Reads as number-reads
 use Rattle.io.proofs.write_all.Reads as write-all-reads
 use Rattle.query.proofs.show.Reads as show-reads
-use Rattle.rules.proofs.capped.Reads as capped-reads
+use Rattle.rows.proofs.capped.Reads as capped-reads
 use Rattle.trials.proofs.number.Reads as number-reads′
 use Rattle.trials.proofs.say_all.Reads as say-all-reads
 use Rattle.trials.proofs.say_values.Reads as say-values-reads

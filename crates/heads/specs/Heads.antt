@@ -1,0 +1,58 @@
+-- Modes and counts as the protocol has them, and where sides and kept edits stand. Assumes nothing.
+use Prim.Native.Nat.{ℕ, suc, _*_, _-_, min}
+use mathlib.Core.Bool.{Bool, false, cond, not, _&&_}
+use mathlib.Core.List.{List}
+use lib.Dec.{ltb, eqb, leb}
+use lib.ListN.{getD}
+use Rattle.protocol.specs.Plan as model
+use Rattle.heads.specs.declared.Mode.{Mode}
+use Rattle.heads.specs.declared.Mode.the-variants.{Blank, Whole, Split, Joining, Closing}
+use Rattle.heads.specs.declared.Head.{Head}
+use Rattle.protocol.specs.Lists.{tally}
+
+abbrev pub modeOf : Mode → model.Mode
+modeOf Blank = model.blank
+modeOf Whole = model.whole
+modeOf Split = model.split
+modeOf Joining = model.joining
+modeOf Closing = model.closing
+
+-- ---- sides
+
+-- a blank or whole plan has one side
+abbrev pub single : Head → Bool
+single h = ltb (model.modeNumber (modeOf (h .mode))) 2
+
+abbrev pub sidesIn : Head → ℕ
+sidesIn h = cond (single h) 1 (suc (min (h .added) 7))
+
+abbrev pub indexOf : ℕ → ℕ
+indexOf s = min (s - 1) 7
+
+abbrev pub offsetOf : ℕ → ℕ
+offsetOf s = 32 * indexOf s
+
+abbrev pub measuresIn : Head → ℕ
+measuresIn h = min (h .measures) 32
+
+-- ---- kept edits: their numbers are consecutive, and end below the next number or, in a blank or whole plan, the mark
+
+abbrev pub endIn : Head → ℕ
+endIn h = cond (single h) (h .mark) (h .next)
+
+abbrev pub keptIn : Head → ℕ
+keptIn h = min (h .kept) 256
+
+-- the place, from 1, of number n among k consecutive numbers that end below e; 0: none
+unfoldable pub positionOf : ℕ → ℕ → ℕ → ℕ
+positionOf e k n = cond (eqb n 0) (cond (ltb 0 k && leb e k) 1 0) (cond (ltb n e && leb (e - n) k) (suc (k - (e - n))) 0)
+
+-- where the edit at a place from 1 stands; place 0 is none
+abbrev pub placeOf : ℕ → ℕ
+placeOf i = min (i - 1) 255
+
+-- ---- flags
+
+-- how many of n sides have a flag that is not set
+abbrev pub unsetIn : List Bool → ℕ → ℕ
+unsetIn flags n = tally (λ s. not (getD flags (indexOf s) false)) n

@@ -1,0 +1,46 @@
+-- Laws of rows copied. Assumes nothing.
+use Prim.Native.Nat.{ℕ, zero, suc, _+_, _-_, _<_, _≤_, min}
+use native.Mathlib.Omega.{arith}
+use native.Mathlib.Numerals.{add-one}
+use mathlib.Core.Path.{_≡_, refl, _∙_}
+use mathlib.Core.Logic.{_≢_}
+use mathlib.Core.List.{List}
+use borrow.Author.Tests.{eqb-true, eqb-false}
+use lib.Dec.{eqb}
+use lib.IntN.{ℤ, pos}
+use lib.ListN.{length, getD, set, length-set}
+use Rattle.protocol.proofs.Laws.{cases}
+use Rattle.rows.specs.Rows.{row, copied, copiedIn}
+use Rattle.rows.proofs.Spans.{span-same, span-moved, getD-set, getD-other}
+
+-- one value more, at places that need not be written as sums
+pub copied-next : (into values next : List ℤ) (from to i j k : ℕ) (v : ℤ) → next ≡ copied into values from to i → j ≡ from + i → k ≡ to + i → v ≡ getD values j (pos 0) → set next k v ≡ copied into values from to (i + 1)
+unfolding copied
+copied-next into values next from to i j k v e f g h = rw (add-one i, h, f, g, e)
+
+pub length-copied : (into values : List ℤ) (from to n : ℕ) → length (copied into values from to n) ≡ length into
+unfolding copied
+length-copied into values from to zero = refl
+length-copied into values from to (suc n) = length-set (copied into values from to n) (to + n) _ ∙ length-copied into values from to n
+
+pub copied-outside : (into values : List ℤ) (from to n k : ℕ) → ((i : ℕ) → i < n → k ≢ to + i) → getD (copied into values from to n) k (pos 0) ≡ getD into k (pos 0)
+unfolding copied
+copied-outside into values from to zero k h = refl
+copied-outside into values from to (suc n) k h =
+    getD-other (copied into values from to n) (to + n) k _ (pos 0) (h n (omega arith)) ∙ copied-outside into values from to n k (λ i a. h i (omega arith))
+
+pub copied-inside : (into values : List ℤ) (from to n i : ℕ) → i < n → to + n ≤ length into → getD (copied into values from to n) (to + i) (pos 0) ≡ getD values (from + i) (pos 0)
+unfolding copied
+copied-inside into values from to zero i h k = absurd (omega arith)
+copied-inside into values from to (suc n) i h k =
+    let ih = copied-inside into values from to n i in
+    cases (eqb i n)
+    (λ e. let l = length-copied into values from to n in rw (eqb-true i n e) (getD-set (copied into values from to n) (to + n) _ (pos 0) (omega arith)))
+    (λ e. let ne = eqb-false i n e in getD-other (copied into values from to n) (to + n) (to + i) _ (pos 0) (λ z. ne (omega arith)) ∙ ih (omega arith) (omega arith))
+
+pub row-copied : (into values : List ℤ) (from to n : ℕ) → n ≤ 32 → to + 32 ≤ length into → from + 32 ≤ length values → row (copiedIn into values from to 32) to n ≡ row values from n
+row-copied into values from to n h k l = span-moved to from n _ _ (λ i a. copied-inside into values from to (min 32 (min (length into - to) (length values - from))) i (omega arith) (omega arith))
+
+-- a row that is not copied to
+pub row-beside : (into values : List ℤ) (from to at n : ℕ) → n ≤ 32 → at + 32 ≤ to → row (copiedIn into values from to 32) at n ≡ row into at n
+row-beside into values from to at n h k = span-same at n _ _ (λ j a b. copied-outside into values from to (min 32 (min (length into - to) (length values - from))) j (λ i c z. omega arith))

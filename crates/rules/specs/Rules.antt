@@ -1,0 +1,53 @@
+-- Rules as arrays hold them, and their tests on a list of values. Assumes nothing.
+use Prim.Native.Nat.{ℕ, _+_, _-_}
+use mathlib.Core.Bool.{Bool, false, cond, _&&_, _||_}
+use mathlib.Core.List.{List}
+use lib.Dec.{eqb}
+use lib.IntN.{ℤ, pos, _+ℤ_}
+use lib.Signed.{ltZ}
+use lib.ListN.{getD}
+use Rattle.protocol.specs.Lists.{modify, all, any}
+use Rattle.protocol.specs.Plan as model
+use Rattle.rows.specs.Rows.{span, row}
+use Rattle.rules.specs.declared.Trial.{Trial}
+use Rattle.rules.specs.declared.Trial.the-variants.{Effective, OutOfRange, Broken}
+
+-- the values where measure m, if there is one, counts as x
+unfoldable pub withValue : ℕ → ℤ → List ℤ → List ℤ
+withValue m x vs = modify m (λ y. x) vs
+
+-- measure a plus c is less than measure b, where f gives a measure's value
+unfoldable pub pairHolds : (ℕ → ℤ) → ℕ → ℤ → ℕ → Bool
+pairHolds f a c b = ltZ (f a +ℤ c) (f b)
+
+-- rule i of three arrays, and the first n of them on a list of values
+abbrev pub holdsAt : List ℕ → List ℤ → List ℕ → (ℕ → ℤ) → ℕ → Bool
+holdsAt lower gap upper f i = pairHolds f (getD lower i 0) (getD gap i (pos 0)) (getD upper i 0)
+
+unfoldable pub holdsIn : List ℕ → List ℤ → List ℕ → ℕ → List ℤ → Bool
+unfolding model.value
+holdsIn lower gap upper n vs = all (holdsAt lower gap upper (model.value vs)) (span 0 n (λ i. i))
+
+-- measure k of a row that begins at place 1
+abbrev pub paddedValue : List ℤ → ℕ → ℤ
+paddedValue vs k = getD vs k (pos 0)
+
+unfoldable pub namesPair : ℕ → ℕ → ℕ → Bool
+namesPair a b m = eqb a m || eqb b m
+
+abbrev pub firmAt : List ℕ → List ℕ → List Bool → ℕ → ℕ → Bool
+firmAt lower upper firm m i = getD firm i false && namesPair (getD lower i 0) (getD upper i 0) m
+
+unfoldable pub firmIn : List ℕ → List ℕ → List Bool → ℕ → ℕ → Bool
+firmIn lower upper firm n m = any (firmAt lower upper firm m) (span 0 n (λ i. i))
+
+-- the rules as the protocol has them
+abbrev pub rulesIn : List ℕ → List ℤ → List ℕ → List Bool → ℕ → List model.Rule
+rulesIn lower gap upper firm n =
+    span 0 n (λ i. record { lower = getD lower i 0; gap = getD gap i (pos 0); upper = getD upper i 0; firm = getD firm i false })
+
+-- a change tried on a list of values, against a test of all rules
+unfoldable pub trialOf : (List ℤ → Bool) → ℕ → model.Change → List ℤ → Trial
+unfolding model.fits model.made model.applied model.value
+trialOf test m ch vs =
+    cond (model.fits m ch vs) (cond (test (model.made m ch vs)) (Effective (model.applied ch (model.value vs m))) Broken) OutOfRange

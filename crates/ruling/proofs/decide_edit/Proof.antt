@@ -1,0 +1,50 @@
+use mir.Facts.{toZ-ofZ}
+use Rattle.protocol.specs.Lists.{natural}
+use Rattle.ruling.specs.declared.Decision.{Decision}
+use Rattle.ruling.specs.Edits.{editRuling, editDecision}
+use mathlib.Core.Path.{_≡_, sym, ap, _∙_}
+use borrow.Author.Needs.{needs}
+use Rattle.ruling.proofs.decide_edit.Statement.{statement}
+use Rattle.ruling.proofs.decide_edit.Tie as tie
+use Rattle.ruling.proofs.decide_edit.Reads as reads
+use Rattle.ruling.proofs.decide_edit.Lts as lts
+use Rattle.ruling.proofs.edit_decision.Reads as edit-decision-reads
+use Rattle.ruling.proofs.edit_ruling.Reads as edit-ruling-reads
+use Rattle.exact.proofs.number.Reads as number-reads
+
+edit-ruling-requires : tie.Need-edit-ruling-requires
+edit-ruling-requires c κs = search needs
+
+number-requires : tie.Need-number-requires
+number-requires c κs = search needs
+
+number-requires-2 : tie.Need-number-requires-2
+number-requires-2 c κs = search needs
+
+edit-decision-requires : tie.Need-edit-decision-requires
+edit-decision-requires c κs = search needs
+
+returns : tie.Need-returns
+returns c =
+    let s = (c .before .before .before .before) in
+    let a = s .args in
+    let client = toZ-ofZ (s .fits .client) in
+    let after = toZ-ofZ (s .fits .after) in
+    let constant = toZ-ofZ (s .fits .constant) in
+    let old = toZ-ofZ (s .fits .old) in
+    let ruling : (c .before .before .before .edit-ruling .result) ≡ editRuling (a .h) (a .lower .now) (a .gap .now) (a .upper .now) (a .firm .now) (a .values .now) (a .named) (a .s) (a .client) (a .after) (a .m) (a .kind) (a .constant) =
+    (c .before .before .before .edit-ruling .ensures) ∙ (λ i. editRuling (a .h) (a .lower .now) (a .gap .now) (a .upper .now) (a .firm .now) (a .values .now) (a .named) (a .s) (client i) (after i) (a .m) (a .kind) (constant i))
+    in
+    let by = (c .before .before .number .ensures) ∙ ap natural client in
+    let on = (c .before .number2 .ensures) ∙ ap natural after in
+    (c .edit-decision .ensures) ∙ (λ i. editDecision (a .h) (ruling i) (old i) (a .standing) (a .s) (by i) (on i) (a .m))
+
+pub decide-edit-spec : {M : Type 1} → statement M
+decide-edit-spec =
+    tie.close
+    (tie.spec
+    edit-ruling-requires
+    number-requires
+    number-requires-2
+    edit-decision-requires
+    returns)

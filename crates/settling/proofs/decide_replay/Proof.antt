@@ -1,0 +1,29 @@
+use mathlib.Core.Path.{_≡_, ap, _∙_}
+use mir.Facts.{toZ-ofZ}
+use Rattle.settling.specs.Replays.{replayOutcome, replayDecision}
+use borrow.Author.Needs.{needs}
+use Rattle.settling.proofs.decide_replay.Statement.{statement}
+use Rattle.settling.proofs.decide_replay.Tie as tie
+use Rattle.settling.proofs.decide_replay.Reads as reads
+use Rattle.settling.proofs.decide_replay.Lts as lts
+use Rattle.settling.proofs.replay_decision.Reads as replay-decision-reads
+use Rattle.settling.proofs.replay_outcome.Reads as replay-outcome-reads
+
+replay-outcome-requires : tie.Need-replay-outcome-requires
+replay-outcome-requires c κs = search needs
+
+replay-decision-requires : tie.Need-replay-decision-requires
+replay-decision-requires c κs = search needs
+
+returns : tie.Need-returns
+returns c =
+    let s = (c .before .before) in
+    let a = s .args in
+    let old = toZ-ofZ (s .fits .old) in
+    let outcome : (c .before .replay-outcome .result) ≡ replayOutcome (a .h) (a .lower .now) (a .gap .now) (a .upper .now) (a .draft .now) (a .missing) (a .e) (a .earlier) (a .old) =
+    (c .before .replay-outcome .ensures) ∙ ap (replayOutcome (a .h) (a .lower .now) (a .gap .now) (a .upper .now) (a .draft .now) (a .missing) (a .e) (a .earlier)) old
+    in
+    (c .replay-decision .ensures) ∙ (λ i. replayDecision (outcome i) (a .standing) (old i) (a .place))
+
+pub decide-replay-spec : {M : Type 1} → statement M
+decide-replay-spec = tie.close (tie.spec replay-outcome-requires replay-decision-requires returns)

@@ -1,0 +1,98 @@
+-- The checks of a replay from its parts, what it decides, and the state after the stores. Assumes nothing.
+use Prim.Native.Nat.{ℕ, suc, _+_, _-_, min}
+use mathlib.Core.Bool.{Bool, true, false, cond, _&&_}
+use mathlib.Core.List.{List, [], _∷_}
+use lib.IntN.{ℤ, pos}
+use lib.ListN.{getD, set}
+use Rattle.protocol.specs.Lists.{none, oneTo, count}
+use Rattle.protocol.specs.Plan as model
+use Rattle.protocol.specs.Plan.{active, isWaiting, isSettled, fits, made, applied, value}
+use Rattle.protocol.specs.Calls.{Check, _unless_, _when_, Verdict, fine, refused, first}
+use Rattle.change.specs.declared.Change.{Change}
+use Rattle.change.specs.Change.{viewChange}
+use Rattle.rows.specs.Rows.{row}
+use Rattle.rules.specs.Rules.{holdsIn}
+use Rattle.records.specs.declared.EditRecord.{EditRecord}
+use Rattle.records.specs.declared.Fate.the-variants.{Accepted, Revoked}
+use Rattle.heads.specs.declared.Head.{Head}
+use Rattle.state.specs.declared.State.{State}
+use Rattle.state.specs.declared.Answer.the-variants.{Refused, Number}
+use Rattle.heads.specs.Heads.{modeOf, sidesIn, endIn, keptIn, positionOf, placeOf, unsetIn}
+use Rattle.records.specs.Records.{keptAt, keptOf, noRecord}
+use Rattle.state.specs.Parts.{namedIn}
+use Rattle.settling.specs.declared.Outcome.{Outcome}
+use Rattle.settling.specs.declared.Outcome.the-variants.{Refused as Denied, Settled}
+use Rattle.settling.specs.declared.Decision.{Decision}
+
+-- ---- checks
+
+abbrev pub replayChecks : model.Mode → ℕ → model.Kept → model.Kept → List Check
+replayChecks mode missing e earlier = (31 unless active mode) ∷ (34 unless none missing) ∷ (35 unless isWaiting e) ∷ (36 when isWaiting earlier) ∷ []
+
+-- ---- the trial on the draft
+
+abbrev pub draftIn : Head → List ℤ → List ℤ
+draftIn h draft = row draft 0 (min (h .drafted) 32)
+
+-- whether a change takes effect, with the rules of three arrays
+unfoldable pub effectiveIn : List ℕ → List ℤ → List ℕ → ℕ → ℕ → model.Change → List ℤ → Bool
+unfolding fits made holdsIn
+effectiveIn lower gap upper k m ch vs = fits m ch vs && holdsIn lower gap upper k (made m ch vs)
+
+-- the value at the measure's place: what the change makes, if it takes effect on a measure of the draft
+unfoldable pub draftOutcome : Head → List ℕ → List ℤ → List ℕ → List ℤ → ℕ → Change → ℤ → Outcome
+draftOutcome h lower gap upper draft m c old =
+    let vs = draftIn h draft in
+    let b = effectiveIn lower gap upper (min (h .rules) 64) m (viewChange c) vs in
+    Settled b (cond (b && oneTo (min (h .drafted) 32) m) (applied (viewChange c) (value vs m)) old)
+
+abbrev pub settledBy : Verdict → Outcome → Outcome
+settledBy fine o = o
+settledBy (refused k) o = Denied k
+
+unfoldable pub replayOutcome : Head → List ℕ → List ℤ → List ℕ → List ℤ → ℕ → EditRecord → EditRecord → ℤ → Outcome
+unfolding draftOutcome
+replayOutcome h lower gap upper draft missing e earlier old =
+    settledBy (first (replayChecks (modeOf (h .mode)) missing (keptAt 0 e) (keptAt 0 earlier))) (draftOutcome h lower gap upper draft (e .measure) (e .change) old)
+
+-- ---- what is decided and stored
+
+abbrev pub settledRecord : EditRecord → Bool → ℕ → EditRecord
+settledRecord e b place =
+    record { change = e .change; fate = cond b Accepted Revoked; side = e .side; client = e .client; earlier = e .earlier; measure = e .measure; place = place; replied = e .replied }
+
+abbrev pub replayDecision : Outcome → EditRecord → ℤ → ℕ → Decision
+replayDecision (Denied k) standing old place = record { amount = old; entry = standing; answer = Refused k }
+replayDecision (Settled b x) standing old place = record { amount = x; entry = settledRecord standing b place; answer = Number (cond b 3 4) }
+
+abbrev pub pointOf : ℕ → ℕ
+pointOf m = min (m - 1) 31
+
+-- where the edit numbered n stands
+abbrev pub slotIn : State → ℕ → ℕ
+slotIn p n = placeOf (positionOf (endIn (p .head)) (keptIn (p .head)) n)
+
+-- the decision in a state
+abbrev pub replayIn : State → ℕ → Decision
+replayIn p n =
+    let e = namedIn p n in
+    replayDecision
+    (replayOutcome (p .head) (p .lower) (p .gap) (p .upper) (p .draft) (unsetIn (p .arrived) (sidesIn (p .head))) e (namedIn p (e .earlier)) (getD (p .draft) (pointOf (e .measure)) (pos 0)))
+    (getD (p .edits) (slotIn p n) noRecord) (getD (p .draft) (pointOf (e .measure)) (pos 0)) (count isSettled (keptOf (p .head) (p .edits)) + 1)
+
+-- a decision carried out
+abbrev pub stored : State → ℕ → ℕ → Decision → State
+stored p point slot d =
+    record {
+      head = p .head;
+      base = p .base;
+      draft = set (p .draft) point (d .amount);
+      values = p .values;
+      arrived = p .arrived;
+      confirmed = p .confirmed;
+      lower = p .lower;
+      gap = p .gap;
+      upper = p .upper;
+      firm = p .firm;
+      edits = set (p .edits) slot (d .entry);
+    }

@@ -1,0 +1,173 @@
+// What a replay decides: its checks, the trial on the draft, and what it stores. Read only, on what is lent to it.
+ghost use mathlib.Core.Path.{_≡_};
+ghost use Prim.Native.Nat.{_<_};
+ghost use Rattle.protocol.specs.Plan.{isWaiting};
+ghost use Rattle.protocol.specs.Calls.{replay};
+ghost use Rattle.records.specs.Records.{keptAt};
+ghost use Rattle.settling.specs.Replays.{draftOutcome, replayOutcome, settledRecord, replayDecision};
+use change::Change;
+use heads::Head;
+use records::EditRecord;
+use records::Fate;
+use rules::Trial;
+use state::Answer;
+
+// What the checks of a replay find: a refusal, or whether the edit is accepted and the value that the draft then has at its place.
+pub enum Outcome {
+    Refused(u32),
+    Settled(bool, i32),
+}
+
+// What a replay stores: a value of the draft and a record, and its answer.
+pub struct Decision {
+    pub amount: i32,
+    pub entry: EditRecord,
+    pub answer: Answer,
+}
+
+fn is_waiting(e: EditRecord) -> bool
+    ensures { λ t. ⌜ t ≡ isWaiting (keptAt 0 e) ⌝ }
+{
+    let f = e.fate;
+    records::fate_number(f) == 2
+}
+
+// A change tried on the draft: whether it takes effect, and the value at its place then.
+fn try_draft<'a>(
+    h: Head,
+    lower: &'a [u32; 64],
+    gap: &'a [i32; 64],
+    upper: &'a [u32; 64],
+    draft: &'a [i32],
+    m: u32,
+    change: Change,
+    old: i32,
+) -> Outcome
+    ensures { λ r. ⌜ r ≡ draftOutcome h (now (lower .entry)) (now (gap .entry)) (now (upper .entry)) (now (draft .entry)) m change old ⌝ }
+{
+    let n = rows::capped(h.drafted, 32);
+    let tried = rules::try_change(lower, gap, upper, h.rules, draft, 0, h.drafted, m, change);
+    match tried {
+        Trial::Effective(x) => {
+            if rows::one_to(n, m) {
+                return Outcome::Settled(true, x);
+            }
+            Outcome::Settled(true, old)
+        }
+        Trial::OutOfRange => Outcome::Settled(false, old),
+        Trial::Broken => Outcome::Settled(false, old),
+    }
+}
+
+// The checks 31, 34, 35, 36 and the trial, from how many first logs are missing, the edit, and the one that it names as earlier.
+fn replay_outcome<'a>(
+    h: Head,
+    lower: &'a [u32; 64],
+    gap: &'a [i32; 64],
+    upper: &'a [u32; 64],
+    draft: &'a [i32],
+    missing: u32,
+    e: EditRecord,
+    earlier: EditRecord,
+    old: i32,
+) -> Outcome
+    ensures { λ r. ⌜ r ≡ replayOutcome h (now (lower .entry)) (now (gap .entry)) (now (upper .entry)) (now (draft .entry)) missing e earlier old ⌝ }
+{
+    let mode = h.mode;
+    if !heads::is_active(mode) {
+        return Outcome::Refused(31);
+    }
+    if missing != 0 {
+        return Outcome::Refused(34);
+    }
+    if !is_waiting(e) {
+        return Outcome::Refused(35);
+    }
+    if is_waiting(earlier) {
+        return Outcome::Refused(36);
+    }
+    let change = e.change;
+    try_draft(h, lower, gap, upper, draft, e.measure, change, old)
+}
+
+fn settled_record(e: EditRecord, accepted: bool, place: u32) -> EditRecord
+    ensures { λ r. ⌜ r ≡ settledRecord e accepted place ⌝ }
+{
+    let change = e.change;
+    if accepted {
+        let fate = Fate::Accepted;
+        return EditRecord {
+            change,
+            fate,
+            side: e.side,
+            client: e.client,
+            earlier: e.earlier,
+            measure: e.measure,
+            place,
+            replied: e.replied,
+        };
+    }
+    let fate = Fate::Revoked;
+    EditRecord {
+        change,
+        fate,
+        side: e.side,
+        client: e.client,
+        earlier: e.earlier,
+        measure: e.measure,
+        place,
+        replied: e.replied,
+    }
+}
+
+fn replay_decision(outcome: Outcome, standing: EditRecord, old: i32, place: u32) -> Decision
+    ensures { λ r. ⌜ r ≡ replayDecision outcome standing old place ⌝ }
+{
+    match outcome {
+        Outcome::Refused(k) => {
+            let answer = Answer::Refused(k);
+            Decision {
+                amount: old,
+                entry: standing,
+                answer,
+            }
+        }
+        Outcome::Settled(accepted, x) => {
+            let entry = settled_record(standing, accepted, place);
+            if accepted {
+                let answer = Answer::Number(3);
+                return Decision {
+                    amount: x,
+                    entry,
+                    answer,
+                };
+            }
+            let answer = Answer::Number(4);
+            Decision {
+                amount: x,
+                entry,
+                answer,
+            }
+        }
+    }
+}
+
+// What a replay stores, from what stands at its places; place is the next in the order of settling.
+pub fn decide_replay<'a>(
+    h: Head,
+    lower: &'a [u32; 64],
+    gap: &'a [i32; 64],
+    upper: &'a [u32; 64],
+    draft: &'a [i32],
+    missing: u32,
+    e: EditRecord,
+    earlier: EditRecord,
+    standing: EditRecord,
+    old: i32,
+    place: u32,
+) -> Decision
+    ensures { λ r. ⌜ r ≡ replayDecision (replayOutcome h (now (lower .entry)) (now (gap .entry)) (now (upper .entry)) (now (draft .entry)) missing e earlier old) standing old place ⌝ }
+{
+    let outcome = replay_outcome(h, lower, gap, upper, draft, missing, e, earlier, old);
+    replay_decision(outcome, standing, old, place)
+}

@@ -1,0 +1,31 @@
+use Rattle.records.specs.Records.{keptAt, testOf}
+use Rattle.records.specs.declared.Test.the-variants.{UnsentOf}
+use mathlib.Core.Path.{sym, _∙_}
+use Rattle.protocol.proofs.Laws.{bit-zero, no-is}
+use Rattle.turns.proofs.Sends.{bit-some}
+use borrow.Author.Needs.{needs}
+use Rattle.turns.proofs.sent_record.Statement.{statement}
+use Rattle.turns.proofs.sent_record.Tie as tie
+use Rattle.turns.proofs.sent_record.Reads as reads
+use Rattle.turns.proofs.sent_record.Lts as lts
+use Rattle.records.proofs.satisfies.Reads as satisfies-reads
+
+satisfies-requires : tie.Need-satisfies-requires
+satisfies-requires c κs = search needs
+
+returns : tie.Need-returns
+returns c =
+    λ n.
+    let e = (c .before .before .args .e) in
+    let s = (c .before .before .args .s) in
+    rw (no-is (testOf (UnsentOf s) (keptAt n e)) (bit-zero (testOf (UnsentOf s) (keptAt n e)) (sym ((c .before .satisfies .ensures)) ∙ (c .if1 .taken))))
+
+returns-2 : tie.Need-returns-2
+returns-2 c =
+    λ n.
+    let e = (c .before .before .args .e) in
+    let s = (c .before .before .args .s) in
+    rw (bit-some (testOf (UnsentOf s) (keptAt n e)) (λ z. (c .if1 .left) ((c .before .satisfies .ensures) ∙ z)))
+
+pub sent-record-spec : {M : Type 1} → statement M
+sent-record-spec = tie.close (tie.spec satisfies-requires returns returns-2)

@@ -1,0 +1,160 @@
+// The checks of send, stop, confirm and install, the heads that they leave, and edits sent. Read only.
+ghost use mathlib.Core.Path.{_≡_};
+ghost use mathlib.Core.List.{map};
+ghost use Prim.Native.Nat.{ℕ};
+ghost use Rattle.protocol.specs.Calls.{stop, install, sent, first};
+ghost use Rattle.records.specs.Records.{keptAt, keptOf};
+ghost use Rattle.state.specs.Meets.{refusalOf};
+ghost use Rattle.turns.specs.Moves.{sendChecks, turnChecks, stopChecks, confirmChecks, installChecks, inMode, installHead};
+use heads::Head;
+use heads::Mode;
+use records::EditRecord;
+use records::Fate;
+use records::Test;
+
+// ---- checks
+
+// From whether the side's first log has arrived and how many edits it has unsent.
+pub fn send_refusal(h: Head, s: u32, arrived: bool, unsent: u32) -> u32
+    ensures { λ r. ⌜ r ≡ refusalOf (first (sendChecks h s arrived unsent)) ⌝ }
+{
+    let mode = h.mode;
+    if !heads::is_active(mode) {
+        return 31;
+    }
+    if !rows::one_to(heads::side_count(h), s) {
+        return 21;
+    }
+    if arrived {
+        if unsent == 0 {
+            return 33;
+        }
+        return 0;
+    }
+    0
+}
+
+// What stop and install share: the mode, then k if a side's flag is missing, then the edits that wait.
+fn turn_refusal(h: Head, m: u32, k: u32, missing: u32, waiting: u32) -> u32
+    ensures { λ r. ⌜ r ≡ refusalOf (first (turnChecks h m k missing waiting)) ⌝ }
+{
+    let mode = h.mode;
+    if heads::mode_number(mode) != m {
+        return 31;
+    }
+    if missing != 0 {
+        return k;
+    }
+    if waiting == 0 {
+        return 0;
+    }
+    37
+}
+
+// From how many sides' first logs are missing and how many edits wait.
+pub fn stop_refusal(h: Head, missing: u32, waiting: u32) -> u32
+    ensures { λ r. ⌜ r ≡ refusalOf (first (stopChecks h missing waiting)) ⌝ }
+{
+    turn_refusal(h, 3, 34, missing, waiting)
+}
+
+// From whether the side has confirmed and how many edits it has unsent.
+pub fn confirm_refusal(h: Head, s: u32, confirmed: bool, unsent: u32) -> u32
+    ensures { λ r. ⌜ r ≡ refusalOf (first (confirmChecks h s confirmed unsent)) ⌝ }
+{
+    let mode = h.mode;
+    if heads::mode_number(mode) != 4 {
+        return 31;
+    }
+    if !rows::one_to(heads::side_count(h), s) {
+        return 21;
+    }
+    if confirmed {
+        return 39;
+    }
+    if unsent == 0 {
+        return 0;
+    }
+    38
+}
+
+// From how many sides have not confirmed and how many edits wait.
+pub fn install_refusal(h: Head, missing: u32, waiting: u32) -> u32
+    ensures { λ r. ⌜ r ≡ refusalOf (first (installChecks h missing waiting)) ⌝ }
+{
+    turn_refusal(h, 4, 40, missing, waiting)
+}
+
+// ---- heads
+
+pub fn in_mode(h: Head, mode: Mode) -> Head
+    ensures { λ r. ⌜ r ≡ inMode h mode ⌝ }
+{
+    Head {
+        mode,
+        measures: h.measures,
+        rules: h.rules,
+        added: h.added,
+        kept: h.kept,
+        next: h.next,
+        mark: h.mark,
+        based: h.based,
+        drafted: h.drafted,
+    }
+}
+
+// The kept edits' numbers go on ending below the next number of now.
+pub fn install_head(h: Head) -> Head
+    ensures { λ r. ⌜ r ≡ installHead h ⌝ }
+{
+    let mode = Mode::Whole;
+    Head {
+        mode,
+        measures: h.drafted,
+        rules: h.rules,
+        added: h.added,
+        kept: h.kept,
+        next: h.next,
+        mark: h.next,
+        based: h.based,
+        drafted: h.drafted,
+    }
+}
+
+// ---- kept edits
+
+// An unsent edit of a side is sent.
+fn sent_record(e: EditRecord, s: u32) -> EditRecord
+    ensures { λ r. ⌜ ((n : ℕ) → keptAt n r ≡ sent s (keptAt n e)) ⌝ }
+{
+    if records::satisfies(e, Test::UnsentOf(s)) == 0 {
+        return e;
+    }
+    let change = e.change;
+    let fate = Fate::Waiting;
+    EditRecord {
+        change,
+        fate,
+        side: e.side,
+        client: e.client,
+        earlier: e.earlier,
+        measure: e.measure,
+        place: e.place,
+        replied: true,
+    }
+}
+
+pub fn mark_sent(edits: [EditRecord; 256], h: Head, s: u32) -> [EditRecord; 256]
+    ensures { λ r. ⌜ keptOf h r ≡ map (sent s) (keptOf h edits) ⌝ }
+{
+    let k = rows::capped(h.kept, 256);
+    let mut next = edits;
+    let mut i: usize = 0;
+    while i < k {
+        let e = next[i];
+        let d = sent_record(e, s);
+        next[i] = d;
+        i += 1;
+    }
+    next
+}
