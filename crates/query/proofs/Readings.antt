@@ -72,7 +72,7 @@ fate-some e k n es most h = by (placed e k n es)
 
 -- ---- left
 
-counts-length : (h : Head) (es : List EditRecord) (n : ℕ) → length (unsentCounts h es n) ≡ 8
+pub counts-length : (h : Head) (es : List EditRecord) (n : ℕ) → length (unsentCounts h es n) ≡ 8
 unfolding unsentCounts
 counts-length h es zero = refl
 counts-length h es (suc n) = length-set (unsentCounts h es n) n (unsentOf (suc n) (keptOf h es)) ∙ counts-length h es n

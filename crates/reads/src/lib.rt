@@ -2,10 +2,15 @@
 ghost use mathlib.Core.Path.{_≡_};
 ghost use Prim.Native.Nat.{_-_, min};
 ghost use Rattle.heads.specs.Heads.{keptIn};
+ghost use Rattle.records.specs.Records.{keptOf};
+ghost use lib.ListN.{length};
+ghost use Rattle.tally.specs.Tallies.{Counted};
 ghost use Rattle.reads.specs.Readings.{fateAnswer, showReading, readingOf};
-use state::Answer;
-use records::EditRecord;
 use heads::Head;
+use records::EditRecord;
+use records::Test;
+use state::Answer;
+use tally::Tallies;
 
 // An answer, and where the values stand that it gives besides: none but for a show that is accepted.
 pub struct Reading {
@@ -96,5 +101,19 @@ pub fn read<'a>(
         answer,
         from: 0,
         width: 0,
+    }
+}
+
+// The counts of kept edits, from the records.
+pub fn tallies(edits: [EditRecord; 256], h: Head) -> Tallies
+    ensures { λ r. ⌜ Counted r (keptOf h edits) × (length (r .unsent) ≡ 8) ⌝ }
+{
+    let unsent = figures::unsent_counts(edits, h);
+    let waiting = records::count(edits, h, Test::Waiting);
+    let settled = records::count(edits, h, Test::Settled);
+    Tallies {
+        unsent,
+        waiting,
+        settled,
     }
 }

@@ -1,0 +1,132 @@
+-- How a run goes on from line to line: the invariant of its loop, and its end. Assumes nothing.
+use Prim.Native.Nat.{ℕ, zero, suc, _+_, _-_, _<_, _≤_, min}
+use native.Mathlib.Omega.{arith}
+use native.Mathlib.Numerals.{add-one}
+use mathlib.Core.Path.{_≡_, refl, sym, ap, ap₂, _∙_}
+use mathlib.Core.Logic.{_≢_}
+use mathlib.Core.Bool.{Bool, true, false, cond}
+use mathlib.Core.List.{List, [], _∷_, _++_, append-nil, append-assoc}
+use borrow.Author.Tests.{lt-ltb, le-ltb, le-leb, leb-true, leb-false}
+use borrow.Rule.Slice.PartMut.{putMid}
+use lib.Dec.{leb, ltb}
+use lib.ListN.{length, take, drop, length-append, length-take, length-drop, drop-of-length-le, take-append-drop}
+use lib.Seq.{drop-cons, drop-drop, take-all, take-at, drop-at}
+use Rattle.protocol.specs.Plan.{Plan}
+use Rattle.protocol.proofs.Laws.{cases}
+use Rattle.format.specs.Lines.{lineFeed, lines}
+use Rattle.format.specs.Sheets.{text, turn, inFront}
+use Rattle.reader.specs.Cut.{upTo}
+use Rattle.reader.proofs.Cuts.{take-upTo, upTo-length, lines-cut}
+use Rattle.state.specs.declared.State.{State}
+use Rattle.state.specs.View.{view}
+use Rattle.records.specs.Records.{keptOf}
+use Rattle.state.proofs.Views.{Sized}
+use Rattle.tally.specs.declared.Tallies.{Tallies}
+use Rattle.tally.specs.Tallies.{Counted}
+use Rattle.progress.specs.declared.Progress.{Progress}
+use Rattle.progress.specs.Progress.{Ran, behindRan, ran, Advanced}
+
+-- the loop's invariant: the answers written so far, and what is still to come of the whole run
+pub record Going (reserve : ℕ) (sheet : List ℕ) (from : ℕ) (lent : List ℕ) (start : State) (area : List ℕ) (p : State) (t : Tallies) (at i : ℕ) : Type 0 where
+  pub sized : Sized p
+  pub long : length (t .unsent) ≡ 8
+  pub counted : Counted t (keptOf (p .head) (p .edits))
+  pub same : length area ≡ length lent
+  pub most : at ≤ length lent
+  pub rest : drop at area ≡ drop at lent
+  pub course : ran reserve (length lent) (view start) (lines (drop from sheet)) ≡ behindRan (take at area) (ran reserve (length lent - at) (view p) (lines (drop i sheet)))
+
+behind-two : (xs ys : List ℕ) (r : Ran) → behindRan xs (behindRan ys r) ≡ behindRan (xs ++ ys) r
+behind-two xs ys r = ap (λ bs. record { bytes = bs; rest = r .rest; plan = r .plan; ended = r .ended }) (sym (append-assoc xs ys (r .bytes)))
+
+-- ---- the end
+
+module _ (reserve : ℕ) (sheet : List ℕ) (from : ℕ) (lent : List ℕ) (start : State) (area : List ℕ) (p : State) (t : Tallies) (at i : ℕ) (g : Going reserve sheet from lent start area p t at i) where
+  -- a run of which the rest is known, and writes nothing more
+  ends : (q : State) (next : ℕ) (e : Bool) → ran reserve (length lent - at) (view p) (lines (drop i sheet)) ≡ record { bytes = []; rest = lines (drop next sheet); plan = view q; ended = e }
+      → Advanced reserve sheet from start lent (record { state = q; next = next; written = at; ended = e }) area
+  ends q next e h =
+      let c : ran reserve (length lent) (view start) (lines (drop from sheet)) ≡ behindRan (take at area) (record { bytes = []; rest = lines (drop next sheet); plan = view q; ended = e }) = g .course ∙ ap (behindRan (take at area)) h in
+      let front : ran reserve (length lent) (view start) (lines (drop from sheet)) .bytes ≡ take at area = ap (λ r. r .bytes) c ∙ append-nil (take at area) in
+      let n : length (take at area) ≡ at = (let l = length-take at area in let s = g .same in let m = g .most in omega arith) in
+      record {
+        plan = sym (ap (λ r. r .plan) c);
+        rest = sym (ap (λ r. r .rest) c);
+        written = sym (ap length front ∙ n);
+        ended = sym (ap (λ r. r .ended) c);
+        buffer = sym (ap (λ bs. inFront bs lent) front ∙ ap (λ k. take at area ++ drop k lent) n ∙ ap (λ xs. take at area ++ xs) (sym (g .rest)) ∙ take-append-drop at area);
+      }
+
+  pub over : length sheet ≤ i → Advanced reserve sheet from start lent (record { state = p; next = i; written = at; ended = false }) area
+  unfolding ran lines
+  over h = ends p i false (rw (drop-of-length-le sheet {i = i} h))
+
+  -- the line at hand
+  abbrev line : List ℕ
+  line = upTo lineFeed (drop i sheet)
+
+  abbrev end : ℕ
+  end = i + length line
+
+  cut : i < length sheet → lines (drop i sheet) ≡ line ∷ lines (drop (end + 1) sheet)
+  cut h = by (drop i sheet) (drop-cons sheet i 0 h) ∙ ap (λ xs. line ∷ lines xs) (drop-drop (suc (length line)) i sheet ∙ (let e : i + suc (length line) ≡ end + 1 = omega arith in ap (λ k. drop k sheet) e))
+    where
+      by : {x : ℕ} {xs : List ℕ} (ys : List ℕ) → ys ≡ x ∷ xs → lines ys ≡ upTo lineFeed ys ∷ lines (drop (suc (length (upTo lineFeed ys))) ys)
+      by {x} {xs} ys e = rw e (lines-cut x xs)
+
+  pub paused : i < length sheet → length lent - at < reserve → Advanced reserve sheet from start lent (record { state = p; next = i; written = at; ended = false }) area
+  unfolding ran
+  paused h r = ends p i false (rw (cut h) (rw (lt-ltb (length lent - at) reserve r)))
+
+  -- a line made: the plan after it and its answer's bytes are the definition's
+  module _ (h : i < length sheet) (r : reserve ≤ length lent - at) (q : State) (t′ : Tallies) (bytes : List ℕ) (b : bytes ≡ text (turn line (view p) .answer)) (v : view q ≡ turn line (view p) .plan) where
+    room : length (drop at area) ≡ length lent - at
+    room = length-drop at area ∙ ap (λ n. n - at) (g .same)
+
+    goes-on : leb (length bytes) (length lent - at) ≡ true → ran reserve (length lent - at) (view p) (lines (drop i sheet)) ≡ behindRan bytes (ran reserve (length lent - at - length bytes) (view q) (lines (drop (end + 1) sheet)))
+    unfolding ran
+    goes-on f = rw (cut h) (rw (le-ltb (length lent - at) reserve r, ← b, f, ← v))
+
+    pub unfit : leb (length bytes) (length (drop at area)) ≡ false → Advanced reserve sheet from start lent (record { state = q; next = end + 1; written = at; ended = true }) area
+    unfolding ran
+    unfit f =
+        let n : leb (length bytes) (length lent - at) ≡ false = ap (leb (length bytes)) (sym room) ∙ f in
+        ends q (end + 1) true (rw (cut h) (rw (le-ltb (length lent - at) reserve r, ← b, n, ← v)))
+
+    pub next-line : leb (length bytes) (length (drop at area)) ≡ true → Sized q → length (t′ .unsent) ≡ 8 → Counted t′ (keptOf (q .head) (q .edits))
+        → Going reserve sheet from lent start (take at area ++ inFront bytes (drop at area)) q t′ (at + length bytes) (end + 1)
+    next-line f z l k =
+        let w = leb-true (length bytes) (length (drop at area)) f in
+        let n : length (take at area) ≡ at = (let x = length-take at area in let s = g .same in let m = g .most in omega arith) in
+        let whole : length (take at area ++ inFront bytes (drop at area)) ≡ length lent =
+        (let x = length-append (take at area) (inFront bytes (drop at area)) in let y = length-append bytes (drop (length bytes) (drop at area)) in let d = length-drop (length bytes) (drop at area) in let s = room in let m = g .most in omega arith) in
+        let two : take at area ++ inFront bytes (drop at area) ≡ (take at area ++ bytes) ++ drop (length bytes) (drop at area) = sym (append-assoc (take at area) bytes (drop (length bytes) (drop at area))) in
+        let long : length (take at area ++ bytes) ≡ at + length bytes = length-append (take at area) bytes ∙ ap (λ j. j + length bytes) n in
+        let e : length lent - at - length bytes ≡ length lent - (at + length bytes) = omega arith in
+        record {
+          sized = z;
+          long = l;
+          counted = k;
+          same = whole;
+          most = (let s = room in let m = g .most in omega arith);
+          rest = ap (drop (at + length bytes)) two ∙ drop-at (take at area ++ bytes) (drop (length bytes) (drop at area)) (at + length bytes) long ∙ ap (drop (length bytes)) (g .rest) ∙ drop-drop (length bytes) at lent;
+          course = g .course
+              ∙ ap (behindRan (take at area)) (goes-on (ap (leb (length bytes)) (sym room) ∙ f) ∙ ap (λ j. behindRan bytes (ran reserve j (view q) (lines (drop (end + 1) sheet)))) e)
+              ∙ behind-two (take at area) bytes (ran reserve (length lent - (at + length bytes)) (view q) (lines (drop (end + 1) sheet)))
+              ∙ ap (λ xs. behindRan xs (ran reserve (length lent - (at + length bytes)) (view q) (lines (drop (end + 1) sheet)))) (sym (ap (take (at + length bytes)) two ∙ take-at (take at area ++ bytes) (drop (length bytes) (drop at area)) (at + length bytes) long));
+        }
+
+-- ---- the beginning
+
+pub begins : (reserve : ℕ) (sheet : List ℕ) (from : ℕ) (lent : List ℕ) (p : State) (t : Tallies) → Sized p → length (t .unsent) ≡ 8 → Counted t (keptOf (p .head) (p .edits)) → Going reserve sheet from lent p lent p t 0 from
+begins reserve sheet from lent p t z l k = record { sized = z; long = l; counted = k; same = refl; most = omega arith; rest = refl; course = (let e : length lent ≡ length lent - 0 = omega arith in ap (λ n. ran reserve n (view p) (lines (drop from sheet))) e) }
+
+-- ---- an area of which the rest was lent
+
+pub lent-rest : (at : ℕ) (xs : List ℕ) → take (length xs - at) (drop at xs) ≡ drop at xs
+lent-rest at xs = take-all (length xs - at) (drop at xs) (let e = length-drop at xs in omega arith)
+
+pub put-back : (at : ℕ) (xs ys : List ℕ) → putMid at (length xs - at) xs ys ≡ take at xs ++ ys
+put-back at xs ys =
+    let e : drop (length xs - at) (drop at xs) ≡ [] = drop-of-length-le (drop at xs) {i = length xs - at} (let d = length-drop at xs in omega arith) in
+    rw (e, append-nil)

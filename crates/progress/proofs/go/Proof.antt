@@ -1,0 +1,693 @@
+use Prim.Native.Nat.{ℕ, _+_, _*_, _-_, _<_, _≤_, min}
+use native.Mathlib.Omega.{arith}
+use mathlib.Core.Path.{_≡_, refl, sym, ap, ap₂, _∙_, subst}
+use mathlib.Core.Logic.{_⊎_, inl, inr}
+use mathlib.Core.Bool.{Bool, true, false, cond}
+use mathlib.Core.List.{List, [], _∷_, _++_}
+use mathlib.Core.Option.{Option, none, some}
+use borrow.Author.Needs.{needs}
+use borrow.Author.Tests.{leb-true}
+use borrow.Rule.Slice.PartMut.{putMid}
+use lib.Dec.{eqb, leb}
+use lib.IntN.{ℤ, pos}
+use lib.ListN.{length, getD, set, take, drop, length-set, length-drop, take-append-drop}
+use mir.Syntax.{w32, w64}
+use mir.Val.{toZ, ofZ, Fits}
+use mir.Facts.{toZ-ofZ, fits-below, fits-le}
+use Rattle.exact.proofs.Ints.{fits32}
+use Rattle.protocol.specs.Lists.{natural, count}
+use Rattle.protocol.specs.Plan.{is, whole, isSettled}
+use Rattle.protocol.specs.Calls.{Call, edit, replay}
+use Rattle.protocol.proofs.Laws.{on}
+use Rattle.format.specs.Lines.{lineFeed, lineCall}
+use Rattle.rows.specs.Rows.{row}
+use Rattle.state.specs.declared.State.{State}
+use Rattle.state.specs.declared.Answer.{Answer}
+use Rattle.state.specs.View.{view}
+use Rattle.heads.specs.Heads.{modeOf, endIn, keptIn}
+use Rattle.records.specs.Records.{keptOf, noRecord}
+use Rattle.heads.specs.Heads.{positionOf, placeOf}
+use Rattle.records.specs.Records.{recordOf}
+use Rattle.state.specs.Parts.{namedIn}
+use Rattle.state.specs.Meets.{Meets, answerOf}
+use Rattle.format.specs.Sheets.{text, turn, stepOf, inFront}
+use Rattle.writer.specs.Writes.{withRow, lineOf}
+use Rattle.state.proofs.Views.{Sized, owned-sized, unmapped}
+use Rattle.ruling.specs.declared.Decision.{Decision}
+use Rattle.ruling.specs.Edits.{editRuling, editDecision, spotOf, slotOf, editIn, stored}
+use Rattle.edit.proofs.Edits.{edit-meets}
+use Rattle.settling.specs.Replays.{replayOutcome, replayDecision, pointOf, slotIn, replayIn}
+use Rattle.settling.specs.Replays as replaying
+use Rattle.settling.specs.declared.Decision as replaying-decision
+use Rattle.replay.proofs.Replays.{replay-meets}
+use Rattle.reads.specs.Readings.{readCall, readingOf}
+use Rattle.reads.proofs.Right.{readingIn, placeIn, reading-right, reading-bounds}
+use Rattle.reader.specs.Cut.{upTo}
+use Rattle.reader.specs.Reads.{lineIn}
+use Rattle.reader.proofs.Cuts.{take-upTo, upTo-length}
+use Rattle.tally.specs.declared.Tallies.{Tallies}
+use Rattle.tally.specs.Tallies.{Counted, tallyAfter}
+use Rattle.tally.proofs.Counts.{tallied-long}
+use Rattle.progress.specs.Progress.{movedOp, Advanced}
+use Rattle.progress.proofs.Running.{Going, over, paused, unfit, next-line, begins, lent-rest, put-back}
+use Rattle.progress.proofs.Turning.{line-edit, line-replay, line-reads, line-rare, settled-few, Made, meets-made, performs-made, counted-made, kept-most, text-some, fitted-put, unfitted-put}
+use Rattle.progress.proofs.Rows.{lent-row}
+use Rattle.progress.proofs.go.Statement.{statement}
+use Rattle.progress.proofs.go.Tie as tie
+use Rattle.progress.proofs.go.Reads as reads
+use Rattle.progress.proofs.go.Lts as lts
+use Rattle.dispatch.proofs.perform.Reads as perform-reads
+use Rattle.edit.proofs.spot.Reads as spot-reads
+use Rattle.exact.proofs.number.Reads as number-reads
+use Rattle.heads.proofs.mode_number.Reads as mode-number-reads
+use Rattle.heads.proofs.place.Reads as place-reads
+use Rattle.heads.proofs.position.Reads as position-reads
+use Rattle.heads.proofs.unset.Reads as unset-reads
+use Rattle.reader.proofs.line_end.Reads as line-end-reads
+use Rattle.reader.proofs.read_line.Reads as read-line-reads
+use Rattle.reads.proofs.read.Reads as read-reads
+use Rattle.records.proofs.found.Reads as found-reads
+use Rattle.replay.proofs.point.Reads as point-reads
+use Rattle.rows.proofs.capped.Reads as capped-reads
+use Rattle.ruling.proofs.decide_edit.Reads as decide-edit-reads
+use Rattle.settling.proofs.decide_replay.Reads as decide-replay-reads
+use Rattle.progress.proofs.moved_op.Reads as moved-op-reads
+use Rattle.progress.proofs.only_reads.Reads as only-reads-reads
+use Rattle.tally.proofs.tallied.Reads as tallied-reads
+use Rattle.writer.proofs.put.Reads as put-reads
+
+abbrev Inv-loop : tie.InvT-loop
+Inv-loop reserve sheet from area₀ p₀ t₀ at₀ i₀ area p t at i = Going reserve sheet from area₀ p₀ area p t at i
+
+abbrev μ-loop : tie.MeasureT-loop
+μ-loop reserve sheet from area₀ p₀ t₀ at₀ i₀ area p t at i = length sheet - i
+
+le-same : {a b n : ℕ} → a ≤ b → n ≡ b → a ≤ n
+le-same h e = omega (arith, h, e)
+
+le-sum : {a b : ℕ} → a ≤ 224 → b ≤ 32 → a + b ≤ 256
+le-sum h k = omega (arith, h, k)
+
+le-four : {a : ℕ} → a ≤ 224 → a * 4 ≤ 896
+le-four h = omega (arith, h)
+
+le-more : (a b : ℕ) → a ≤ a + b
+le-more a b = omega arith
+
+le-self : (a : ℕ) → a ≤ a
+le-self a = omega arith
+
+put-most : (at n bytes rest area lent : ℕ) → n ≡ bytes → leb bytes rest ≡ true → rest ≡ area - at → area ≡ lent → at ≤ lent → at + n ≤ lent
+put-most at n bytes rest area lent e f g h k = let w = leb-true bytes rest f in omega (arith, e, g, h, k, w)
+
+moved : {reserve : ℕ} {sheet : List ℕ} {from : ℕ} {lent : List ℕ} {start : State} {area area′ : List ℕ} {p : State} {t : Tallies} {at at′ i i′ : ℕ} → area ≡ area′ → at ≡ at′ → i ≡ i′
+    → Going reserve sheet from lent start area′ p t at′ i′ → Going reserve sheet from lent start area p t at i
+moved e g h k = rw (e, g, h) k
+
+ended-at : {reserve : ℕ} {sheet : List ℕ} {from : ℕ} {lent : List ℕ} {start q : State} {area area′ : List ℕ} {n n′ w : ℕ} → area ≡ area′ → n ≡ n′
+    → Advanced reserve sheet from start lent (record { state = q; next = n′; written = w; ended = true }) area′ → Advanced reserve sheet from start lent (record { state = q; next = n; written = w; ended = true }) area
+ended-at e h k = rw (e, h) k
+
+-- a state that an arm left, with no values besides its answer
+at-rest : {l : Option Call} {p q q′ : State} {a a′ : Answer} {f w : ℕ} → q ≡ q′ → a ≡ a′ → f ≡ 0 → w ≡ 0 → Made l p q′ a′ [] → Sized q′ → (Made l p q a (row (q .values) f w)) × Sized q × (f ≤ 224) × (w ≤ 32)
+at-rest e g h k m z = rw (e, g, h, k) (m, z, omega arith, omega arith)
+
+at-reading : {l : Option Call} {p q : State} {a a′ : Answer} {f f′ w w′ : ℕ} → q ≡ p → a ≡ a′ → f ≡ f′ → w ≡ w′ → Made l p p a′ (row (p .values) f′ w′) → Sized p → f′ ≤ 224 → w′ ≤ 32 → (Made l p q a (row (q .values) f w)) × Sized q × (f ≤ 224) × (w ≤ 32)
+at-reading e g h k m z x y = rw (e, g, h, k) (m, z, x, y)
+
+edit-sized : (p : State) (spot slot : ℕ) (d : Decision) → Sized p → Sized (stored p spot slot d)
+edit-sized p spot slot d z = record { base = z .base; draft = z .draft; values = length-set (p .values) spot (d .value) ∙ z .values; arrived = z .arrived; confirmed = z .confirmed; lower = z .lower; gap = z .gap; upper = z .upper; firm = z .firm; edits = length-set (p .edits) slot (d .entry) ∙ z .edits }
+
+replay-sized : (p : State) (point slot : ℕ) (d : replaying-decision.Decision) → Sized p → Sized (replaying.stored p point slot d)
+replay-sized p point slot d z = record { base = z .base; draft = length-set (p .draft) point (d .amount) ∙ z .draft; values = z .values; arrived = z .arrived; confirmed = z .confirmed; lower = z .lower; gap = z .gap; upper = z .upper; firm = z .firm; edits = length-set (p .edits) slot (d .entry) ∙ z .edits }
+
+counts-long : (c : tie.Start Inv-loop μ-loop) → length ((c .args .counts .unsent)) ≡ 8
+counts-long c = let g = (c .good) in search needs
+
+lent-fits : (c : tie.After-slice-known Inv-loop μ-loop) → Fits w64 (length ((c .before .before .args .area .now)))
+lent-fits c = search needs
+
+-- the line at hand
+abbrev line : tie.After-line-end Inv-loop μ-loop → List ℕ
+line c = upTo lineFeed (drop ((c .before .before .before .loop .i)) ((c .before .before .before .before .before .before .args .sheet .now)))
+
+end-is : (c : tie.After-line-end Inv-loop μ-loop) → (c .line-end .result) ≡ (c .before .before .before .loop .i) + length (line c)
+end-is c = (c .line-end .ensures) ∙ (let h = (c .before .before .loop-test .taken) in let e : min ((c .before .before .before .loop .i)) (length ((c .before .before .before .before .before .before .args .sheet .now))) ≡ (c .before .before .before .loop .i) = omega (arith, h) in ap (λ n. n + length (line c)) e)
+
+end-most : (c : tie.After-line-end Inv-loop μ-loop) → (c .line-end .result) ≤ length ((c .before .before .before .before .before .before .args .sheet .now))
+end-most c = let e = end-is c in let h = (c .before .before .loop-test .taken) in let u = upTo-length lineFeed (drop ((c .before .before .before .loop .i)) ((c .before .before .before .before .before .before .args .sheet .now))) in let d = length-drop ((c .before .before .before .loop .i)) ((c .before .before .before .before .before .before .args .sheet .now)) in omega (arith, e, h, u, d)
+
+i-end : (c : tie.After-line-end Inv-loop μ-loop) → (c .before .before .before .loop .i) ≤ (c .line-end .result)
+i-end c = let e = end-is c in omega (arith, e)
+
+end-fits : (c : tie.After-line-end Inv-loop μ-loop) → Fits w64 ((c .line-end .result) + 1)
+end-fits c = let e = end-most c in omega arith
+
+nearer : (c : tie.After-line-end Inv-loop μ-loop) → length ((c .before .before .before .before .before .before .args .sheet .now)) - ((c .line-end .result) + 1) < length ((c .before .before .before .before .before .before .args .sheet .now)) - (c .before .before .before .loop .i)
+nearer c = let e = end-is c in let h = (c .before .before .loop-test .taken) in omega (arith, e, h)
+
+call-is : (c : tie.After-struct-told Inv-loop μ-loop) → lineIn ((c .before .read-line .result)) ≡ lineCall (line (c .before .before .before))
+call-is c =
+    let i = (c .before .before .before .before .before .before .loop .i) in
+    let bs = (c .before .before .before .before .before .before .before .before .before .args .sheet .now) in
+    let n : (c .before .before .before .line-end .result) - i ≡ length (line (c .before .before .before)) = (let e = end-is (c .before .before .before) in omega (arith, e)) in
+    (c .before .read-line .ensures) ∙ ap lineCall (ap (λ k. take k (drop i bs)) n ∙ take-upTo lineFeed (drop i bs))
+
+-- ---- an edit
+
+edit-arm : (c : tie.After-entry Inv-loop μ-loop) → let p = (c .before .before .before .before .before .before .before .before .before .before .before .before .before .before .before .before .before .before .before .before .before .before .before .before .before .before .before .before .before .before .before .before .before .before .before .before .before .before .loop .p) in let d = (c .before .before .before .decide-edit .result) in
+    let q = stored p ((c .before .before .before .before .before .before .before .before .before .before .before .before .before .before .before .before .before .before .before .before .spot .result)) ((c .before .before .before .before .before .before .before .before .before .before .before .before .before .before .before .before .before .before .before .capped .result)) (record { head = d .head; value = toZ w32 (ofZ w32 (d .value)); entry = d .entry; answer = d .answer }) in
+    Made (lineIn ((c .before .before .before .before .before .before .before .before .before .before .before .before .before .before .before .before .before .before .before .before .before .before .before .before .before .before .before .before .before .before .before .before .before .read-line .result))) p q (d .answer) [] × Sized q
+edit-arm c =
+    let p = (c .before .before .before .before .before .before .before .before .before .before .before .before .before .before .before .before .before .before .before .before .before .before .before .before .before .before .before .before .before .before .before .before .before .before .before .before .before .before .loop .p) in
+    let l = (c .before .before .before .before .before .before .before .before .before .before .before .before .before .before .before .before .before .before .before .before .before .before .before .before .before .before .before .before .before .before .before .before .before .read-line .result) in
+    let t = (c .before .before .before .before .before .before .before .before .before .before .before .before .before .before .before .before .before .before .before .before .before .before .before .before .before .before .before .before .before .before .before .before .struct-told .given) in
+    let a = toZ-ofZ (fits32 (l .a) (t .1 .0 .1)) in
+    let client = toZ-ofZ (fits32 (l .b) (t .1 .1 .0 .1)) in
+    let after = toZ-ofZ (fits32 (l .c) (t .1 .1 .1 .0 .1)) in
+    let constant = toZ-ofZ (fits32 (l .f) (t .1 .1 .1 .1 .1 .1 .0 .1)) in
+    let number = (c .before .before .before .before .before .before .before .before .before .before .before .before .before .before .before .before .before .before .before .before .before .before .before .before .before .before .number2 .ensures) ∙ ap natural after in
+    let position = (c .before .before .before .before .before .before .before .before .before .before .before .before .before .before .before .before .before .before .before .before .before .before .before .before .before .position .ensures .0) ∙ ap (positionOf (endIn (p .head)) (keptIn (p .head))) number in
+    let seat = (c .before .before .before .before .before .before .before .before .before .before .before .before .before .before .before .before .before .before .before .before .before .before .before .before .place .ensures .0) ∙ ap placeOf position in
+    let named : (c .before .before .before .before .before .before .before .before .before .found .result) ≡ namedIn p (natural (l .c)) = (c .before .before .before .before .before .before .before .before .before .found .ensures) ∙ (λ j. recordOf (position j) (getD (p .edits) (seat j) noRecord)) in
+    let side = (c .before .before .before .before .before .before .before .before .before .before .before .before .before .before .before .before .before .before .before .before .before .before .before .before .before .before .before .before .before .before .before .number .ensures) ∙ ap natural a in
+    let measure = (c .before .before .before .before .before .before .before .before .before .before .before .before .before .before .before .before .before .before .before .before .before .number3 .ensures) ∙ ap natural (toZ-ofZ (fits32 (l .d) (t .1 .1 .1 .1 .0 .1))) in
+    let kind = (c .before .before .before .before .before .before .before .number4 .ensures) ∙ ap natural (toZ-ofZ (fits32 (l .e) (t .1 .1 .1 .1 .1 .0 .1))) in
+    let spot = (c .before .before .before .before .before .before .before .before .before .before .before .before .before .before .before .before .before .before .before .before .spot .ensures .0) ∙ (λ j. spotOf (side j) (measure j)) in
+    let slot = (c .before .before .before .before .before .before .before .before .before .before .before .before .before .before .before .before .before .before .before .capped .ensures) in
+    let old = toZ-ofZ (fits32 (getD (p .values) ((c .before .before .before .before .before .before .before .before .before .before .before .before .before .before .before .before .before .before .before .before .spot .result)) (pos 0)) ((c .before .before .before .before .before .before .before .before .before .before .before .before .before .before .before .before .before .before .old .given))) ∙ ap (λ j. getD (p .values) j (pos 0)) spot in
+    let standing = ap (λ j. getD (p .edits) j noRecord) slot in
+    let d = (c .before .before .before .decide-edit .result) in
+    let e : d ≡ editIn p (natural (l .a)) (l .b) (l .c) (natural (l .d)) (natural (l .e)) (l .f) =
+    (c .before .before .before .decide-edit .ensures)
+    ∙ (λ j. editDecision (p .head) (editRuling (p .head) (p .lower) (p .gap) (p .upper) (p .firm) (p .values) (named j) (side j) (client j) (after j) (measure j) (kind j) (constant j)) (old j) (standing j) (side j) (natural (client j)) (natural (after j)) (measure j))
+    in
+    let value = toZ-ofZ (fits32 (d .value) ((c .before .struct-told8 .given .1 .0 .1))) in
+    (rw (line-edit l ((c .before .before .before .before .before .before .before .before .before .before .before .before .before .before .before .before .before .before .before .before .before .before .before .before .before .before .before .before .if2 .taken))) (meets-made _ p _ (rw (value, spot, slot, e) (edit-meets p ((c .before .before .before .before .before .before .before .before .before .before .before .before .before .before .before .before .before .before .before .before .before .before .before .before .before .before .before .before .before .before .before .before .before .before .before .before .before .before .loop .inv .sized)) (l .a) (l .b) (l .c) (l .d) (l .e) (l .f)))), edit-sized p ((c .before .before .before .before .before .before .before .before .before .before .before .before .before .before .before .before .before .before .before .before .spot .result)) ((c .before .before .before .before .before .before .before .before .before .before .before .before .before .before .before .before .before .before .before .capped .result)) (record { head = d .head; value = toZ w32 (ofZ w32 (d .value)); entry = d .entry; answer = d .answer }) ((c .before .before .before .before .before .before .before .before .before .before .before .before .before .before .before .before .before .before .before .before .before .before .before .before .before .before .before .before .before .before .before .before .before .before .before .before .before .before .loop .inv .sized)))
+
+-- ---- a replay
+
+replay-arm : (c : tie.After-entry2 Inv-loop μ-loop) → let p = (c .before .before .before .before .before .before .before .before .before .before .before .before .before .before .before .before .before .before .before .before .before .before .before .before .before .before .before .before .before .before .before .before .before .before .loop .p) in let d = (c .before .before .decide-replay .result) in
+    let q = replaying.stored p ((c .before .before .before .before .before .before .before .before .before .before .point .result)) ((c .before .before .before .before .before .before .before .before .before .before .before .before .before .before .before .before .before .before .before .before .before .place2 .result)) (record { amount = toZ w32 (ofZ w32 (d .amount)); entry = d .entry; answer = d .answer }) in
+    Made (lineIn ((c .before .before .before .before .before .before .before .before .before .before .before .before .before .before .before .before .before .before .before .before .before .before .before .before .before .before .before .before .before .read-line .result))) p q (d .answer) [] × Sized q
+replay-arm c =
+    let p = (c .before .before .before .before .before .before .before .before .before .before .before .before .before .before .before .before .before .before .before .before .before .before .before .before .before .before .before .before .before .before .before .before .before .before .loop .p) in
+    let l = (c .before .before .before .before .before .before .before .before .before .before .before .before .before .before .before .before .before .before .before .before .before .before .before .before .before .before .before .before .before .read-line .result) in
+    let number = (c .before .before .before .before .before .before .before .before .before .before .before .before .before .before .before .before .before .before .before .before .before .before .before .before .before .before .before .number .ensures) ∙ ap natural (toZ-ofZ (fits32 (l .a) ((c .before .before .before .before .before .before .before .before .before .before .before .before .before .before .before .before .before .before .before .before .before .before .before .before .before .before .before .before .struct-told .given .1 .0 .1)))) in
+    let position = (c .before .before .before .before .before .before .before .before .before .before .before .before .before .before .before .before .before .before .before .before .before .before .position2 .ensures .0) ∙ ap (positionOf (endIn (p .head)) (keptIn (p .head))) number in
+    let slot = (c .before .before .before .before .before .before .before .before .before .before .before .before .before .before .before .before .before .before .before .before .before .place2 .ensures .0) ∙ ap placeOf position in
+    let e : (c .before .before .before .before .before .before .before .before .before .before .before .before .before .before .before .before .before .before .before .found2 .result) ≡ namedIn p (natural (l .a)) = (c .before .before .before .before .before .before .before .before .before .before .before .before .before .before .before .before .before .before .before .found2 .ensures) ∙ (λ j. recordOf (position j) (getD (p .edits) (slot j) noRecord)) in
+    let position2 = (c .before .before .before .before .before .before .before .before .before .before .before .before .before .before .before .before .before .before .position3 .ensures .0) ∙ ap (λ r. positionOf (endIn (p .head)) (keptIn (p .head)) (r .earlier)) e in
+    let seat = (c .before .before .before .before .before .before .before .before .before .before .before .before .before .before .before .before .before .place3 .ensures .0) ∙ ap placeOf position2 in
+    let earlier : (c .before .before .before .before .before .before .before .before .before .before .before .before .before .before .before .found3 .result) ≡ namedIn p (namedIn p (natural (l .a)) .earlier) = (c .before .before .before .before .before .before .before .before .before .before .before .before .before .before .before .found3 .ensures) ∙ (λ j. recordOf (position2 j) (getD (p .edits) (seat j) noRecord)) in
+    let missing = (c .before .before .before .before .before .before .before .before .before .before .before .before .unset .ensures .0) in
+    let settled : (c .before .before .before .before .before .before .before .before .before .before .before .capped2 .result) ≡ count isSettled (keptOf (p .head) (p .edits)) = (c .before .before .before .before .before .before .before .before .before .before .before .capped2 .ensures) ∙ settled-few p ((c .before .before .before .before .before .before .before .before .before .before .before .before .before .before .before .before .before .before .before .before .before .before .before .before .before .before .before .before .before .before .before .before .before .before .loop .t)) ((c .before .before .before .before .before .before .before .before .before .before .before .before .before .before .before .before .before .before .before .before .before .before .before .before .before .before .before .before .before .before .before .before .before .before .loop .inv .counted)) in
+    let place = ap (λ k. k + 1) settled in
+    let point = (c .before .before .before .before .before .before .before .before .before .before .point .ensures .0) ∙ ap (λ r. pointOf (r .measure)) e in
+    let old = toZ-ofZ (fits32 (getD (p .draft) ((c .before .before .before .before .before .before .before .before .before .before .point .result)) (pos 0)) ((c .before .before .before .before .before .before .before .before .before .old2 .given))) ∙ ap (λ j. getD (p .draft) j (pos 0)) point in
+    let d = (c .before .before .decide-replay .result) in
+    let same : d ≡ replayIn p (natural (l .a)) =
+    (c .before .before .decide-replay .ensures)
+    ∙ (λ j. replayDecision (replayOutcome (p .head) (p .lower) (p .gap) (p .upper) (p .draft) (missing j) (e j) (earlier j) (old j)) (getD (p .edits) (slot j) noRecord) (old j) (place j))
+    in
+    let amount = toZ-ofZ (fits32 (d .amount) ((c .before .struct-told9 .given .0 .1))) in
+    (rw (line-replay l ((c .before .before .before .before .before .before .before .before .before .before .before .before .before .before .before .before .before .before .before .before .before .before .before .if3 .taken))) (meets-made _ p _ (rw (amount, point, slot, same) (replay-meets p ((c .before .before .before .before .before .before .before .before .before .before .before .before .before .before .before .before .before .before .before .before .before .before .before .before .before .before .before .before .before .before .before .before .before .before .loop .inv .sized)) (l .a)))), replay-sized p ((c .before .before .before .before .before .before .before .before .before .before .point .result)) ((c .before .before .before .before .before .before .before .before .before .before .before .before .before .before .before .before .before .before .before .before .before .place2 .result)) (record { amount = toZ w32 (ofZ w32 (d .amount)); entry = d .entry; answer = d .answer }) ((c .before .before .before .before .before .before .before .before .before .before .before .before .before .before .before .before .before .before .before .before .before .before .before .before .before .before .before .before .before .before .before .before .before .before .loop .inv .sized)))
+
+-- ---- a call that only reads
+
+read-is : (c : tie.After-read Inv-loop μ-loop) → (c .read .result) ≡ readingIn ((c .before .before .before .before .before .before .before .before .before .before .before .before .before .before .before .before .before .before .before .before .before .before .loop .p)) ((c .before .before .before .before .before .before .before .before .before .before .before .before .before .before .before .before .before .before .before .before .before .before .loop .t)) ((c .before .before .before .before .before .before .before .before .before .before .before .before .before .before .before .before .before .before .before .before .before .before .loop .inv .counted)) ((c .before .before .before .before .before .before .before .before .before .before .before .before .before .before .before .before .before .read-line .result .op)) ((c .before .before .before .before .before .before .before .before .before .before .before .before .before .before .before .before .before .read-line .result .a))
+read-is c =
+    let p = (c .before .before .before .before .before .before .before .before .before .before .before .before .before .before .before .before .before .before .before .before .before .before .loop .p) in
+    let t = (c .before .before .before .before .before .before .before .before .before .before .before .before .before .before .before .before .before .before .before .before .before .before .loop .t) in
+    let l = (c .before .before .before .before .before .before .before .before .before .before .before .before .before .before .before .before .before .read-line .result) in
+    let a = toZ-ofZ (fits32 (l .a) ((c .before .before .before .before .before .before .before .before .before .before .before .before .before .before .before .before .struct-told .given .1 .0 .1))) in
+    let position = (c .before .before .before .before .before .before .before .before .position4 .ensures .0) ∙ ap (positionOf (endIn (p .head)) (keptIn (p .head))) ((c .before .before .before .before .before .before .before .before .before .before .before .before .before .before .before .number .ensures) ∙ ap natural a) in
+    let seat = (c .before .before .before .before .before .before .before .place4 .ensures .0) ∙ ap placeOf position in
+    (c .read .ensures) ∙ (λ j. readingOf (l .op) (a j) (p .head) (position j) (getD (p .edits) (seat j) noRecord) (p .arrived) (p .confirmed) (t .unsent) (t .settled))
+
+read-arm : (c : tie.After-read Inv-loop μ-loop) → let p = (c .before .before .before .before .before .before .before .before .before .before .before .before .before .before .before .before .before .before .before .before .before .before .loop .p) in let r = (c .read .result) in (Made (lineIn ((c .before .before .before .before .before .before .before .before .before .before .before .before .before .before .before .before .before .read-line .result))) p p (r .answer) (row (p .values) (r .from) (r .width))) × (r .from ≤ 224) × (r .width ≤ 32)
+read-arm c =
+    let p = (c .before .before .before .before .before .before .before .before .before .before .before .before .before .before .before .before .before .before .before .before .before .before .loop .p) in
+    let l = (c .before .before .before .before .before .before .before .before .before .before .before .before .before .before .before .before .before .read-line .result) in
+    let g = reading-right p ((c .before .before .before .before .before .before .before .before .before .before .before .before .before .before .before .before .before .before .before .before .before .before .loop .t)) ((c .before .before .before .before .before .before .before .before .before .before .before .before .before .before .before .before .before .before .before .before .before .before .loop .inv .counted)) (l .op) (l .a) in
+    rw (read-is c, line-reads l (sym ((c .before .before .before .before .before .before .before .before .before .before .only-reads .ensures)) ∙ (c .before .before .before .before .before .before .before .before .before .if4 .taken))) (record { answer = g .0; plan = sym (g .1) }, reading-bounds p ((c .before .before .before .before .before .before .before .before .before .before .before .before .before .before .before .before .before .before .before .before .before .before .loop .t)) ((c .before .before .before .before .before .before .before .before .before .before .before .before .before .before .before .before .before .before .before .before .before .before .loop .inv .counted)) (l .op) (l .a) .0, reading-bounds p ((c .before .before .before .before .before .before .before .before .before .before .before .before .before .before .before .before .before .before .before .before .before .before .loop .t)) ((c .before .before .before .before .before .before .before .before .before .before .before .before .before .before .before .before .before .before .before .before .before .before .loop .inv .counted)) (l .op) (l .a) .1)
+
+-- ---- a rare call
+
+rare-arm : (c : tie.After-q Inv-loop μ-loop) → let r = (c .before .perform .result) in Made (lineIn ((c .before .before .before .before .before .before .before .before .before .before .before .before .before .read-line .result))) ((c .before .before .before .before .before .before .before .before .before .before .before .before .before .before .before .before .before .before .loop .p)) (r .state) (r .answer) []
+rare-arm c =
+    let p = (c .before .before .before .before .before .before .before .before .before .before .before .before .before .before .before .before .before .before .loop .p) in
+    let l = (c .before .before .before .before .before .before .before .before .before .before .before .before .before .read-line .result) in
+    let t = (c .before .before .before .before .before .before .before .before .before .before .before .before .struct-told .given) in
+    let e = line-rare l ((c .before .before .before .before .before .before .before .before .if2 .left)) ((c .before .before .before .before .before .before .before .if3 .left)) (sym ((c .before .before .before .before .before .before .only-reads .ensures)) ∙ (c .before .before .before .before .before .if4 .left)) in
+    rw e (performs-made _ p ((c .before .perform .result)) (rw (← toZ-ofZ (fits32 (l .a) (t .1 .0 .1)), ← toZ-ofZ (fits32 (l .b) (t .1 .1 .0 .1)), ← toZ-ofZ (fits32 (l .c) (t .1 .1 .1 .0 .1)), ← toZ-ofZ (fits32 (l .d) (t .1 .1 .1 .1 .0 .1))) ((c .before .perform .ensures))))
+
+rare-sized : (c : tie.After-q Inv-loop μ-loop) → Sized ((c .before .perform .result .state))
+rare-sized c =
+    let t = (c .before .perform .ok .1 .1 .0) in
+    let u = t .1 .1 in
+    let b = u .1 .0 in
+    let d = u .1 .1 .0 in
+    let v = u .1 .1 .1 .0 in
+    let a = u .1 .1 .1 .1 .0 in
+    let f = u .1 .1 .1 .1 .1 .0 in
+    let l = u .1 .1 .1 .1 .1 .1 .0 in
+    let g = u .1 .1 .1 .1 .1 .1 .1 .0 in
+    let h = u .1 .1 .1 .1 .1 .1 .1 .1 .0 in
+    let i = u .1 .1 .1 .1 .1 .1 .1 .1 .1 .0 in
+    let e = u .1 .1 .1 .1 .1 .1 .1 .1 .1 .1 in
+    record { base = search needs; draft = search needs; values = search needs; arrived = search needs; confirmed = search needs; lower = search needs; gap = search needs; upper = search needs; firm = search needs; edits = search unmapped }
+
+-- ---- any line
+
+joined : (c : tie.Joined2 Inv-loop μ-loop) → let q = (c .if2 .p) in (Made (lineIn ((c .before .before .before .before .before .read-line .result))) ((c .before .before .before .before .before .before .before .before .before .before .loop .p)) q ((c .if2 .answer)) (row (q .values) ((c .if2 .first)) ((c .if2 .width)))) × Sized q × ((c .if2 .first) ≤ 224) × ((c .if2 .width) ≤ 32)
+joined c = on ((c .if2 .came))
+    (λ w. let place : tie.After-entry Inv-loop μ-loop = (record { before = record { before = record { before = record { before = record { before = record { before = record { before = record { before = record { before = record { before = record { before = record { before = record { before = record { before = record { before = record { before = record { before = record { before = record { before = record { before = record { before = record { before = record { before = record { before = record { before = record { before = record { before = record { before = record { before = (c .before); if2 = w .0 }; struct-told2 = w .1 }; number2 = w .2 }; position = w .3 }; place = w .4 }; seen = w .5 }; struct-told3 = w .6 }; number3 = w .7 }; spot = w .8 }; capped = w .9 }; old = w .10 }; standing = w .11 }; p = w .12 }; decide-edit-arg = w .13 }; decide-edit-arg2 = w .14 }; decide-edit-arg3 = w .15 }; decide-edit-arg4 = w .16 }; decide-edit-arg5 = w .17 }; decide-edit-arg6 = w .18 }; found = w .19 }; struct-told4 = w .20 }; number4 = w .21 }; struct-told5 = w .22 }; struct-told6 = w .23 }; struct-told7 = w .24 }; decide-edit = w .25 }; head = w .26 }; struct-told8 = w .27 }; entry = w .28 }) in at-rest (w .29) (w .30) (w .31) (w .32) (edit-arm place .0) (edit-arm place .1))
+    (λ v. on v (λ w. let place : tie.After-entry2 Inv-loop μ-loop = (record { before = record { before = record { before = record { before = record { before = record { before = record { before = record { before = record { before = record { before = record { before = record { before = record { before = record { before = record { before = record { before = record { before = record { before = record { before = record { before = record { before = record { before = record { before = record { before = record { before = (c .before); if2 = w .0 }; if3 = w .1 }; position2 = w .2 }; place2 = w .3 }; standing2 = w .4 }; found2 = w .5 }; position3 = w .6 }; place3 = w .7 }; seen2 = w .8 }; found3 = w .9 }; p2 = w .10 }; unset-arg = w .11 }; unset = w .12 }; capped2 = w .13 }; point = w .14 }; old2 = w .15 }; p3 = w .16 }; decide-replay-arg = w .17 }; decide-replay-arg2 = w .18 }; decide-replay-arg3 = w .19 }; decide-replay-arg4 = w .20 }; decide-replay-arg5 = w .21 }; decide-replay = w .22 }; struct-told9 = w .23 }; entry2 = w .24 }) in at-rest (w .25) (w .26) (w .27) (w .28) (replay-arm place .0) (replay-arm place .1))
+    (λ u. on u
+    (λ w. let place : tie.After-read Inv-loop μ-loop = (record { before = record { before = record { before = record { before = record { before = record { before = record { before = record { before = record { before = record { before = record { before = record { before = record { before = (c .before); if2 = w .0 }; if3 = w .1 }; only-reads = w .2 }; if4 = w .3 }; position4 = w .4 }; place4 = w .5 }; seen3 = w .6 }; p4 = w .7 }; read-arg = w .8 }; read-arg2 = w .9 }; t = w .10 }; read-arg3 = w .11 }; read = w .12 }) in at-reading (w .13) (w .14) (w .15) (w .16) (read-arm place .0) ((c .before .before .before .before .before .before .before .before .before .before .loop .inv .sized)) (read-arm place .1) (read-arm place .2))
+    (λ w. let place : tie.After-q Inv-loop μ-loop = (record { before = record { before = record { before = record { before = record { before = record { before = record { before = record { before = record { before = (c .before); if2 = w .0 }; if3 = w .1 }; only-reads = w .2 }; if4 = w .3 }; struct-told10 = w .4 }; struct-told11 = w .5 }; struct-told12 = w .6 }; perform = w .7 }; q = w .8 }) in at-rest (w .9) (w .10) (w .11) (w .12) (rare-arm place) (rare-sized place))))
+
+-- ---- its answer, put into the rest of the area
+
+abbrev told : tie.After-put Inv-loop μ-loop → List ℕ
+told c = lineOf ((c .before .before .before .before .before .before .before .before .before .before .if2 .answer)) (take ((c .before .before .before .before .before .before .before .before .before .before .if2 .first) + (c .before .before .before .before .before .before .before .before .before .before .if2 .width) - (c .before .before .before .before .before .before .before .before .before .before .if2 .first)) (drop ((c .before .before .before .before .before .before .before .before .before .before .if2 .first)) ((c .before .before .before .before .before .before .before .before .before .before .if2 .p .values))))
+
+told-is : (c : tie.After-put Inv-loop μ-loop) → told c ≡ text (turn (line (c .before .before .before .before .before .before .before .before .before .before .before .before .before .before .before .before .before)) (view ((c .before .before .before .before .before .before .before .before .before .before .before .before .before .before .before .before .before .before .before .before .loop .p))) .answer)
+unfolding lineOf turn
+told-is c =
+    let j = joined (c .before .before .before .before .before .before .before .before .before .before) in
+    ap (λ vs. text (withRow (answerOf ((c .before .before .before .before .before .before .before .before .before .before .if2 .answer))) vs)) (lent-row ((c .before .before .before .before .before .before .before .before .before .before .if2 .p .values)) ((c .before .before .before .before .before .before .before .before .before .before .if2 .first)) ((c .before .before .before .before .before .before .before .before .before .before .if2 .width)) (le-same (le-sum (j .2) (j .3)) (j .1 .values)))
+    ∙ ap text (j .0 .answer ∙ ap (λ o. stepOf o (view ((c .before .before .before .before .before .before .before .before .before .before .before .before .before .before .before .before .before .before .before .before .loop .p))) .answer) (call-is (c .before .before .before .before .before .before .before .before .before .before .before .before .before .before)))
+
+left-is : (c : tie.After-put Inv-loop μ-loop) → view ((c .before .before .before .before .before .before .before .before .before .before .if2 .p)) ≡ turn (line (c .before .before .before .before .before .before .before .before .before .before .before .before .before .before .before .before .before)) (view ((c .before .before .before .before .before .before .before .before .before .before .before .before .before .before .before .before .before .before .before .before .loop .p))) .plan
+unfolding turn
+left-is c = (joined (c .before .before .before .before .before .before .before .before .before .before)) .0 .plan ∙ ap (λ o. stepOf o (view ((c .before .before .before .before .before .before .before .before .before .before .before .before .before .before .before .before .before .before .before .before .loop .p))) .plan) (call-is (c .before .before .before .before .before .before .before .before .before .before .before .before .before .before))
+
+enough : (c : tie.After-put Inv-loop μ-loop) → (c .before .before .before .before .before .before .before .before .before .before .before .before .before .before .before .before .before .before .before .before .before .before .before .args .reserve) ≤ length ((c .before .before .before .before .before .before .before .before .before .before .before .before .before .before .before .before .before .before .before .before .before .before .before .args .area .now)) - (c .before .before .before .before .before .before .before .before .before .before .before .before .before .before .before .before .before .before .before .before .loop .at)
+enough c = subst (λ n. (c .before .before .before .before .before .before .before .before .before .before .before .before .before .before .before .before .before .before .before .before .before .before .before .args .reserve) ≤ n - (c .before .before .before .before .before .before .before .before .before .before .before .before .before .before .before .before .before .before .before .before .loop .at)) ((c .before .before .before .before .before .before .before .before .before .before .before .before .before .before .before .before .before .before .before .before .loop .inv .same)) ((c .before .before .before .before .before .before .before .before .before .before .before .before .before .before .before .before .before .before .if1 .left))
+
+-- the counts after the line
+tallies-are : (c : tie.After-put Inv-loop μ-loop) → let l = (c .before .before .before .before .before .before .before .before .before .before .before .before .before .before .before .read-line .result) in (c .before .before .before .before .before .before .before .before .tallied .result) ≡ tallyAfter (movedOp ((c .before .before .before .before .before .before .before .before .before .before .if2 .answer)) (l .op)) (natural (l .a)) (is whole (modeOf ((c .before .before .before .before .before .before .before .before .before .before .before .before .before .before .before .before .before .before .before .before .loop .p .head .mode)))) ((c .before .before .before .before .before .before .before .before .before .before .before .before .before .before .before .before .before .before .before .before .loop .t))
+tallies-are c =
+    let l = (c .before .before .before .before .before .before .before .before .before .before .before .before .before .before .before .read-line .result) in
+    (c .before .before .before .before .before .before .before .before .tallied .ensures) ∙ (λ j. tallyAfter ((c .before .before .before .before .before .before .before .before .before .moved-op .ensures) j) (((c .before .before .before .before .before .before .before .before .before .before .before .before .before .number .ensures) ∙ ap natural (toZ-ofZ (fits32 (l .a) ((c .before .before .before .before .before .before .before .before .before .before .before .before .before .before .struct-told .given .1 .0 .1))))) j) (eqb ((c .before .before .before .before .before .before .before .before .before .before .before .mode-number .ensures) j) 1) ((c .before .before .before .before .before .before .before .before .before .before .before .before .before .before .before .before .before .before .before .before .loop .t)))
+
+counted-now : (c : tie.After-put Inv-loop μ-loop) → Counted ((c .before .before .before .before .before .before .before .before .tallied .result)) (keptOf ((c .before .before .before .before .before .before .before .before .before .before .if2 .p .head)) ((c .before .before .before .before .before .before .before .before .before .before .if2 .p .edits)))
+counted-now c =
+    let l = (c .before .before .before .before .before .before .before .before .before .before .before .before .before .before .before .read-line .result) in
+    let p = (c .before .before .before .before .before .before .before .before .before .before .before .before .before .before .before .before .before .before .before .before .loop .p) in
+    let m = (joined (c .before .before .before .before .before .before .before .before .before .before)) .0 in
+    subst (λ t. Counted t (keptOf ((c .before .before .before .before .before .before .before .before .before .before .if2 .p .head)) ((c .before .before .before .before .before .before .before .before .before .before .if2 .p .edits)))) (sym (tallies-are c)) (counted-made ((c .before .before .before .before .before .before .before .before .before .before .before .before .before .before .before .before .before .before .before .before .loop .t)) p ((c .before .before .before .before .before .before .before .before .before .before .if2 .p)) ((c .before .before .before .before .before .before .before .before .before .before .before .before .before .before .before .before .before .before .before .before .loop .inv .long)) ((c .before .before .before .before .before .before .before .before .before .before .before .before .before .before .before .before .before .before .before .before .loop .inv .counted)) l ((c .before .before .before .before .before .before .before .before .before .before .if2 .answer)) _ m)
+
+long-now : (c : tie.After-put Inv-loop μ-loop) → length ((c .before .before .before .before .before .before .before .before .tallied .result .unsent)) ≡ 8
+long-now c = ap (λ t. length (t .unsent)) (tallies-are c) ∙ tallied-long (movedOp ((c .before .before .before .before .before .before .before .before .before .before .if2 .answer)) ((c .before .before .before .before .before .before .before .before .before .before .before .before .before .before .before .read-line .result .op))) (natural ((c .before .before .before .before .before .before .before .before .before .before .before .before .before .before .before .read-line .result .a))) (is whole (modeOf ((c .before .before .before .before .before .before .before .before .before .before .before .before .before .before .before .before .before .before .before .before .loop .p .head .mode)))) ((c .before .before .before .before .before .before .before .before .before .before .before .before .before .before .before .before .before .before .before .before .loop .t)) ((c .before .before .before .before .before .before .before .before .before .before .before .before .before .before .before .before .before .before .before .before .loop .inv .long))
+
+-- what was put, and how many bytes
+room-is : (c : tie.After-put Inv-loop μ-loop) → take (length ((c .before .before .before .before .before .before .before .before .before .before .before .before .before .before .before .before .before .before .before .before .loop .area)) - (c .before .before .before .before .before .before .before .before .before .before .before .before .before .before .before .before .before .before .before .before .loop .at)) (drop ((c .before .before .before .before .before .before .before .before .before .before .before .before .before .before .before .before .before .before .before .before .loop .at)) ((c .before .before .before .before .before .before .before .before .before .before .before .before .before .before .before .before .before .before .before .before .loop .area))) ≡ drop ((c .before .before .before .before .before .before .before .before .before .before .before .before .before .before .before .before .before .before .before .before .loop .at)) ((c .before .before .before .before .before .before .before .before .before .before .before .before .before .before .before .before .before .before .before .before .loop .area))
+room-is c = lent-rest ((c .before .before .before .before .before .before .before .before .before .before .before .before .before .before .before .before .before .before .before .before .loop .at)) ((c .before .before .before .before .before .before .before .before .before .before .before .before .before .before .before .before .before .before .before .before .loop .area))
+
+fits-now : (c : tie.After-put Inv-loop μ-loop) → ((c .put .result) ≡ 0 → ⊥) → leb (length (told c)) (length (drop ((c .before .before .before .before .before .before .before .before .before .before .before .before .before .before .before .before .before .before .before .before .loop .at)) ((c .before .before .before .before .before .before .before .before .before .before .before .before .before .before .before .before .before .before .before .before .loop .area)))) ≡ true
+fits-now c h = fitted-put (told c) (drop ((c .before .before .before .before .before .before .before .before .before .before .before .before .before .before .before .before .before .before .before .before .loop .at)) ((c .before .before .before .before .before .before .before .before .before .before .before .before .before .before .before .before .before .before .before .before .loop .area))) ((c .put .result)) (text-some (told c) (turn (line (c .before .before .before .before .before .before .before .before .before .before .before .before .before .before .before .before .before)) (view ((c .before .before .before .before .before .before .before .before .before .before .before .before .before .before .before .before .before .before .before .before .loop .p))) .answer) (told-is c)) (subst (λ xs. (c .put .result) ≡ cond (leb (length (told c)) (length xs)) (length (told c)) 0) (room-is c) ((c .put .ensures .1))) h
+
+unfit-now : (c : tie.After-put Inv-loop μ-loop) → (c .put .result) ≡ 0 → leb (length (told c)) (length (drop ((c .before .before .before .before .before .before .before .before .before .before .before .before .before .before .before .before .before .before .before .before .loop .at)) ((c .before .before .before .before .before .before .before .before .before .before .before .before .before .before .before .before .before .before .before .before .loop .area)))) ≡ false
+unfit-now c e = unfitted-put (told c) (drop ((c .before .before .before .before .before .before .before .before .before .before .before .before .before .before .before .before .before .before .before .before .loop .at)) ((c .before .before .before .before .before .before .before .before .before .before .before .before .before .before .before .before .before .before .before .before .loop .area))) ((c .put .result)) (text-some (told c) (turn (line (c .before .before .before .before .before .before .before .before .before .before .before .before .before .before .before .before .before)) (view ((c .before .before .before .before .before .before .before .before .before .before .before .before .before .before .before .before .before .before .before .before .loop .p))) .answer) (told-is c)) (subst (λ xs. (c .put .result) ≡ cond (leb (length (told c)) (length xs)) (length (told c)) 0) (room-is c) ((c .put .ensures .1))) e
+
+-- how many bytes were written, and the area with them
+count-is : (c : tie.After-put Inv-loop μ-loop) → ((c .put .result) ≡ 0 → ⊥) → (c .put .result) ≡ length (told c)
+count-is c h = subst (λ xs. (c .put .result) ≡ cond (leb (length (told c)) (length xs)) (length (told c)) 0) (room-is c) ((c .put .ensures .1)) ∙ rw (fits-now c h)
+
+area-fits : (c : tie.After-put Inv-loop μ-loop) → Fits w64 (length ((c .before .before .before .before .before .before .before .before .before .before .before .before .before .before .before .before .before .before .before .before .before .before .before .args .area .now)))
+area-fits c = lent-fits (c .before .before .before .before .before .before .before .before .before .before .before .before .before .before .before .before .before .before .before .before .before)
+
+at-fits : (c : tie.After-put Inv-loop μ-loop) → ((c .put .result) ≡ 0 → ⊥) → Fits w64 ((c .before .before .before .before .before .before .before .before .before .before .before .before .before .before .before .before .before .before .before .before .loop .at) + (c .put .result))
+at-fits c h = fits-le (put-most _ _ (length (told c)) (length (drop ((c .before .before .before .before .before .before .before .before .before .before .before .before .before .before .before .before .before .before .before .before .loop .at)) ((c .before .before .before .before .before .before .before .before .before .before .before .before .before .before .before .before .before .before .before .before .loop .area)))) (length ((c .before .before .before .before .before .before .before .before .before .before .before .before .before .before .before .before .before .before .before .before .loop .area))) _ (count-is c h) (fits-now c h) (length-drop ((c .before .before .before .before .before .before .before .before .before .before .before .before .before .before .before .before .before .before .before .before .loop .at)) ((c .before .before .before .before .before .before .before .before .before .before .before .before .before .before .before .before .before .before .before .before .loop .area))) ((c .before .before .before .before .before .before .before .before .before .before .before .before .before .before .before .before .before .before .before .before .loop .inv .same)) ((c .before .before .before .before .before .before .before .before .before .before .before .before .before .before .before .before .before .before .before .before .loop .inv .most))) (area-fits c)
+
+-- the rest of the area as it was lent, and after
+abbrev after : tie.After-put Inv-loop μ-loop → List ℕ
+after c = (c .put .last .1 .1 .0)
+
+after-is : (c : tie.After-put Inv-loop μ-loop) → after c ≡ cond (leb (length (told c)) (length (drop ((c .before .before .before .before .before .before .before .before .before .before .before .before .before .before .before .before .before .before .before .before .loop .at)) ((c .before .before .before .before .before .before .before .before .before .before .before .before .before .before .before .before .before .before .before .before .loop .area))))) (inFront (told c) (drop ((c .before .before .before .before .before .before .before .before .before .before .before .before .before .before .before .before .before .before .before .before .loop .at)) ((c .before .before .before .before .before .before .before .before .before .before .before .before .before .before .before .before .before .before .before .before .loop .area)))) (drop ((c .before .before .before .before .before .before .before .before .before .before .before .before .before .before .before .before .before .before .before .before .loop .at)) ((c .before .before .before .before .before .before .before .before .before .before .before .before .before .before .before .before .before .before .before .before .loop .area)))
+after-is c = subst (λ xs. after c ≡ cond (leb (length (told c)) (length xs)) (inFront (told c) xs) xs) (room-is c) ((c .put .ensures .0))
+
+area-after : (c : tie.After-put Inv-loop μ-loop) → ((c .put .result) ≡ 0 → ⊥) → putMid ((c .before .before .before .before .before .before .before .before .before .before .before .before .before .before .before .before .before .before .before .before .loop .at)) (length ((c .before .before .before .before .before .before .before .before .before .before .before .before .before .before .before .before .before .before .before .before .loop .area)) - (c .before .before .before .before .before .before .before .before .before .before .before .before .before .before .before .before .before .before .before .before .loop .at)) ((c .before .before .before .before .before .before .before .before .before .before .before .before .before .before .before .before .before .before .before .before .loop .area)) (after c) ≡ take ((c .before .before .before .before .before .before .before .before .before .before .before .before .before .before .before .before .before .before .before .before .loop .at)) ((c .before .before .before .before .before .before .before .before .before .before .before .before .before .before .before .before .before .before .before .before .loop .area)) ++ inFront (told c) (drop ((c .before .before .before .before .before .before .before .before .before .before .before .before .before .before .before .before .before .before .before .before .loop .at)) ((c .before .before .before .before .before .before .before .before .before .before .before .before .before .before .before .before .before .before .before .before .loop .area)))
+area-after c h = put-back ((c .before .before .before .before .before .before .before .before .before .before .before .before .before .before .before .before .before .before .before .before .loop .at)) ((c .before .before .before .before .before .before .before .before .before .before .before .before .before .before .before .before .before .before .before .before .loop .area)) (after c) ∙ ap (λ xs. take ((c .before .before .before .before .before .before .before .before .before .before .before .before .before .before .before .before .before .before .before .before .loop .at)) ((c .before .before .before .before .before .before .before .before .before .before .before .before .before .before .before .before .before .before .before .before .loop .area)) ++ xs) (after-is c ∙ rw (fits-now c h))
+
+area-same : (c : tie.After-put Inv-loop μ-loop) → (c .put .result) ≡ 0 → putMid ((c .before .before .before .before .before .before .before .before .before .before .before .before .before .before .before .before .before .before .before .before .loop .at)) (length ((c .before .before .before .before .before .before .before .before .before .before .before .before .before .before .before .before .before .before .before .before .loop .area)) - (c .before .before .before .before .before .before .before .before .before .before .before .before .before .before .before .before .before .before .before .before .loop .at)) ((c .before .before .before .before .before .before .before .before .before .before .before .before .before .before .before .before .before .before .before .before .loop .area)) (after c) ≡ (c .before .before .before .before .before .before .before .before .before .before .before .before .before .before .before .before .before .before .before .before .loop .area)
+area-same c e = put-back ((c .before .before .before .before .before .before .before .before .before .before .before .before .before .before .before .before .before .before .before .before .loop .at)) ((c .before .before .before .before .before .before .before .before .before .before .before .before .before .before .before .before .before .before .before .before .loop .area)) (after c) ∙ ap (λ xs. take ((c .before .before .before .before .before .before .before .before .before .before .before .before .before .before .before .before .before .before .before .before .loop .at)) ((c .before .before .before .before .before .before .before .before .before .before .before .before .before .before .before .before .before .before .before .before .loop .area)) ++ xs) (after-is c ∙ rw (unfit-now c e)) ∙ take-append-drop ((c .before .before .before .before .before .before .before .before .before .before .before .before .before .before .before .before .before .before .before .before .loop .at)) ((c .before .before .before .before .before .before .before .before .before .before .before .before .before .before .before .before .before .before .before .before .loop .area))
+
+going-on : (c : tie.After-put Inv-loop μ-loop) → ((c .put .result) ≡ 0 → ⊥)
+    → Going ((c .before .before .before .before .before .before .before .before .before .before .before .before .before .before .before .before .before .before .before .before .before .before .before .args .reserve)) ((c .before .before .before .before .before .before .before .before .before .before .before .before .before .before .before .before .before .before .before .before .before .before .before .args .sheet .now)) ((c .before .before .before .before .before .before .before .before .before .before .before .before .before .before .before .before .before .before .before .before .before .before .before .args .from)) ((c .before .before .before .before .before .before .before .before .before .before .before .before .before .before .before .before .before .before .before .before .before .before .before .args .area .now)) ((c .before .before .before .before .before .before .before .before .before .before .before .before .before .before .before .before .before .before .before .before .before .before .before .args .start)) (putMid ((c .before .before .before .before .before .before .before .before .before .before .before .before .before .before .before .before .before .before .before .before .loop .at)) (length ((c .before .before .before .before .before .before .before .before .before .before .before .before .before .before .before .before .before .before .before .before .loop .area)) - (c .before .before .before .before .before .before .before .before .before .before .before .before .before .before .before .before .before .before .before .before .loop .at)) ((c .before .before .before .before .before .before .before .before .before .before .before .before .before .before .before .before .before .before .before .before .loop .area)) (after c)) ((c .before .before .before .before .before .before .before .before .before .before .if2 .p)) ((c .before .before .before .before .before .before .before .before .tallied .result)) ((c .before .before .before .before .before .before .before .before .before .before .before .before .before .before .before .before .before .before .before .before .loop .at) + (c .put .result)) ((c .before .before .before .before .before .before .before .before .before .before .before .before .before .before .before .before .before .line-end .result) + 1)
+going-on c h =
+    moved (area-after c h) (ap (λ n. (c .before .before .before .before .before .before .before .before .before .before .before .before .before .before .before .before .before .before .before .before .loop .at) + n) (count-is c h)) (ap (λ n. n + 1) (end-is (c .before .before .before .before .before .before .before .before .before .before .before .before .before .before .before .before .before)))
+    (next-line _ _ _ _ _ _ _ _ _ _ ((c .before .before .before .before .before .before .before .before .before .before .before .before .before .before .before .before .before .before .before .before .loop .inv)) ((c .before .before .before .before .before .before .before .before .before .before .before .before .before .before .before .before .before .before .before .loop-test .taken)) (enough c) ((c .before .before .before .before .before .before .before .before .before .before .if2 .p)) ((c .before .before .before .before .before .before .before .before .tallied .result)) (told c) (told-is c) (left-is c) (fits-now c h) ((joined (c .before .before .before .before .before .before .before .before .before .before)) .1) (long-now c) (counted-now c))
+
+ending : (c : tie.After-put Inv-loop μ-loop) → (c .put .result) ≡ 0
+    → Advanced ((c .before .before .before .before .before .before .before .before .before .before .before .before .before .before .before .before .before .before .before .before .before .before .before .args .reserve)) ((c .before .before .before .before .before .before .before .before .before .before .before .before .before .before .before .before .before .before .before .before .before .before .before .args .sheet .now)) ((c .before .before .before .before .before .before .before .before .before .before .before .before .before .before .before .before .before .before .before .before .before .before .before .args .from)) ((c .before .before .before .before .before .before .before .before .before .before .before .before .before .before .before .before .before .before .before .before .before .before .before .args .start)) ((c .before .before .before .before .before .before .before .before .before .before .before .before .before .before .before .before .before .before .before .before .before .before .before .args .area .now)) (record { state = (c .before .before .before .before .before .before .before .before .before .before .if2 .p); next = (c .before .before .before .before .before .before .before .before .before .before .before .before .before .before .before .before .before .line-end .result) + 1; written = (c .before .before .before .before .before .before .before .before .before .before .before .before .before .before .before .before .before .before .before .before .loop .at); ended = true }) (putMid ((c .before .before .before .before .before .before .before .before .before .before .before .before .before .before .before .before .before .before .before .before .loop .at)) (length ((c .before .before .before .before .before .before .before .before .before .before .before .before .before .before .before .before .before .before .before .before .loop .area)) - (c .before .before .before .before .before .before .before .before .before .before .before .before .before .before .before .before .before .before .before .before .loop .at)) ((c .before .before .before .before .before .before .before .before .before .before .before .before .before .before .before .before .before .before .before .before .loop .area)) (after c))
+ending c e =
+    ended-at (area-same c e) (ap (λ n. n + 1) (end-is (c .before .before .before .before .before .before .before .before .before .before .before .before .before .before .before .before .before)))
+    (unfit _ _ _ _ _ _ _ _ _ _ ((c .before .before .before .before .before .before .before .before .before .before .before .before .before .before .before .before .before .before .before .before .loop .inv)) ((c .before .before .before .before .before .before .before .before .before .before .before .before .before .before .before .before .before .before .before .loop-test .taken)) (enough c) ((c .before .before .before .before .before .before .before .before .before .before .if2 .p)) ((c .before .before .before .before .before .before .before .before .tallied .result)) (told c) (told-is c) (left-is c) (unfit-now c e))
+
+-- the area's length stays
+same-after : (c : tie.After-put Inv-loop μ-loop) → (c .put .result) ≡ 0 → length (putMid ((c .before .before .before .before .before .before .before .before .before .before .before .before .before .before .before .before .before .before .before .before .loop .at)) (length ((c .before .before .before .before .before .before .before .before .before .before .before .before .before .before .before .before .before .before .before .before .loop .area)) - (c .before .before .before .before .before .before .before .before .before .before .before .before .before .before .before .before .before .before .before .before .loop .at)) ((c .before .before .before .before .before .before .before .before .before .before .before .before .before .before .before .before .before .before .before .before .loop .area)) (after c)) ≡ length ((c .before .before .before .before .before .before .before .before .before .before .before .before .before .before .before .before .before .before .before .before .before .before .before .args .area .now))
+same-after c e = ap length (area-same c e) ∙ (c .before .before .before .before .before .before .before .before .before .before .before .before .before .before .before .before .before .before .before .before .loop .inv .same)
+
+loop-holds : tie.Need-loop-holds Inv-loop μ-loop
+loop-holds c =
+    let s = (c .before .before) in
+    begins (s .args .reserve) (s .args .sheet .now) (s .args .from) (s .args .area .now) (s .args .start) (s .args .counts) (owned-sized (s .args .start) (s .good .0)) (counts-long s) (s .pre)
+
+sub-if1 : tie.Need-sub-if1 Inv-loop μ-loop
+sub-if1 c = let g = (c .before .loop .inv) in le-same (g .most) (g .same)
+
+same-length : tie.Need-same-length Inv-loop μ-loop
+same-length c = (c .before .before .loop .inv .same)
+
+returns : tie.Need-returns Inv-loop μ-loop
+returns c =
+    paused _ _ _ _ _ _ _ _ _ _ ((c .before .before .loop .inv)) ((c .before .loop-test .taken)) (subst (λ n. n - (c .before .before .loop .at) < (c .before .before .before .before .before .args .reserve)) ((c .before .before .loop .inv .same)) ((c .if1 .taken)))
+
+line-end-requires : tie.Need-line-end-requires Inv-loop μ-loop
+line-end-requires c κs = search needs
+
+sub-read-line : tie.Need-sub-read-line Inv-loop μ-loop
+sub-read-line c = i-end (c)
+
+part-read-line-start : tie.Need-part-read-line-start Inv-loop μ-loop
+part-read-line-start c = i-end (c)
+
+part-read-line-end : tie.Need-part-read-line-end Inv-loop μ-loop
+part-read-line-end c = end-most (c)
+
+read-line-requires : tie.Need-read-line-requires Inv-loop μ-loop
+read-line-requires c κs = search needs
+
+number-requires : tie.Need-number-requires Inv-loop μ-loop
+number-requires c κs = search needs
+
+mode-number-requires : tie.Need-mode-number-requires Inv-loop μ-loop
+mode-number-requires c κs = search needs
+
+number-requires-2 : tie.Need-number-requires-2 Inv-loop μ-loop
+number-requires-2 c κs = search needs
+
+position-requires : tie.Need-position-requires Inv-loop μ-loop
+position-requires c κs = search needs
+
+place-requires : tie.Need-place-requires Inv-loop μ-loop
+place-requires c κs = search needs
+
+mul-seen : tie.Need-mul-seen Inv-loop μ-loop
+mul-seen c = omega arith
+
+element-copy-out-seen : tie.Need-element-copy-out-seen Inv-loop μ-loop
+element-copy-out-seen c = omega arith
+
+number-requires-3 : tie.Need-number-requires-3 Inv-loop μ-loop
+number-requires-3 c κs = search needs
+
+spot-requires : tie.Need-spot-requires Inv-loop μ-loop
+spot-requires c κs = search needs
+
+capped-requires : tie.Need-capped-requires Inv-loop μ-loop
+capped-requires c κs = search needs
+
+mul-old : tie.Need-mul-old Inv-loop μ-loop
+mul-old c = omega arith
+
+element-copy-out-old : tie.Need-element-copy-out-old Inv-loop μ-loop
+element-copy-out-old c = omega arith
+
+mul-standing : tie.Need-mul-standing Inv-loop μ-loop
+mul-standing c = omega arith
+
+element-copy-out-standing : tie.Need-element-copy-out-standing Inv-loop μ-loop
+element-copy-out-standing c = omega arith
+
+found-requires : tie.Need-found-requires Inv-loop μ-loop
+found-requires c κs = search needs
+
+number-requires-4 : tie.Need-number-requires-4 Inv-loop μ-loop
+number-requires-4 c κs = search needs
+
+decide-edit-requires : tie.Need-decide-edit-requires Inv-loop μ-loop
+decide-edit-requires c κs = search needs
+
+mul-value : tie.Need-mul-value Inv-loop μ-loop
+mul-value c =
+    omega (arith, (c .before .before .before .before .before .before .before .before .before .before .before .before .before .before .before .before .before .before .before .before .spot .ensures .1))
+
+element-set-from-value : tie.Need-element-set-from-value Inv-loop μ-loop
+element-set-from-value c =
+    (c .before .before .before .before .before .before .before .before .before .before .before .before .before .before .before .before .before .before .before .before .spot .ensures .1)
+
+mul-entry : tie.Need-mul-entry Inv-loop μ-loop
+mul-entry c =
+    omega (arith, (c .before .before .before .before .before .before .before .before .before .before .before .before .before .before .before .before .before .before .before .capped .ensures))
+
+element-set-from-entry : tie.Need-element-set-from-entry Inv-loop μ-loop
+element-set-from-entry c =
+    omega (arith, (c .before .before .before .before .before .before .before .before .before .before .before .before .before .before .before .before .before .before .before .capped .ensures))
+
+position-requires-2 : tie.Need-position-requires-2 Inv-loop μ-loop
+position-requires-2 c κs = search needs
+
+place-requires-2 : tie.Need-place-requires-2 Inv-loop μ-loop
+place-requires-2 c κs = search needs
+
+mul-standing-2 : tie.Need-mul-standing-2 Inv-loop μ-loop
+mul-standing-2 c = omega arith
+
+element-copy-out-standing-2 : tie.Need-element-copy-out-standing-2 Inv-loop μ-loop
+element-copy-out-standing-2 c = omega arith
+
+found-requires-2 : tie.Need-found-requires-2 Inv-loop μ-loop
+found-requires-2 c κs = search needs
+
+position-requires-3 : tie.Need-position-requires-3 Inv-loop μ-loop
+position-requires-3 c κs = search needs
+
+place-requires-3 : tie.Need-place-requires-3 Inv-loop μ-loop
+place-requires-3 c κs = search needs
+
+mul-seen-2 : tie.Need-mul-seen-2 Inv-loop μ-loop
+mul-seen-2 c = omega arith
+
+element-copy-out-seen-2 : tie.Need-element-copy-out-seen-2 Inv-loop μ-loop
+element-copy-out-seen-2 c = omega arith
+
+found-requires-3 : tie.Need-found-requires-3 Inv-loop μ-loop
+found-requires-3 c κs = search needs
+
+unset-requires : tie.Need-unset-requires Inv-loop μ-loop
+unset-requires c κs = search needs
+
+capped-requires-2 : tie.Need-capped-requires-2 Inv-loop μ-loop
+capped-requires-2 c κs = search needs
+
+cast-place : tie.Need-cast-place Inv-loop μ-loop
+cast-place c = omega arith
+
+add-place : tie.Need-add-place Inv-loop μ-loop
+add-place c = omega arith
+
+point-requires : tie.Need-point-requires Inv-loop μ-loop
+point-requires c κs = search needs
+
+mul-old-2 : tie.Need-mul-old-2 Inv-loop μ-loop
+mul-old-2 c = omega arith
+
+element-copy-out-old-2 : tie.Need-element-copy-out-old-2 Inv-loop μ-loop
+element-copy-out-old-2 c = omega arith
+
+decide-replay-requires : tie.Need-decide-replay-requires Inv-loop μ-loop
+decide-replay-requires c κs = search needs
+
+mul-amount : tie.Need-mul-amount Inv-loop μ-loop
+mul-amount c = omega arith
+
+element-set-from-amount : tie.Need-element-set-from-amount Inv-loop μ-loop
+element-set-from-amount c = omega arith
+
+mul-entry-2 : tie.Need-mul-entry-2 Inv-loop μ-loop
+mul-entry-2 c =
+    omega (arith, (c .before .before .before .before .before .before .before .before .before .before .before .before .before .before .before .before .before .before .before .before .before .place2 .ensures .1))
+
+element-set-from-entry-2 : tie.Need-element-set-from-entry-2 Inv-loop μ-loop
+element-set-from-entry-2 c =
+    (c .before .before .before .before .before .before .before .before .before .before .before .before .before .before .before .before .before .before .before .before .before .place2 .ensures .1)
+
+only-reads-requires : tie.Need-only-reads-requires Inv-loop μ-loop
+only-reads-requires c κs = search needs
+
+position-requires-4 : tie.Need-position-requires-4 Inv-loop μ-loop
+position-requires-4 c κs = search needs
+
+place-requires-4 : tie.Need-place-requires-4 Inv-loop μ-loop
+place-requires-4 c κs = search needs
+
+mul-seen-3 : tie.Need-mul-seen-3 Inv-loop μ-loop
+mul-seen-3 c = omega arith
+
+element-copy-out-seen-3 : tie.Need-element-copy-out-seen-3 Inv-loop μ-loop
+element-copy-out-seen-3 c = omega arith
+
+read-requires : tie.Need-read-requires Inv-loop μ-loop
+read-requires c κs = search needs
+
+perform-requires : tie.Need-perform-requires Inv-loop μ-loop
+perform-requires c κs = search needs
+
+moved-op-requires : tie.Need-moved-op-requires Inv-loop μ-loop
+moved-op-requires c κs = search needs
+
+tallied-requires : tie.Need-tallied-requires Inv-loop μ-loop
+tallied-requires c κs = search needs
+
+add-put : tie.Need-add-put Inv-loop μ-loop
+add-put c =
+    let j = joined (c .before .before .before .before .before .before .before) in fits-below {n = 256} tt (le-sum (j .2) (j .3))
+
+mul-put : tie.Need-mul-put Inv-loop μ-loop
+mul-put c =
+    let j = joined (c .before .before .before .before .before .before .before) in fits-below {n = 896} tt (le-four (j .2))
+
+sub-put : tie.Need-sub-put Inv-loop μ-loop
+sub-put c = le-more _ _
+
+part-put-start : tie.Need-part-put-start Inv-loop μ-loop
+part-put-start c = le-more _ _
+
+part-put-end : tie.Need-part-put-end Inv-loop μ-loop
+part-put-end c =
+    let j = joined (c .before .before .before .before .before .before .before) in le-same (le-sum (j .2) (j .3)) (j .1 .values)
+
+sub-put-2 : tie.Need-sub-put-2 Inv-loop μ-loop
+sub-put-2 c =
+    let g = (c .before .before .before .before .before .before .before .before .before .before .before .before .before .before .before .before .before .before .loop .inv) in le-same (g .most) (g .same)
+
+part-put-start-2 : tie.Need-part-put-start-2 Inv-loop μ-loop
+part-put-start-2 c =
+    let g = (c .before .before .before .before .before .before .before .before .before .before .before .before .before .before .before .before .before .before .loop .inv) in le-same (g .most) (g .same)
+
+part-put-end-2 : tie.Need-part-put-end-2 Inv-loop μ-loop
+part-put-end-2 c = le-self _
+
+put-requires : tie.Need-put-requires Inv-loop μ-loop
+put-requires c κs = search needs
+
+add-t134 : tie.Need-add-t134 Inv-loop μ-loop
+add-t134 c =
+    end-fits (c .before .before .before .before .before .before .before .before .before .before .before .before .before .before .before .before .before .before .before .before)
+
+same-length-2 : tie.Need-same-length-2 Inv-loop μ-loop
+same-length-2 c = same-after (c .before .before .before) ((c .if5 .taken))
+
+returns-2 : tie.Need-returns-2 Inv-loop μ-loop
+returns-2 c = ending (c .before .before .before) ((c .if5 .taken))
+
+add-at : tie.Need-add-at Inv-loop μ-loop
+add-at c = at-fits (c .before .before .before) ((c .if5 .left))
+
+add-i : tie.Need-add-i Inv-loop μ-loop
+add-i c =
+    end-fits (c .before .before .before .before .before .before .before .before .before .before .before .before .before .before .before .before .before .before .before .before)
+
+loop-less : tie.Need-loop-less Inv-loop μ-loop
+loop-less c =
+    nearer (c .before .before .before .before .before .before .before .before .before .before .before .before .before .before .before .before .before .before .before .before)
+
+loop-again : tie.Need-loop-again Inv-loop μ-loop
+loop-again c = going-on (c .before .before .before) ((c .if5 .left))
+
+same-length-3 : tie.Need-same-length-3 Inv-loop μ-loop
+same-length-3 c = (c .before .loop .inv .same)
+
+returns-3 : tie.Need-returns-3 Inv-loop μ-loop
+returns-3 c = over _ _ _ _ _ _ _ _ _ _ ((c .before .loop .inv)) ((c .loop-test .left))
+
+pub go-spec : {M : Type 1} → statement M
+go-spec =
+    tie.close
+    (tie.spec
+    Inv-loop
+    μ-loop
+    loop-holds
+    sub-if1
+    same-length
+    returns
+    line-end-requires
+    sub-read-line
+    part-read-line-start
+    part-read-line-end
+    read-line-requires
+    number-requires
+    mode-number-requires
+    number-requires-2
+    position-requires
+    place-requires
+    mul-seen
+    element-copy-out-seen
+    number-requires-3
+    spot-requires
+    capped-requires
+    mul-old
+    element-copy-out-old
+    mul-standing
+    element-copy-out-standing
+    found-requires
+    number-requires-4
+    decide-edit-requires
+    mul-value
+    element-set-from-value
+    mul-entry
+    element-set-from-entry
+    position-requires-2
+    place-requires-2
+    mul-standing-2
+    element-copy-out-standing-2
+    found-requires-2
+    position-requires-3
+    place-requires-3
+    mul-seen-2
+    element-copy-out-seen-2
+    found-requires-3
+    unset-requires
+    capped-requires-2
+    cast-place
+    add-place
+    point-requires
+    mul-old-2
+    element-copy-out-old-2
+    decide-replay-requires
+    mul-amount
+    element-set-from-amount
+    mul-entry-2
+    element-set-from-entry-2
+    only-reads-requires
+    position-requires-4
+    place-requires-4
+    mul-seen-3
+    element-copy-out-seen-3
+    read-requires
+    perform-requires
+    moved-op-requires
+    tallied-requires
+    add-put
+    mul-put
+    sub-put
+    part-put-start
+    part-put-end
+    sub-put-2
+    part-put-start-2
+    part-put-end-2
+    put-requires
+    add-t134
+    same-length-2
+    returns-2
+    add-at
+    add-i
+    loop-less
+    loop-again
+    same-length-3
+    returns-3)

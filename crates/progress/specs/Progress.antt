@@ -1,0 +1,49 @@
+-- A run that goes on as long as there is room, as an owner makes it piece by piece. Assumes nothing.
+use Prim.Native.Nat.{ℕ, _+_, _-_, suc}
+use mathlib.Core.Path.{_≡_}
+use mathlib.Core.Bool.{Bool, true, false, cond}
+use mathlib.Core.List.{List, [], _∷_, _++_}
+use lib.Dec.{leb, ltb}
+use lib.ListN.{length, drop}
+use Rattle.protocol.specs.Plan.{Plan}
+use Rattle.format.specs.Lines.{lines}
+use Rattle.format.specs.Sheets.{text, turn, inFront}
+use Rattle.state.specs.declared.State.{State}
+use Rattle.state.specs.declared.Answer.{Answer}
+use Rattle.state.specs.declared.Answer.the-variants.{Refused, Done, Number, Pair}
+use Rattle.state.specs.View.{view}
+use Rattle.progress.specs.declared.Progress.{Progress}
+
+abbrev pub movedOp : Answer → ℕ → ℕ
+movedOp (Refused k) op = 0
+movedOp Done op = op
+movedOp (Number n) op = op
+movedOp (Pair a b) op = op
+
+-- the answers written, the lines that are left, the plan, and whether the last answer did not fit
+pub record Ran : Type 0 where
+  pub bytes : List ℕ
+  pub rest : List (List ℕ)
+  pub plan : Plan
+  pub ended : Bool
+
+abbrev pub behindRan : List ℕ → Ran → Ran
+behindRan t r = record { bytes = t ++ r .bytes; rest = r .rest; plan = r .plan; ended = r .ended }
+
+-- A line is begun only where `reserve` bytes are free. An answer that does not fit ends the run; the plan is then dropped.
+unfoldable pub ran : ℕ → ℕ → Plan → List (List ℕ) → Ran
+unfolding turn text
+ran reserve room p [] = record { bytes = []; rest = []; plan = p; ended = false }
+ran reserve room p (l ∷ ls) =
+    let r = turn l p in
+    let t = text (r .answer) in
+    cond (ltb room reserve) (record { bytes = []; rest = l ∷ ls; plan = p; ended = false })
+    (cond (leb (length t) room) (behindRan t (ran reserve (room - length t) (r .plan) ls)) (record { bytes = []; rest = ls; plan = r .plan; ended = true }))
+
+-- what a run from a place of the sheet on leaves
+pub record Advanced (reserve : ℕ) (sheet : List ℕ) (from : ℕ) (p : State) (lent : List ℕ) (r : Progress) (after : List ℕ) : Type 0 where
+  pub plan : view (r .state) ≡ ran reserve (length lent) (view p) (lines (drop from sheet)) .plan
+  pub rest : lines (drop (r .next) sheet) ≡ ran reserve (length lent) (view p) (lines (drop from sheet)) .rest
+  pub written : r .written ≡ length (ran reserve (length lent) (view p) (lines (drop from sheet)) .bytes)
+  pub ended : r .ended ≡ ran reserve (length lent) (view p) (lines (drop from sheet)) .ended
+  pub buffer : after ≡ inFront (ran reserve (length lent) (view p) (lines (drop from sheet)) .bytes) lent

@@ -1,0 +1,202 @@
+// The run over a sheet (01, "The sheet program"): each line is read, made on the plan and answered. The loop owns the plan and stores in place.
+ghost use mathlib.Core.Path.{_≡_};
+ghost use mathlib.Core.Bool.{cond};
+ghost use mathlib.Core.Bool.{_||_};
+ghost use lib.Dec.{eqb, ltb};
+ghost use Rattle.records.specs.Records.{keptOf};
+ghost use Rattle.tally.specs.Tallies.{Counted};
+ghost use Rattle.progress.specs.Progress.{movedOp, Advanced};
+use state::Answer;
+use state::State;
+use tally::Tallies;
+
+// Where a run stands: the plan, the place of the line that comes next, how many bytes were written, and whether an answer did not fit.
+pub struct Progress {
+    pub state: State,
+    pub next: usize,
+    pub written: usize,
+    pub ended: bool,
+}
+
+// A call's number if it was accepted, else 0.
+fn moved_op(answer: Answer, op: u32) -> u32
+    ensures { λ r. ⌜ r ≡ movedOp answer op ⌝ }
+{
+    match answer {
+        Answer::Refused(_) => 0,
+        Answer::Done => op,
+        Answer::Number(_) => op,
+        Answer::Pair(_, _) => op,
+    }
+}
+
+// 0 is a line that cannot be read, 12 to 14 are the calls that only read.
+fn only_reads(op: u32) -> bool
+    ensures { λ t. ⌜ t ≡ (eqb op 0 || ltb 11 op) ⌝ }
+{
+    if op == 0 {
+        return true;
+    }
+    11 < op
+}
+
+fn go(
+    start: State,
+    counts: Tallies,
+    reserve: usize,
+    sheet: &[u8],
+    from: usize,
+    area: &mut [u8],
+) -> Progress
+    requires { ⌜ Counted counts (keptOf (start .head) (start .edits)) ⌝ }
+    ensures { λ r. ⌜ Advanced reserve (now (sheet .entry)) from start (now (area .entry)) r (now (area .exit)) ⌝ }
+{
+    let mut p = start;
+    let mut t = counts;
+    let mut at: usize = 0;
+    let mut i = from;
+    while i < sheet.len() {
+        if area.len() - at < reserve {
+            return Progress {
+                state: p,
+                next: i,
+                written: at,
+                ended: false,
+            };
+        }
+        let end = reader::line_end(sheet, i);
+        let line = reader::read_line(&sheet[i..end]);
+        let op = line.op;
+        let a = line.a;
+        let side = exact::number(a);
+        let h = p.head;
+        let mode = h.mode;
+        let whole = heads::mode_number(mode) == 1;
+        let mut answer = Answer::Done;
+        let mut first: usize = 0;
+        let mut width: usize = 0;
+        if op == 5 {
+            let named = heads::position(h, exact::number(line.c));
+            let seat = heads::place(named);
+            let seen = p.edits[seat];
+            let measure = exact::number(line.d);
+            let spot = edit::spot(side, measure);
+            let slot = rows::capped(h.kept, 255);
+            let old = p.values[spot];
+            let standing = p.edits[slot];
+            let d = ruling::decide_edit(
+                h,
+                &p.lower,
+                &p.gap,
+                &p.upper,
+                &p.firm,
+                &p.values,
+                records::found(named, seen),
+                old,
+                standing,
+                side,
+                line.b,
+                line.c,
+                measure,
+                exact::number(line.e),
+                line.f,
+            );
+            let head = d.head;
+            let value = d.value;
+            let entry = d.entry;
+            let given = d.answer;
+            p.head = head;
+            p.values[spot] = value;
+            p.edits[slot] = entry;
+            answer = given;
+        } else if op == 8 {
+            let named = heads::position(h, side);
+            let slot = heads::place(named);
+            let standing = p.edits[slot];
+            let e = records::found(named, standing);
+            let next = heads::position(h, e.earlier);
+            let seat = heads::place(next);
+            let seen = p.edits[seat];
+            let earlier = records::found(next, seen);
+            let missing = heads::unset(&p.arrived, h);
+            let place = rows::capped(t.settled, 256) as u32 + 1;
+            let point = replay::point(e.measure);
+            let old = p.draft[point];
+            let d = settling::decide_replay(
+                h,
+                &p.lower,
+                &p.gap,
+                &p.upper,
+                &p.draft,
+                missing,
+                e,
+                earlier,
+                standing,
+                old,
+                place,
+            );
+            let amount = d.amount;
+            let entry = d.entry;
+            let given = d.answer;
+            p.draft[point] = amount;
+            p.edits[slot] = entry;
+            answer = given;
+        } else if only_reads(op) {
+            let named = heads::position(h, side);
+            let seat = heads::place(named);
+            let seen = p.edits[seat];
+            let r = reads::read(
+                op,
+                a,
+                h,
+                named,
+                seen,
+                &p.arrived,
+                &p.confirmed,
+                &t.unsent,
+                t.settled,
+            );
+            let given = r.answer;
+            answer = given;
+            first = r.from;
+            width = r.width;
+        } else {
+            let r = dispatch::perform(p, op, a, line.b, line.c, line.d);
+            let q = r.state;
+            let given = r.answer;
+            p = q;
+            answer = given;
+        }
+        let moved = moved_op(answer, op);
+        let u = tally::tallied(t, moved, side, whole);
+        t = u;
+        let vs = &p.values[..];
+        let n = writer::put(answer, &vs[first..first + width], &mut area[at..]);
+        if n == 0 {
+            return Progress {
+                state: p,
+                next: end + 1,
+                written: at,
+                ended: true,
+            };
+        }
+        at += n;
+        i = end + 1;
+    }
+    Progress {
+        state: p,
+        next: i,
+        written: at,
+        ended: false,
+    }
+}
+
+// Goes on from a line of the sheet, as long as `reserve` bytes of the area are free and each answer fits.
+pub fn advance(p: State, reserve: usize, sheet: &[u8], from: usize, area: &mut [u8]) -> Progress
+    ensures { λ r. ⌜ Advanced reserve (now (sheet .entry)) from p (now (area .entry)) r (now (area .exit)) ⌝ }
+{
+    let h = p.head;
+    let edits = p.edits;
+    let counts = reads::tallies(edits, h);
+    go(p, counts, reserve, sheet, from, area)
+}
