@@ -3,14 +3,14 @@ use Prim.Native.Nat.{ℕ, zero, suc, _+_, _<_, _≤_}
 use native.Mathlib.Omega.{arith}
 use native.Mathlib.Numerals.{add-one}
 use mathlib.Core.Bool.{true}
-use mathlib.Core.Path.{_≡_, refl, sym, ap, ap₂, _∙_}
+use mathlib.Core.Path.{_≡_, refl, sym, ap, ap₂, _∙_, subst}
 use mathlib.Core.List.{List, [], _∷_, _++_, append-nil, append-assoc}
 use mathlib.Core.Option.{Option, none, some}
-use borrow.Author.Tests.{eqb-true, eqb-false, leb-true}
-use lib.Dec.{eqb, leb}
+use borrow.Author.Tests.{ltb-true, ltb-false, eqb-true, eqb-false, leb-true}
+use lib.Dec.{eqb, leb, ltb}
 use lib.IntN.{ℤ, pos}
-use lib.ListN.{length, getD, set, take, drop, length-set, length-append, length-take, drop-of-length-le}
-use lib.Seq.{drop-cons, drop-drop, take-suc-set}
+use lib.ListN.{length, getD, set, take, drop, length-set, length-append, length-take, drop-of-length-le, List·getD-eq-default}
+use lib.Seq.{drop-cons, drop-drop, take-suc-set, getD-set-other, getD-take}
 use Rattle.protocol.specs.Lists.{all}
 use Rattle.protocol.proofs.Laws.{cases}
 use Rattle.format.specs.Numbers.{number}
@@ -18,7 +18,7 @@ use Rattle.format.specs.Lines.{Shape, given, takes, filled, Form, forms, sameBy
 use Rattle.format.proofs.Digits.{and-true}
 use Rattle.reader.specs.declared.Number.the-variants.{Value, Unreadable}
 use Rattle.reader.specs.declared.Line.{Line}
-use Rattle.reader.specs.Reads.{wordAt, numberAt, next, place, opOf, shapeNth, shapeAt, arity, arityOf, takenBy, lineIn}
+use Rattle.reader.specs.Reads.{wordAt, numberAt, next, place, opOf, shapeNth, shapeAt, arity, arityOf, takenBy, lineFrom, lineFor, lineIn}
 use Rattle.reader.proofs.Cuts.{more, words-cut}
 
 -- ---- a call's place in the table
@@ -127,21 +127,32 @@ found-not line at e = by (number (wordAt line at)) refl
     by none q = q
     by (some y) q = let f : Value y (at + length (wordAt line at)) ≡ Unreadable = rw q at e in cc
 
+-- the numbers behind the first k are 0
+abbrev pub Padded : ℕ → List ℤ → Type 0
+Padded k xs = (j : ℕ) → k ≤ j → getD xs j (pos 0) ≡ pos 0
+
 -- the line's call is that of the numbers read, the first k of xs, and of those from a place on
 abbrev pub Listing : List ℕ → ℕ → ℕ → List ℤ → ℕ → Type 0
-Listing line op k xs at = (length xs ≡ 6) × (k ≤ takenBy op) × (lineCall line ≡ asked (shapeAt op) (behind (take k xs) (numbers (more (drop at line)))))
+Listing line op k xs at = (length xs ≡ 6) × (k ≤ takenBy op) × (lineCall line ≡ asked (shapeAt op) (behind (take k xs) (numbers (more (drop at line))))) × Padded k xs
 
 pub line-named : (line : List ℕ) → lineCall line ≡ asked (shapeAt (opOf (wordAt line 0))) (numbers (more (drop (length (wordAt line 0)) line)))
 unfolding lineCall shapeAt opOf
 line-named line = ap callOf (words-cut line) ∙ ap (λ s. asked s (numbers (more (drop (length (wordAt line 0)) line)))) (shape-place (wordAt line 0) forms)
 
+-- what is promised of a line
+abbrev pub Read : Line → List ℕ → Type 0
+Read r line = (lineIn r ≡ lineCall line) × (r ≡ lineFor (lineCall line))
+
+pub unread : (r : Line) (line : List ℕ) → r ≡ lineFor none → none ≡ lineCall line → Read r line
+unread r line e f = (ap lineIn e ∙ f, e ∙ ap lineFor f)
+
 pub unnamed : (line : List ℕ) → opOf (wordAt line 0) ≡ 0 → lineCall line ≡ none
 unfolding shapeAt
 unnamed line e = line-named line ∙ ap (λ op. asked (shapeAt op) (numbers (more (drop (length (wordAt line 0)) line)))) e
 
-pub listing-begin : (line : List ℕ) (op end : ℕ) (xs : List ℤ) → length xs ≡ 6 → op ≡ opOf (wordAt line 0) → end ≡ length (wordAt line 0) → Listing line op 0 xs end
-listing-begin line op end xs l e f =
-    (l, omega arith, line-named line ∙ ap₂ (λ o j. asked (shapeAt o) (numbers (more (drop j line)))) (sym e) (sym f) ∙ ap (asked (shapeAt op)) (plain (numbers (more (drop end line)))))
+pub listing-begin : (line : List ℕ) (op end : ℕ) (xs : List ℤ) → length xs ≡ 6 → Padded 0 xs → op ≡ opOf (wordAt line 0) → end ≡ length (wordAt line 0) → Listing line op 0 xs end
+listing-begin line op end xs l z e f =
+    (l, omega arith, line-named line ∙ ap₂ (λ o j. asked (shapeAt o) (numbers (more (drop j line)))) (sym e) (sym f) ∙ ap (asked (shapeAt op)) (plain (numbers (more (drop end line)))), z)
   where
     plain : (o : Option (List ℤ)) → o ≡ behind [] o
     plain none = refl
@@ -154,12 +165,16 @@ pick P op n h p f = cases (eqb op (suc n)) (λ t. rw (eqb-true op (suc n) t) p) 
     less : (a b : ℕ) → a ≤ suc b → (a ≡ suc b → ⊥) → a ≤ b
     less a b h e = omega arith
 
--- the call of a line is its form, filled with as many of the six numbers as it takes
-filled-with : (op : ℕ) (a b c d e f : ℤ) → 0 < op → op ≤ 14 → lineIn (record { op = op; a = a; b = b; c = c; d = d; e = e; f = f }) ≡ asked (shapeAt op) (some (take (takenBy op) (a ∷ b ∷ c ∷ d ∷ e ∷ f ∷ [])))
+-- the call of a line is its form, filled with as many of the six numbers as it takes, and the line is that call's
+abbrev Filled : ℕ → List ℤ → Type 0
+Filled op xs =
+    (lineIn (lineFrom op xs) ≡ asked (shapeAt op) (some (take (takenBy op) xs))) × (lineFrom op (take (takenBy op) xs) ≡ lineFor (asked (shapeAt op) (some (take (takenBy op) xs))))
+
+filled-with : (op : ℕ) (a b c d e f : ℤ) → 0 < op → op ≤ 14 → Filled op (a ∷ b ∷ c ∷ d ∷ e ∷ f ∷ [])
 unfolding shapeAt takenBy
 filled-with op a b c d e f p =
-    let P : ℕ → Type 0 = λ k. lineIn (record { op = k; a = a; b = b; c = c; d = d; e = e; f = f }) ≡ asked (shapeAt k) (some (take (takenBy k) (a ∷ b ∷ c ∷ d ∷ e ∷ f ∷ []))) in
-    λ q. pick P op 13 q refl (λ q. pick P op 12 q refl (λ q. pick P op 11 q refl (λ q. pick P op 10 q refl (λ q. pick P op 9 q refl (λ q. pick P op 8 q refl (λ q. pick P op 7 q refl (λ q. pick P op 6 q refl (λ q. pick P op 5 q refl (λ q. pick P op 4 q refl (λ q. pick P op 3 q refl (λ q. pick P op 2 q refl (λ q. pick P op 1 q refl (λ q. pick P op 0 q refl (λ z. absurd (omega arith)))))))))))))))
+    let P : ℕ → Type 0 = λ k. Filled k (a ∷ b ∷ c ∷ d ∷ e ∷ f ∷ []) in
+    λ q. pick P op 13 q (refl, refl) (λ q. pick P op 12 q (refl, refl) (λ q. pick P op 11 q (refl, refl) (λ q. pick P op 10 q (refl, refl) (λ q. pick P op 9 q (refl, refl) (λ q. pick P op 8 q (refl, refl) (λ q. pick P op 7 q (refl, refl) (λ q. pick P op 6 q (refl, refl) (λ q. pick P op 5 q (refl, refl) (λ q. pick P op 4 q (refl, refl) (λ q. pick P op 3 q (refl, refl) (λ q. pick P op 2 q (refl, refl) (λ q. pick P op 1 q (refl, refl) (λ q. pick P op 0 q (refl, refl) (λ z. absurd (omega arith)))))))))))))))
 
 six : (xs : List ℤ) → length xs ≡ 6 → xs ≡ getD xs 0 (pos 0) ∷ getD xs 1 (pos 0) ∷ getD xs 2 (pos 0) ∷ getD xs 3 (pos 0) ∷ getD xs 4 (pos 0) ∷ getD xs 5 (pos 0) ∷ []
 six [] l = absurd (omega arith)
@@ -171,13 +186,26 @@ six (a ∷ b ∷ c ∷ d ∷ e ∷ []) l = absurd (omega arith)
 six (a ∷ b ∷ c ∷ d ∷ e ∷ f ∷ []) l = refl
 six (a ∷ b ∷ c ∷ d ∷ e ∷ f ∷ g ∷ gs) l = absurd (omega arith)
 
-abbrev pub lineFrom : ℕ → List ℤ → Line
-lineFrom op xs = record { op = op; a = getD xs 0 (pos 0); b = getD xs 1 (pos 0); c = getD xs 2 (pos 0); d = getD xs 3 (pos 0); e = getD xs 4 (pos 0); f = getD xs 5 (pos 0) }
-
-line-filled : (op : ℕ) (xs : List ℤ) → length xs ≡ 6 → 0 < op → op ≤ 14 → lineIn (lineFrom op xs) ≡ asked (shapeAt op) (some (take (takenBy op) xs))
+line-filled : (op : ℕ) (xs : List ℤ) → length xs ≡ 6 → 0 < op → op ≤ 14 → Filled op xs
 line-filled op xs l p q =
-    filled-with op (getD xs 0 (pos 0)) (getD xs 1 (pos 0)) (getD xs 2 (pos 0)) (getD xs 3 (pos 0)) (getD xs 4 (pos 0)) (getD xs 5 (pos 0)) p q
-    ∙ ap (λ ys. asked (shapeAt op) (some (take (takenBy op) ys))) (sym (six xs l))
+    subst (Filled op) (sym (six xs l)) (filled-with op (getD xs 0 (pos 0)) (getD xs 1 (pos 0)) (getD xs 2 (pos 0)) (getD xs 3 (pos 0)) (getD xs 4 (pos 0)) (getD xs 5 (pos 0)) p q)
+
+padded-next : (k : ℕ) (xs : List ℤ) (x : ℤ) → Padded k xs → Padded (k + 1) (set xs k x)
+padded-next k xs x p j h = getD-set-other xs k j x (pos 0) (λ e. omega arith) ∙ p j (omega arith)
+
+getD-front : (k : ℕ) (xs : List ℤ) → Padded k xs → (j : ℕ) → getD xs j (pos 0) ≡ getD (take k xs) j (pos 0)
+getD-front k xs p j = cases (ltb j k)
+    (λ t. sym (getD-take k xs j (pos 0) (ltb-true j k t)))
+    (λ t. let h = ltb-false j k t in let l = length-take k xs in p j h ∙ sym (List·getD-eq-default (take k xs) (pos 0) {n = j} (omega arith)))
+
+pub line-from : (op : ℕ) (xs : List ℤ) (a b c d e f : ℤ) → a ≡ getD xs 0 (pos 0) → b ≡ getD xs 1 (pos 0) → c ≡ getD xs 2 (pos 0) → d ≡ getD xs 3 (pos 0) → e ≡ getD xs 4 (pos 0) → f ≡ getD xs 5 (pos 0)
+    → _≡_ {A = Line} (record { op = op; a = a; b = b; c = c; d = d; e = e; f = f }) (lineFrom op xs)
+line-from op xs a b c d e f p q r s t u = rw (p, q, r, s, t, u)
+
+line-front : (op k : ℕ) (xs : List ℤ) → Padded k xs → lineFrom op xs ≡ lineFrom op (take k xs)
+line-front op k xs p =
+    let g = getD-front k xs p in
+    line-from op (take k xs) (getD xs 0 (pos 0)) (getD xs 1 (pos 0)) (getD xs 2 (pos 0)) (getD xs 3 (pos 0)) (getD xs 4 (pos 0)) (getD xs 5 (pos 0)) (g 0) (g 1) (g 2) (g 3) (g 4) (g 5)
 
 module _ (line : List ℕ) (op k : ℕ) (xs : List ℤ) (at : ℕ) (r : Listing line op k xs at) where
   -- a word that is no number
@@ -203,6 +231,7 @@ module _ (line : List ℕ) (op k : ℕ) (xs : List ℤ) (at : ℕ) (r : Listing 
         length-set xs k x ∙ r .0,
         omega arith,
         here x n h e ∙ ap (asked (shapeAt op)) (behind-next (take k xs) x (numbers (more (drop n line))) ∙ ap (λ ys. behind ys (numbers (more (drop n line)))) (sym (rw (add-one k) (take-suc-set xs k x (omega (arith, r .0)))))),
+        padded-next k xs x (r .3),
       )
 
   -- one number too many
@@ -223,5 +252,8 @@ module _ (line : List ℕ) (op k : ℕ) (xs : List ℤ) (at : ℕ) (r : Listing 
   listing-few h ne = sym (over h ∙ not-called op (take k xs) (λ q. ne (sym taken ∙ q)))
 
   -- as many as the call takes
-  pub listing-all : length line ≤ at → k ≡ takenBy op → 0 < op → op ≤ 14 → lineIn (lineFrom op xs) ≡ lineCall line
-  listing-all h e p q = line-filled op xs (r .0) p q ∙ sym (over h ∙ ap (λ n. asked (shapeAt op) (some (take n xs))) e)
+  pub listing-all : length line ≤ at → k ≡ takenBy op → 0 < op → op ≤ 14 → Read (lineFrom op xs) line
+  listing-all h e p q =
+      let f = line-filled op xs (r .0) p q in
+      let c : asked (shapeAt op) (some (take (takenBy op) xs)) ≡ lineCall line = sym (over h ∙ ap (λ n. asked (shapeAt op) (some (take n xs))) e) in
+      (f .0 ∙ c, line-front op k xs (r .3) ∙ ap (λ n. lineFrom op (take n xs)) e ∙ f .1 ∙ ap lineFor c)

@@ -6,7 +6,7 @@ use mathlib.Core.Option.{Option, none, some}
 use mathlib.Core.Path.{_≡_}
 use lib.Dec.{eqb, leb}
 use lib.IntN.{ℤ, pos}
-use lib.ListN.{length, drop}
+use lib.ListN.{length, getD, drop}
 use Rattle.protocol.specs.Lists.{all}
 use Rattle.protocol.specs.Plan.{measureLimit}
 use Rattle.protocol.specs.Calls.{Call, measure, rule, open-plan, split-side, edit, join, send, replay, stop, confirm, install, show, fate-of, left}
@@ -100,6 +100,27 @@ pub record Named (line : List ℕ) (r : Name) : Type 0 where
   pub end : (r .op ≡ 0 → ⊥) → r .end ≡ length (wordAt line 0)
 
 -- ---- a line
+
+-- a line from the numbers of a call; those that it does not take are 0
+abbrev pub lineFrom : ℕ → List ℤ → Line
+lineFrom op xs = record { op = op; a = getD xs 0 (pos 0); b = getD xs 1 (pos 0); c = getD xs 2 (pos 0); d = getD xs 3 (pos 0); e = getD xs 4 (pos 0); f = getD xs 5 (pos 0) }
+
+abbrev pub lineFor : Option Call → Line
+lineFor none = lineFrom 0 []
+lineFor (some (measure v)) = lineFrom 1 (v ∷ [])
+lineFor (some (rule a c b f)) = lineFrom 2 (a ∷ c ∷ b ∷ f ∷ [])
+lineFor (some open-plan) = lineFrom 3 []
+lineFor (some (split-side s)) = lineFrom 4 (s ∷ [])
+lineFor (some (edit s client n m kind k)) = lineFrom 5 (s ∷ client ∷ n ∷ m ∷ kind ∷ k ∷ [])
+lineFor (some join) = lineFrom 6 []
+lineFor (some (send s)) = lineFrom 7 (s ∷ [])
+lineFor (some (replay n)) = lineFrom 8 (n ∷ [])
+lineFor (some stop) = lineFrom 9 []
+lineFor (some (confirm s)) = lineFrom 10 (s ∷ [])
+lineFor (some install) = lineFrom 11 []
+lineFor (some (show s room)) = lineFrom 12 (s ∷ [])
+lineFor (some (fate-of n)) = lineFrom 13 (n ∷ [])
+lineFor (some left) = lineFrom 14 []
 
 -- the call of a line that was read; none: it cannot be read
 abbrev pub lineIn : Line → Option Call

@@ -5,7 +5,7 @@ ghost use mathlib.Core.Option.{none};
 ghost use lib.ListN.{length, drop};
 ghost use Rattle.format.specs.Lines.{lineFeed, lineCall};
 ghost use Rattle.reader.specs.Cut.{upTo};
-ghost use Rattle.reader.specs.Reads.{wordAt, numberAt, magnitudeAt, followed, callOfCode, Named, lineIn};
+ghost use Rattle.reader.specs.Reads.{wordAt, numberAt, magnitudeAt, followed, callOfCode, Named, lineFor, lineIn};
 
 // A number with the place behind it, or a word that is none.
 pub enum Number {
@@ -199,7 +199,7 @@ fn read_name(line: &[u8]) -> Name
 // ---- lines
 
 fn unreadable() -> Line
-    ensures { λ r. ⌜ lineIn r ≡ none ⌝ }
+    ensures { λ r. ⌜ r ≡ lineFor none ⌝ }
 {
     Line {
         op: 0,
@@ -213,7 +213,7 @@ fn unreadable() -> Line
 }
 
 pub fn read_line(line: &[u8]) -> Line
-    ensures { λ r. ⌜ lineIn r ≡ lineCall (now (line .entry)) ⌝ }
+    ensures { λ r. ⌜ (lineIn r ≡ lineCall (now (line .entry))) × (r ≡ lineFor (lineCall (now (line .entry)))) ⌝ }
 {
     let name = read_name(line);
     let op = name.op;

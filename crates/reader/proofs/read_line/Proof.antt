@@ -1,9 +1,10 @@
-use Prim.Native.Nat.{ℕ, _-_, _<_, _≤_}
-use mathlib.Core.List.{List}
-use lib.ListN.{replicate, getD, length}
-use Rattle.reader.specs.declared.Line.{Line}
+use borrow.Author.Tests.{ltb-true, ltb-false}
+use lib.Dec.{ltb}
+use lib.ListN.{getD-replicate, List·getD-eq-default, replicate, length}
+use Rattle.protocol.proofs.Laws.{cases}
+use Rattle.reader.proofs.Calls.{Padded, unread, line-from, op-most, found-further, Listing, listing-begin, listing-unread, listing-next, listing-many, listing-few, listing-all, unnamed, taken-most}
+use Prim.Native.Nat.{_-_, _<_, _≤_}
 use Rattle.reader.specs.Reads.{lineIn, wordAt, takenBy}
-use Rattle.reader.proofs.Calls.{lineFrom, op-most, found-further, Listing, listing-begin, listing-unread, listing-next, listing-many, listing-few, listing-all, unnamed, taken-most}
 use mir.Syntax.{w32}
 use mir.Val.{SFits}
 use mir.Facts.{toZ-ofZ}
@@ -20,12 +21,14 @@ use Rattle.reader.proofs.read_name.Reads as read-name-reads
 use Rattle.reader.proofs.read_number.Reads as read-number-reads
 use Rattle.reader.proofs.unreadable.Reads as unreadable-reads
 
-line-from : (op : ℕ) (xs : List ℤ) (a b c d e f : ℤ) → a ≡ getD xs 0 (pos 0) → b ≡ getD xs 1 (pos 0) → c ≡ getD xs 2 (pos 0) → d ≡ getD xs 3 (pos 0) → e ≡ getD xs 4 (pos 0) → f ≡ getD xs 5 (pos 0)
-    → _≡_ {A = Line} (record { op = op; a = a; b = b; c = c; d = d; e = e; f = f }) (lineFrom op xs)
-line-from op xs a b c d e f p q r s t u = rw (p, q, r, s, t, u)
-
 fits : (z : ℤ) → mag z < 2147483648 → SFits w32 z
 fits z h = record { sfits = h }
+
+-- the numbers are 0 at first
+nought : Padded 0 (replicate 6 (pos 0))
+nought j h = cases (ltb j 6)
+    (λ t. getD-replicate 6 j (pos 0) (pos 0) (ltb-true j 6 t))
+    (λ t. List·getD-eq-default (replicate 6 (pos 0)) (pos 0) {n = j} (ltb-false j 6 t))
 
 abbrev Inv-loop : tie.InvT-loop
 Inv-loop line op count xs₀ k₀ at₀ xs k at = (op ≤ 14) × (0 < op) × (count ≡ takenBy op) × Listing line op k xs at
@@ -41,7 +44,7 @@ unreadable-requires c κs = search needs
 
 returns : tie.Need-returns Inv-loop μ-loop
 returns c =
-    c .unreadable .ensures ∙ sym (unnamed (c .before .before .before .before .args .line .now) (sym (c .before .before .read-name .ensures .op) ∙ (c .before .if1 .taken)))
+    unread _ _ (c .unreadable .ensures) (sym (unnamed (c .before .before .before .before .args .line .now) (sym (c .before .before .read-name .ensures .op) ∙ (c .before .if1 .taken))))
 
 loop-holds : tie.Need-loop-holds Inv-loop μ-loop
 loop-holds c =
@@ -49,7 +52,7 @@ loop-holds c =
     let op = (c .before .read-name .result .op) in
     let m = op-most (wordAt (c .before .before .before .args .line .now) 0) in
     let p : 0 < op = omega (arith, (c .if1 .left)) in
-    (omega (arith, n .op), p, n .count, listing-begin (c .before .before .before .args .line .now) op (c .before .read-name .result .end) (replicate 6 (pos 0)) refl (n .op) (n .end (c .if1 .left)))
+    (omega (arith, n .op), p, n .count, listing-begin (c .before .before .before .args .line .now) op (c .before .read-name .result .end) (replicate 6 (pos 0)) refl nought (n .op) (n .end (c .if1 .left)))
 
 add-read-number : tie.Need-add-read-number Inv-loop μ-loop
 add-read-number c = omega arith
@@ -68,14 +71,14 @@ unreadable-requires-2 c κs = search needs
 
 returns-2 : tie.Need-returns-2 Inv-loop μ-loop
 returns-2 c =
-    c .unreadable2 .ensures ∙ listing-unread _ _ _ _ _ (c .before .before .before .before .before .loop .inv .3) (omega arith) (sym (c .before .before .before .read-number .ensures) ∙ (c .before .enum-told .given .1))
+    unread _ _ (c .unreadable2 .ensures) (listing-unread _ _ _ _ _ (c .before .before .before .before .before .loop .inv .3) (omega arith) (sym (c .before .before .before .read-number .ensures) ∙ (c .before .enum-told .given .1)))
 
 unreadable-requires-3 : tie.Need-unreadable-requires-3 Inv-loop μ-loop
 unreadable-requires-3 c κs = search needs
 
 returns-3 : tie.Need-returns-3 Inv-loop μ-loop
 returns-3 c =
-    c .unreadable3 .ensures ∙ listing-many _ _ _ _ _ (c .before .before .before .before .before .before .before .loop .inv .3) _ _ (omega arith) (sym (c .before .before .before .before .before .read-number .ensures) ∙ (c .before .before .before .n .given .1)) ((c .before .if2 .taken) ∙ (c .before .before .before .before .before .before .before .loop .inv .2))
+    unread _ _ (c .unreadable3 .ensures) (listing-many _ _ _ _ _ (c .before .before .before .before .before .before .before .loop .inv .3) _ _ (omega arith) (sym (c .before .before .before .before .before .read-number .ensures) ∙ (c .before .before .before .n .given .1)) ((c .before .if2 .taken) ∙ (c .before .before .before .before .before .before .before .loop .inv .2)))
 
 mul-xs : tie.Need-mul-xs Inv-loop μ-loop
 mul-xs c =
@@ -109,7 +112,7 @@ unreadable-requires-4 c κs = search needs
 
 returns-4 : tie.Need-returns-4 Inv-loop μ-loop
 returns-4 c =
-    c .unreadable4 .ensures ∙ listing-few (c .before .before .before .before .before .before .before .args .line .now) _ _ _ (c .before .before .before .loop .at) (c .before .before .before .loop .inv .3) (omega arith) (λ e. (c .before .if3 .taken) (e ∙ sym (c .before .before .before .loop .inv .2)))
+    unread _ _ (c .unreadable4 .ensures) (listing-few (c .before .before .before .before .before .before .before .args .line .now) _ _ _ (c .before .before .before .loop .at) (c .before .before .before .loop .inv .3) (omega arith) (λ e. (c .before .if3 .taken) (e ∙ sym (c .before .before .before .loop .inv .2))))
 
 array-copy-out-a : tie.Need-array-copy-out-a Inv-loop μ-loop
 array-copy-out-a c = omega arith
@@ -131,8 +134,9 @@ array-copy-out-f c = omega arith
 
 returns-5 : tie.Need-returns-5 Inv-loop μ-loop
 returns-5 c =
-    ap lineIn (line-from (c .before .before .before .before .before .before .before .before .before .before .read-name .result .op) (c .before .before .before .before .before .before .before .before .loop .xs) _ _ _ _ _ _ (toZ-ofZ (fits _ (c .before .before .before .before .before .a .given))) (toZ-ofZ (fits _ (c .before .before .before .before .b .given))) (toZ-ofZ (fits _ (c .before .before .before .c .given))) (toZ-ofZ (fits _ (c .before .before .d .given))) (toZ-ofZ (fits _ (c .before .e .given))) (toZ-ofZ (fits _ (c .f .given))))
-    ∙ listing-all (c .before .before .before .before .before .before .before .before .before .before .before .before .args .line .now) _ _ _ (c .before .before .before .before .before .before .before .before .loop .at) (c .before .before .before .before .before .before .before .before .loop .inv .3) (omega arith) ((c .before .before .before .before .before .before .if3 .left) ∙ (c .before .before .before .before .before .before .before .before .loop .inv .2)) (c .before .before .before .before .before .before .before .before .loop .inv .1) (c .before .before .before .before .before .before .before .before .loop .inv .0)
+    let e = line-from (c .before .before .before .before .before .before .before .before .before .before .read-name .result .op) (c .before .before .before .before .before .before .before .before .loop .xs) _ _ _ _ _ _ (toZ-ofZ (fits _ (c .before .before .before .before .before .a .given))) (toZ-ofZ (fits _ (c .before .before .before .before .b .given))) (toZ-ofZ (fits _ (c .before .before .before .c .given))) (toZ-ofZ (fits _ (c .before .before .d .given))) (toZ-ofZ (fits _ (c .before .e .given))) (toZ-ofZ (fits _ (c .f .given))) in
+    let r = listing-all (c .before .before .before .before .before .before .before .before .before .before .before .before .args .line .now) _ _ _ (c .before .before .before .before .before .before .before .before .loop .at) (c .before .before .before .before .before .before .before .before .loop .inv .3) (omega arith) ((c .before .before .before .before .before .before .if3 .left) ∙ (c .before .before .before .before .before .before .before .before .loop .inv .2)) (c .before .before .before .before .before .before .before .before .loop .inv .1) (c .before .before .before .before .before .before .before .before .loop .inv .0) in
+    (ap lineIn e ∙ r .0, e ∙ r .1)
 
 pub read-line-spec : {M : Type 1} → statement M
 read-line-spec =
