@@ -5,7 +5,7 @@ ghost use mathlib.Core.Option.{none};
 ghost use lib.ListN.{length, drop};
 ghost use Rattle.format.specs.Lines.{lineFeed, lineCall};
 ghost use Rattle.reader.specs.Cut.{upTo};
-ghost use Rattle.reader.specs.Reads.{wordAt, numberAt, magnitudeAt, followed, callOfCode, Named, lineFor, lineIn};
+ghost use Rattle.reader.specs.Reads.{wordAt, numberAt, magnitudeAt, followed, callOfCode, Named, lineFrom, lineFor, lineIn};
 
 // A number with the place behind it, or a word that is none.
 pub enum Number {
@@ -163,6 +163,7 @@ fn call_of(code: u64) -> Call
     }
 }
 
+// The call of a line's first word. A word longer than any name is not read on.
 fn read_name(line: &[u8]) -> Name
     ensures { λ r. ⌜ Named (now (line .entry)) r ⌝ }
 {
@@ -212,6 +213,27 @@ fn unreadable() -> Line
     }
 }
 
+fn line_of(op: u32, xs: [i32; 6]) -> Line
+    ensures { λ r. ⌜ r ≡ lineFrom op xs ⌝ }
+{
+    let a = xs[0];
+    let b = xs[1];
+    let c = xs[2];
+    let d = xs[3];
+    let e = xs[4];
+    let f = xs[5];
+    Line {
+        op,
+        a,
+        b,
+        c,
+        d,
+        e,
+        f,
+    }
+}
+
+// The call that a line asks for. A word that is no number ends it at once (01: "ends its line at once with 51"), and so does a number too many.
 pub fn read_line(line: &[u8]) -> Line
     ensures { λ r. ⌜ (lineIn r ≡ lineCall (now (line .entry))) × (r ≡ lineFor (lineCall (now (line .entry)))) ⌝ }
 {
@@ -239,19 +261,5 @@ pub fn read_line(line: &[u8]) -> Line
     if k != count {
         return unreadable();
     }
-    let a = xs[0];
-    let b = xs[1];
-    let c = xs[2];
-    let d = xs[3];
-    let e = xs[4];
-    let f = xs[5];
-    Line {
-        op,
-        a,
-        b,
-        c,
-        d,
-        e,
-        f,
-    }
+    line_of(op, xs)
 }

@@ -2,7 +2,7 @@ use borrow.Author.Tests.{ltb-true, ltb-false}
 use lib.Dec.{ltb}
 use lib.ListN.{getD-replicate, List·getD-eq-default, replicate, length}
 use Rattle.protocol.proofs.Laws.{cases}
-use Rattle.reader.proofs.Calls.{Padded, unread, line-from, op-most, found-further, Listing, listing-begin, listing-unread, listing-next, listing-many, listing-few, listing-all, unnamed, taken-most}
+use Rattle.reader.proofs.Calls.{Padded, unread, op-most, found-further, Listing, listing-begin, listing-unread, listing-next, listing-many, listing-few, listing-all, unnamed, taken-most}
 use Prim.Native.Nat.{_-_, _<_, _≤_}
 use Rattle.reader.specs.Reads.{lineIn, wordAt, takenBy}
 use mir.Syntax.{w32}
@@ -17,6 +17,7 @@ use Rattle.reader.proofs.read_line.Statement.{statement}
 use Rattle.reader.proofs.read_line.Tie as tie
 use Rattle.reader.proofs.read_line.Reads as reads
 use Rattle.reader.proofs.read_line.Lts as lts
+use Rattle.reader.proofs.line_of.Reads as line-of-reads
 use Rattle.reader.proofs.read_name.Reads as read-name-reads
 use Rattle.reader.proofs.read_number.Reads as read-number-reads
 use Rattle.reader.proofs.unreadable.Reads as unreadable-reads
@@ -114,29 +115,14 @@ returns-4 : tie.Need-returns-4 Inv-loop μ-loop
 returns-4 c =
     unread _ _ (c .unreadable4 .ensures) (listing-few (c .before .before .before .before .before .before .before .args .line .now) _ _ _ (c .before .before .before .loop .at) (c .before .before .before .loop .inv .3) (omega arith) (λ e. (c .before .if3 .taken) (e ∙ sym (c .before .before .before .loop .inv .2))))
 
-array-copy-out-a : tie.Need-array-copy-out-a Inv-loop μ-loop
-array-copy-out-a c = omega arith
-
-array-copy-out-b : tie.Need-array-copy-out-b Inv-loop μ-loop
-array-copy-out-b c = omega arith
-
-array-copy-out-c : tie.Need-array-copy-out-c Inv-loop μ-loop
-array-copy-out-c c = omega arith
-
-array-copy-out-d : tie.Need-array-copy-out-d Inv-loop μ-loop
-array-copy-out-d c = omega arith
-
-array-copy-out-e : tie.Need-array-copy-out-e Inv-loop μ-loop
-array-copy-out-e c = omega arith
-
-array-copy-out-f : tie.Need-array-copy-out-f Inv-loop μ-loop
-array-copy-out-f c = omega arith
+line-of-requires : tie.Need-line-of-requires Inv-loop μ-loop
+line-of-requires c κs = search needs
 
 returns-5 : tie.Need-returns-5 Inv-loop μ-loop
 returns-5 c =
-    let e = line-from (c .before .before .before .before .before .before .before .before .before .before .read-name .result .op) (c .before .before .before .before .before .before .before .before .loop .xs) _ _ _ _ _ _ (toZ-ofZ (fits _ (c .before .before .before .before .before .a .given))) (toZ-ofZ (fits _ (c .before .before .before .before .b .given))) (toZ-ofZ (fits _ (c .before .before .before .c .given))) (toZ-ofZ (fits _ (c .before .before .d .given))) (toZ-ofZ (fits _ (c .before .e .given))) (toZ-ofZ (fits _ (c .f .given))) in
-    let r = listing-all (c .before .before .before .before .before .before .before .before .before .before .before .before .args .line .now) _ _ _ (c .before .before .before .before .before .before .before .before .loop .at) (c .before .before .before .before .before .before .before .before .loop .inv .3) (omega arith) ((c .before .before .before .before .before .before .if3 .left) ∙ (c .before .before .before .before .before .before .before .before .loop .inv .2)) (c .before .before .before .before .before .before .before .before .loop .inv .1) (c .before .before .before .before .before .before .before .before .loop .inv .0) in
-    (ap lineIn e ∙ r .0, e ∙ r .1)
+    let l = c .before .before .before .loop in
+    let r = listing-all (c .before .before .before .before .before .before .before .args .line .now) _ _ _ (l .at) (l .inv .3) (omega arith) (c .before .if3 .left ∙ l .inv .2) (l .inv .1) (l .inv .0) in
+    (ap lineIn (c .line-of .ensures) ∙ r .0, c .line-of .ensures ∙ r .1)
 
 pub read-line-spec : {M : Type 1} → statement M
 read-line-spec =
@@ -163,10 +149,5 @@ read-line-spec =
     loop-again
     unreadable-requires-4
     returns-4
-    array-copy-out-a
-    array-copy-out-b
-    array-copy-out-c
-    array-copy-out-d
-    array-copy-out-e
-    array-copy-out-f
+    line-of-requires
     returns-5)
