@@ -18,6 +18,7 @@ abbrev pub withRow : model.Answer → List ℤ → model.Answer
 withRow (model.no k) row = model.no k
 withRow (model.ok xs) row = model.ok (xs ++ row)
 
+-- the bytes of the answer line
 unfoldable pub lineOf : Answer → List ℤ → List ℕ
 unfolding text
 lineOf answer row = text (withRow (answerOf answer) row)
