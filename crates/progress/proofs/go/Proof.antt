@@ -63,6 +63,8 @@ use Rattle.heads.proofs.mode_number.Reads as mode-number-reads
 use Rattle.heads.proofs.place.Reads as place-reads
 use Rattle.heads.proofs.position.Reads as position-reads
 use Rattle.heads.proofs.unset.Reads as unset-reads
+use Rattle.progress.proofs.moved_op.Reads as moved-op-reads
+use Rattle.progress.proofs.only_reads.Reads as only-reads-reads
 use Rattle.reader.proofs.line_end.Reads as line-end-reads
 use Rattle.reader.proofs.read_line.Reads as read-line-reads
 use Rattle.reads.proofs.read.Reads as read-reads
@@ -71,8 +73,6 @@ use Rattle.replay.proofs.point.Reads as point-reads
 use Rattle.rows.proofs.capped.Reads as capped-reads
 use Rattle.ruling.proofs.decide_edit.Reads as decide-edit-reads
 use Rattle.settling.proofs.decide_replay.Reads as decide-replay-reads
-use Rattle.progress.proofs.moved_op.Reads as moved-op-reads
-use Rattle.progress.proofs.only_reads.Reads as only-reads-reads
 use Rattle.tally.proofs.tallied.Reads as tallied-reads
 use Rattle.writer.proofs.put.Reads as put-reads
 
@@ -151,7 +151,7 @@ call-is c =
     let i = (c .before .before .before .before .before .before .loop .i) in
     let bs = (c .before .before .before .before .before .before .before .before .before .args .sheet .now) in
     let n : (c .before .before .before .line-end .result) - i ≡ length (line (c .before .before .before)) = (let e = end-is (c .before .before .before) in omega (arith, e)) in
-    (c .before .read-line .ensures) ∙ ap lineCall (ap (λ k. take k (drop i bs)) n ∙ take-upTo lineFeed (drop i bs))
+    (c .before .read-line .ensures .0) ∙ ap lineCall (ap (λ k. take k (drop i bs)) n ∙ take-upTo lineFeed (drop i bs))
 
 -- ---- an edit
 

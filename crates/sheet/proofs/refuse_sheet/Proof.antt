@@ -1,3 +1,5 @@
+use native.Mathlib.Omega.{arith}
+use Rattle.sheet.proofs.Runs.{six-most, alone-unfit, alone-fit}
 use borrow.Author.Needs.{needs}
 use Rattle.sheet.proofs.refuse_sheet.Statement.{statement}
 use Rattle.sheet.proofs.refuse_sheet.Tie as tie
@@ -28,16 +30,19 @@ same-length : tie.Need-same-length
 same-length c = search needs
 
 returns : tie.Need-returns
-returns c = ?
+returns c =
+    alone-unfit ((c .before .before .before .before .before .before .before .before .before .args .area .now)) _ _ _ ((c .before .before .before .before .put .ensures .0)) ((c .before .before .before .before .put .ensures .1)) _ ((c .before .if1 .taken)) ((c .handed .ensures))
 
 handed-requires-2 : tie.Need-handed-requires-2
-handed-requires-2 c κs = ?
+handed-requires-2 c κs =
+    let m = six-most ((c .before .before .before .before .before .before .before .before .args .area .now)) _ _ _ ((c .before .before .before .put .ensures .0)) ((c .before .before .before .put .ensures .1)) in omega (arith, m)
 
 same-length-2 : tie.Need-same-length-2
 same-length-2 c = search needs
 
 returns-2 : tie.Need-returns-2
-returns-2 c = ?
+returns-2 c =
+    alone-fit ((c .before .before .before .before .before .before .before .before .before .args .area .now)) _ _ _ ((c .before .before .before .before .put .ensures .0)) ((c .before .before .before .before .put .ensures .1)) _ ((c .before .if1 .left)) ((c .handed2 .ensures))
 
 pub refuse-sheet-spec : {M : Type 1} → statement M
 refuse-sheet-spec =
