@@ -1,9 +1,12 @@
 // The calls that part a plan into sides and begin to join it: split, join (01, "The calls").
-// A call's read-only check, on what is lent to it, can be used by a caller that owns the state too.
+// Each is made on the frame of a state; a caller that owns a state does so without its kept edits.
 ghost use mathlib.Core.Path.{_≡_};
 ghost use Rattle.protocol.specs.Calls.{split-side, join, first};
 ghost use Rattle.state.specs.Meets.{Meets, refusalOf};
+ghost use Rattle.frames.specs.Frames.{Anything, Moves};
 ghost use Rattle.part.specs.Parting.{splitChecks, splitHead, joinHead, splitBase};
+use frames::Frame;
+use frames::Moved;
 use heads::Head;
 use heads::Mode;
 use state::Answer;
@@ -96,58 +99,74 @@ fn split_base(h: Head, base: [i32; 32], values: &[i32; 256]) -> [i32; 32]
     base
 }
 
-// ---- the calls
+// ---- the calls, on a frame and on a state
 
-pub fn split(p: State, s: i32) -> Answered
-    ensures { λ r. ⌜ Meets (split-side s) p r ⌝ }
+pub fn split_frame(f: Frame, s: i32) -> Moved
+    ensures { λ r. ⌜ Moves (split-side s) f Anything r ⌝ }
 {
-    let h = p.head;
+    let h = f.head;
     let from = exact::number(s);
     let k = split_refusal(h, from);
     if k != 0 {
-        return state::refuse(p, k);
+        return frames::refuse(f, k);
     }
     let n = heads::side_count(h);
     let to = n as u32 + 1;
     let head = split_head(h);
-    let old = p.base;
-    let base = split_base(h, old, &p.values);
-    let mut rows = p.values;
+    let old = f.base;
+    let base = split_base(h, old, &f.values);
+    let mut rows = f.values;
     rows::copy(
         &mut rows,
-        &p.values,
+        &f.values,
         heads::offset(from),
         heads::offset(to),
         32,
     );
     let i = heads::index(to);
-    let mut q = p;
-    q.head = head;
-    q.base = base;
-    q.values = rows;
-    q.arrived[i] = false;
-    q.confirmed[i] = false;
+    let mut g = f;
+    g.head = head;
+    g.base = base;
+    g.values = rows;
+    g.arrived[i] = false;
+    g.confirmed[i] = false;
     let answer = Answer::Number(to);
-    Answered { state: q, answer }
+    Moved { frame: g, answer }
+}
+
+pub fn join_frame(f: Frame) -> Moved
+    ensures { λ r. ⌜ Moves join f Anything r ⌝ }
+{
+    let h = f.head;
+    let mode = h.mode;
+    if heads::mode_number(mode) != 2 {
+        return frames::refuse(f, 31);
+    }
+    let head = join_head(h);
+    let draft = f.base;
+    let arrived = [false; 8];
+    let confirmed = [false; 8];
+    let mut g = f;
+    g.head = head;
+    g.draft = draft;
+    g.arrived = arrived;
+    g.confirmed = confirmed;
+    let answer = Answer::Done;
+    Moved { frame: g, answer }
+}
+
+pub fn split(p: State, s: i32) -> Answered
+    ensures { λ r. ⌜ Meets (split-side s) p r ⌝ }
+{
+    let f = frames::frame_of(p);
+    let m = split_frame(f, s);
+    frames::placed(p, m)
 }
 
 pub fn join(p: State) -> Answered
     ensures { λ r. ⌜ Meets join p r ⌝ }
 {
-    let h = p.head;
-    let mode = h.mode;
-    if heads::mode_number(mode) != 2 {
-        return state::refuse(p, 31);
-    }
-    let head = join_head(h);
-    let draft = p.base;
-    let arrived = [false; 8];
-    let confirmed = [false; 8];
-    let mut q = p;
-    q.head = head;
-    q.draft = draft;
-    q.arrived = arrived;
-    q.confirmed = confirmed;
-    let answer = Answer::Done;
-    Answered { state: q, answer }
+    let f = frames::frame_of(p);
+    let m = join_frame(f);
+    frames::placed(p, m)
 }

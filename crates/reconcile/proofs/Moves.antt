@@ -58,14 +58,14 @@ module _ (p : State) {k missing waiting : ℕ} (w : waiting ≡ waitingIn p) whe
   unfolding checks further
   install-checked u e = turn-checked install p 4 40 (λ x. x .confirmed) (p .confirmed) (λ s. refl) refl w u e
 
--- send and confirm, from the side's number, its place and the edits that it has unsent
+abbrev unsentBy : State → ℤ → ℕ
+unsentBy p s = unsentOf (natural s) (view p .content .kept)
+
+-- send and confirm, from the side's number, its place and, if there is such a side, the edits that it has unsent
 pub record Named (p : State) (s : ℤ) (side i n : ℕ) : Type 0 where
   pub number : side ≡ natural s
   pub place : i ≡ indexOf side
-  pub unsent : n ≡ unsentOf side (view p .content .kept)
-
-abbrev unsentBy : State → ℤ → ℕ
-unsentBy p s = unsentOf (natural s) (view p .content .kept)
+  pub unsent : T (oneTo (sidesIn (p .head)) (natural s)) → n ≡ unsentBy p s
 
 abbrev named : Bool → ℕ → ℕ → List Check → List Check
 named b k s cs = (31 unless b) ∷ (21 unless oneTo k s) ∷ cs
@@ -80,14 +80,14 @@ module _ (c : Call) (p : State) (s : ℤ) (b : Bool) (flag : Side → Bool) (fla
       → first (checks c (view p)) ≡ first (named b (length (view p .content .sides)) (natural s) (f (flag (sideAt (view p .content) (natural s))) (unsentBy p s)))
       → {side i n k : ℕ} → Named p s side i n → k ≡ refusalOf (first (named b (sidesIn (p .head)) side (f (getD flags i false) n)))
       → Checked c p (named b (sidesIn (p .head)) (natural s) (f (getD flags (indexOf (natural s)) false) (unsentBy p s))) k
-  named-checked h same {side = side} w e = record {
+  named-checked h same {n = n} w e = record {
     same =
         same ∙ ap (λ n. first (named b n (natural s) (f (flag (sideAt (view p .content) (natural s))) (unsentBy p s)))) (sides-length p)
         ∙ ap (λ v. cond b v (refused 31)) (if-true (oneTo (sidesIn (p .head)) (natural s)) _ _ (refused 21)
         (λ t. let r = range (sidesIn (p .head)) (natural s) (is-yes t) in ap (λ x. first (f x (unsentBy p s))) (ap flag (side-at p (natural s) (r .0) (r .1)) ∙ h (natural s))));
     found =
-        e ∙ ap₂ (λ x y. refusalOf (first (named b (sidesIn (p .head)) side (f (getD flags x false) y)))) (w .place) (w .unsent)
-        ∙ ap (λ x. refusalOf (first (named b (sidesIn (p .head)) x (f (getD flags (indexOf x) false) (unsentOf x (view p .content .kept)))))) (w .number);
+        e ∙ ap₂ (λ x y. refusalOf (first (named b (sidesIn (p .head)) x (f (getD flags y false) n)))) (w .number) (w .place ∙ ap indexOf (w .number))
+        ∙ ap (λ v. refusalOf (cond b v (refused 31))) (if-true (oneTo (sidesIn (p .head)) (natural s)) _ _ (refused 21) (λ t. ap (λ y. first (f (getD flags (indexOf (natural s)) false) y)) (w .unsent (is-yes t))));
   }
 
 abbrev pub confirming : State → ℤ → List Check
@@ -155,7 +155,7 @@ pub send-accepts : (p : State) (s : ℤ) {side i n k : ℕ} → Named p s side i
 unfolding after gives
 send-accepts p s w e es f l z =
     rw (at-place w) (accepts _ e tt z
-    (λ t. ap (λ x. ok (pos x ∷ [])) (w .unsent ∙ ap (λ x. unsentOf x (view p .content .kept)) (w .number)))
+    (λ t. ap (λ x. ok (pos x ∷ [])) (w .unsent (t .1 .0)))
     (λ t. plan-same refl refl refl refl refl
     (flag-sides (p .head) (natural s) (p .arrived) (λ x b. record { values = sideOf p x .values; arrived = b; confirmed = sideOf p x .confirmed }) hasArrived (t .1 .0) l (λ x b. refl))
     (f ∙ ap (λ x. map (sent x) (keptOf (p .head) (p .edits))) (w .number)))

@@ -1,92 +1,152 @@
 // The calls of a join under way, but for replay: send, stop, confirm, install (01, "The calls").
-// Each has a read-only check on what is lent to it, which a caller that owns the state can use too.
+// Each is made on a part of a state, with the counts of kept edits that it asks for: stop, confirm and install on its frame, send on its
+// kept edits. A caller that owns a state does so with counts of its own.
+ghost use Prim.Native.Nat.{ℕ};
+ghost use mathlib.Core.Path.{_≡_};
+ghost use Rattle.protocol.specs.Lists.{natural};
 ghost use Rattle.protocol.specs.Calls.{send, stop, confirm, install};
 ghost use Rattle.state.specs.Meets.{Meets};
+ghost use Rattle.frames.specs.Frames.{Waiting, Unsent, Moves};
+ghost use Rattle.reconcile.specs.Sends.{Sends};
+use frames::Frame;
+use frames::Moved;
+use heads::Head;
 use heads::Mode;
+use records::EditRecord;
 use records::Test;
 use state::Answer;
 use state::Answered;
 use state::State;
 
-// ---- the calls
+// ---- the calls on a part of a state
+
+pub fn stop_frame(f: Frame, waiting: u32) -> Moved
+    ensures { λ r. ⌜ Moves stop f (Waiting f waiting) r ⌝ }
+{
+    let h = f.head;
+    let missing = heads::unset(&f.arrived, h);
+    let k = turns::stop_refusal(h, missing, waiting);
+    if k != 0 {
+        return frames::refuse(f, k);
+    }
+    let head = turns::in_mode(h, Mode::Closing);
+    let mut g = f;
+    g.head = head;
+    let answer = Answer::Done;
+    Moved { frame: g, answer }
+}
+
+pub fn confirm_frame(f: Frame, s: i32, unsent: u32) -> Moved
+    ensures { λ r. ⌜ Moves (confirm s) f (Unsent f (natural s) unsent) r ⌝ }
+{
+    let h = f.head;
+    let side = exact::number(s);
+    let i = heads::index(side);
+    let confirmed = f.confirmed[i];
+    let k = turns::confirm_refusal(h, side, confirmed, unsent);
+    if k != 0 {
+        return frames::refuse(f, k);
+    }
+    let mut g = f;
+    g.confirmed[i] = true;
+    let answer = Answer::Done;
+    Moved { frame: g, answer }
+}
+
+pub fn install_frame(f: Frame, waiting: u32) -> Moved
+    ensures { λ r. ⌜ Moves install f (Waiting f waiting) r ⌝ }
+{
+    let h = f.head;
+    let missing = heads::unset(&f.confirmed, h);
+    let k = turns::install_refusal(h, missing, waiting);
+    if k != 0 {
+        return frames::refuse(f, k);
+    }
+    let head = turns::install_head(h);
+    let mut rows = f.values;
+    rows::copy(&mut rows, &f.draft, 0, 0, 32);
+    let mut g = f;
+    g.head = head;
+    g.values = rows;
+    g.arrived[0] = false;
+    g.confirmed[0] = false;
+    let answer = Answer::Done;
+    Moved { frame: g, answer }
+}
+
+// What send makes of the kept edits and of its side's flag, and its answer.
+pub struct Sent {
+    pub edits: [EditRecord; 256],
+    pub arrived: bool,
+    pub answer: Answer,
+}
+
+pub fn send_edits(edits: [EditRecord; 256], h: Head, s: i32, arrived: bool, unsent: u32) -> Sent
+    ensures { λ r. ⌜ Sends s h edits arrived unsent r ⌝ }
+{
+    let side = exact::number(s);
+    let k = turns::send_refusal(h, side, arrived, unsent);
+    if k != 0 {
+        let answer = Answer::Refused(k);
+        return Sent {
+            edits,
+            arrived,
+            answer,
+        };
+    }
+    let next = turns::mark_sent(edits, h, side);
+    let answer = Answer::Number(unsent);
+    Sent {
+        edits: next,
+        arrived: true,
+        answer,
+    }
+}
+
+// ---- the calls on a state
 
 pub fn send(p: State, s: i32) -> Answered
     ensures { λ r. ⌜ Meets (send s) p r ⌝ }
 {
     let h = p.head;
-    let side = exact::number(s);
     let edits = p.edits;
+    let side = exact::number(s);
     let n = records::count(edits, h, Test::UnsentOf(side));
     let i = heads::index(side);
-    let arrived = p.arrived[i];
-    let k = turns::send_refusal(h, side, arrived, n);
-    if k != 0 {
-        return state::refuse(p, k);
-    }
-    let next = turns::mark_sent(edits, h, side);
+    let flag = p.arrived[i];
+    let r = send_edits(edits, h, s, flag, n);
+    let next = r.edits;
+    let arrived = r.arrived;
+    let answer = r.answer;
     let mut q = p;
     q.edits = next;
-    q.arrived[i] = true;
-    let answer = Answer::Number(n);
+    q.arrived[i] = arrived;
     Answered { state: q, answer }
 }
 
 pub fn stop(p: State) -> Answered
     ensures { λ r. ⌜ Meets stop p r ⌝ }
 {
-    let h = p.head;
     let edits = p.edits;
-    let waiting = records::count(edits, h, Test::Waiting);
-    let missing = heads::unset(&p.arrived, h);
-    let k = turns::stop_refusal(h, missing, waiting);
-    if k != 0 {
-        return state::refuse(p, k);
-    }
-    let head = turns::in_mode(h, Mode::Closing);
-    let mut q = p;
-    q.head = head;
-    let answer = Answer::Done;
-    Answered { state: q, answer }
+    let waiting = records::count(edits, p.head, Test::Waiting);
+    let m = stop_frame(frames::frame_of(p), waiting);
+    frames::placed(p, m)
 }
 
 pub fn confirm(p: State, s: i32) -> Answered
     ensures { λ r. ⌜ Meets (confirm s) p r ⌝ }
 {
-    let h = p.head;
-    let side = exact::number(s);
     let edits = p.edits;
-    let n = records::count(edits, h, Test::UnsentOf(side));
-    let i = heads::index(side);
-    let confirmed = p.confirmed[i];
-    let k = turns::confirm_refusal(h, side, confirmed, n);
-    if k != 0 {
-        return state::refuse(p, k);
-    }
-    let mut q = p;
-    q.confirmed[i] = true;
-    let answer = Answer::Done;
-    Answered { state: q, answer }
+    let n = records::count(edits, p.head, Test::UnsentOf(exact::number(s)));
+    let m = confirm_frame(frames::frame_of(p), s, n);
+    frames::placed(p, m)
 }
 
 pub fn install(p: State) -> Answered
     ensures { λ r. ⌜ Meets install p r ⌝ }
 {
-    let h = p.head;
     let edits = p.edits;
-    let waiting = records::count(edits, h, Test::Waiting);
-    let missing = heads::unset(&p.confirmed, h);
-    let k = turns::install_refusal(h, missing, waiting);
-    if k != 0 {
-        return state::refuse(p, k);
-    }
-    let head = turns::install_head(h);
-    let mut rows = p.values;
-    rows::copy(&mut rows, &p.draft, 0, 0, 32);
-    let mut q = p;
-    q.head = head;
-    q.values = rows;
-    q.arrived[0] = false;
-    q.confirmed[0] = false;
-    let answer = Answer::Done;
-    Answered { state: q, answer }
+    let waiting = records::count(edits, p.head, Test::Waiting);
+    let m = install_frame(frames::frame_of(p), waiting);
+    frames::placed(p, m)
 }
