@@ -1,10 +1,15 @@
-// The calls that are rare on a sheet, made by value: which one, by its number in the order of 01.
-ghost use Rattle.dispatch.specs.Rare.{drawCall, joinCall, rareCall, Performs};
+// Calls chosen by their number in the order of 01: those that draw up a plan, made by value, and those that part it and join it again,
+// made on its frame.
+ghost use Rattle.protocol.specs.Lists.{natural};
+ghost use Rattle.frames.specs.Frames.{Moves};
+ghost use Rattle.dispatch.specs.Rare.{drawCall, moveCall, Performs, Counts};
+use frames::Frame;
+use frames::Moved;
 use state::Answered;
 use state::State;
 
-// Draws up the plan: measure, rule, open.
-fn draw_up(p: State, op: u32, a: i32, b: i32, c: i32, d: i32) -> Answered
+// measure, rule, open; another number is refused as 51.
+pub fn draw_up(p: State, op: u32, a: i32, b: i32, c: i32, d: i32) -> Answered
     ensures { λ r. ⌜ Performs (drawCall op a b c d) p r ⌝ }
 {
     if op == 1 {
@@ -19,36 +24,21 @@ fn draw_up(p: State, op: u32, a: i32, b: i32, c: i32, d: i32) -> Answered
     state::refuse(p, 51)
 }
 
-// Runs the join, but for replay: send, stop, confirm, install.
-fn run_join(p: State, op: u32, a: i32) -> Answered
-    ensures { λ r. ⌜ Performs (joinCall op a) p r ⌝ }
+// split, join, stop, confirm; another number is install's. From how many edits the side has unsent and how many wait.
+pub fn move_frame(f: Frame, op: u32, a: i32, unsent: u32, waiting: u32) -> Moved
+    ensures { λ r. ⌜ Moves (moveCall op a) f (Counts f (natural a) unsent waiting) r ⌝ }
 {
-    if op == 7 {
-        return reconcile::send(p, a);
-    }
-    if op == 9 {
-        return reconcile::stop(p);
-    }
-    if op == 10 {
-        return reconcile::confirm(p, a);
-    }
-    if op == 11 {
-        return reconcile::install(p);
-    }
-    state::refuse(p, 51)
-}
-
-pub fn perform(p: State, op: u32, a: i32, b: i32, c: i32, d: i32) -> Answered
-    ensures { λ r. ⌜ Performs (rareCall op a b c d) p r ⌝ }
-{
-    if op < 4 {
-        return draw_up(p, op, a, b, c, d);
-    }
     if op == 4 {
-        return part::split(p, a);
+        return part::split_frame(f, a);
     }
     if op == 6 {
-        return part::join(p);
+        return part::join_frame(f);
     }
-    run_join(p, op, a)
+    if op == 9 {
+        return reconcile::stop_frame(f, waiting);
+    }
+    if op == 10 {
+        return reconcile::confirm_frame(f, a, unsent);
+    }
+    reconcile::install_frame(f, waiting)
 }

@@ -7,7 +7,6 @@ use mathlib.Core.Bool.{Bool, true, false, not, cond, _||_}
 use mathlib.Core.List.{List, [], _∷_, _++_}
 use mathlib.Core.Option.{Option, none, some, Option·some-injective, Option·none-ne-some}
 use borrow.Author.Tests.{eqb-true, eqb-false, eq-eqb, ne-eqb, lt-ltb, le-ltb, ltb-true, ltb-false}
-use lib.Arith.{le-zero, le-of-le-suc-ne}
 use lib.Dec.{T, eqb, ltb, leb}
 use lib.IntN.{ℤ, pos}
 use lib.ListN.{length, getD, take, drop}
@@ -33,7 +32,7 @@ use Rattle.state.proofs.Views.{sides-length, sides-most}
 use Rattle.tally.specs.declared.Tallies.{Tallies}
 use Rattle.tally.specs.Tallies.{Counted, tallyAfter, opOf, firstNumber}
 use Rattle.tally.proofs.Counts.{counted-after}
-use Rattle.dispatch.specs.Rare.{drawCall, joinCall, rareCall, Performs}
+use Rattle.dispatch.specs.Rare.{drawCall, moveCall, Performs}
 use Rattle.reads.specs.Readings.{readCall}
 use Rattle.reader.specs.declared.Line.{Line}
 use Rattle.reader.specs.Reads.{lineIn}
@@ -43,14 +42,28 @@ use Rattle.progress.specs.Progress.{movedOp}
 true-false : true ≡ false → ⊥
 true-false e = subst T e tt
 
--- no number up to 11 is left
-none-left : (n : ℕ) → n ≤ 11 → n ≢ 0 → n ≢ 1 → n ≢ 2 → n ≢ 3 → n ≢ 4 → n ≢ 5 → n ≢ 6 → n ≢ 7 → n ≢ 8 → n ≢ 9 → n ≢ 10 → n ≢ 11 → ⊥
-none-left n h z a b c d e f g i j k l =
-    z (le-zero (le-of-le-suc-ne (le-of-le-suc-ne (le-of-le-suc-ne (le-of-le-suc-ne (le-of-le-suc-ne (le-of-le-suc-ne (le-of-le-suc-ne (le-of-le-suc-ne (le-of-le-suc-ne (le-of-le-suc-ne (le-of-le-suc-ne h l) k) j) i) g) f) e) d) c) b) a))
+-- the one number that is left
+last : (n : ℕ) → 3 < n → n ≤ 11 → n ≢ 4 → n ≢ 5 → n ≢ 6 → n ≢ 7 → n ≢ 8 → n ≢ 9 → n ≢ 10 → n ≡ 11
+last n h k a b c d e f g = above n 10 (up (up (up (up (up (up (up h a) b) c) d) e) f) g) k
+  where
+    up : {n k : ℕ} → k < n → n ≢ suc k → suc k < n
+    up {n = n} {k = k} l ne = cases (ltb (suc k) n) (λ t. ltb-true (suc k) n t) (λ t. absurd (ne (let m = ltb-false (suc k) n t in omega (arith, l, m))))
+
+    above : (n k : ℕ) → k < n → n ≤ suc k → n ≡ suc k
+    above n k a b = omega arith
+
+third : (n : ℕ) → n ≤ 3 → n ≢ 0 → n ≢ 1 → n ≢ 2 → n ≡ 3
+third n h a b c = omega arith
 
 -- ---- the call of a line, by its number
 
 module _ (l : Line) where
+  nonzero : (eqb (l .op) 0 || ltb 11 (l .op)) ≡ false → l .op ≢ 0
+  nonzero t e = true-false (sym (rw e) ∙ t)
+
+  small : (eqb (l .op) 0 || ltb 11 (l .op)) ≡ false → l .op ≤ 11
+  small t = ltb-false 11 (l .op) (rw (ne-eqb (l .op) 0 (nonzero t)) at t)
+
   pub line-edit : l .op ≡ 5 → lineIn l ≡ some (edit (l .a) (l .b) (l .c) (l .d) (l .e) (l .f))
   line-edit e = rw e
 
@@ -64,21 +77,26 @@ module _ (l : Line) where
       let off : (k : ℕ) → k ≤ 11 → eqb (l .op) k ≡ false = λ k a. ne-eqb (l .op) k (λ e. omega arith) in
       rw (off 1 (omega arith), off 2 (omega arith), off 3 (omega arith), off 4 (omega arith), off 5 (omega arith), off 6 (omega arith), off 7 (omega arith), off 8 (omega arith), off 9 (omega arith), off 10 (omega arith), off 11 (omega arith)))
 
-  pub line-rare : l .op ≢ 5 → l .op ≢ 8 → (eqb (l .op) 0 || ltb 11 (l .op)) ≡ false → lineIn l ≡ rareCall (l .op) (l .a) (l .b) (l .c) (l .d)
-  line-rare five eight t =
-      let z : eqb (l .op) 0 ≡ false = cases (eqb (l .op) 0) (λ z. absurd (true-false (rw z at t))) (λ z. z) in
-      let h = ltb-false 11 (l .op) (rw z at t) in
-      let v = eqb-false (l .op) 0 z in
+  pub line-send : l .op ≡ 7 → lineIn l ≡ some (send (l .a))
+  line-send e = rw e
+
+  -- what is left above 3 and up to 11
+  pub line-moves : l .op ≢ 5 → l .op ≢ 8 → (eqb (l .op) 0 || ltb 11 (l .op)) ≡ false → l .op ≢ 7 → 3 < l .op → lineIn l ≡ some (moveCall (l .op) (l .a))
+  line-moves five eight t seven h =
+      let k = small t in
+      cases (eqb (l .op) 4) (λ e. rw (eqb-true (l .op) 4 e)) (λ a.
+      cases (eqb (l .op) 6) (λ e. rw (eqb-true (l .op) 6 e)) (λ b.
+      cases (eqb (l .op) 9) (λ e. rw (eqb-true (l .op) 9 e)) (λ c.
+      cases (eqb (l .op) 10) (λ e. rw (eqb-true (l .op) 10 e)) (λ d.
+      let e : l .op ≡ 11 = last (l .op) h k (eqb-false (l .op) 4 a) five (eqb-false (l .op) 6 b) seven eight (eqb-false (l .op) 9 c) (eqb-false (l .op) 10 d) in
+      rw e))))
+
+  pub line-draws : (eqb (l .op) 0 || ltb 11 (l .op)) ≡ false → l .op ≤ 3 → lineIn l ≡ drawCall (l .op) (l .a) (l .b) (l .c) (l .d)
+  line-draws t h =
       cases (eqb (l .op) 1) (λ e. rw (eqb-true (l .op) 1 e)) (λ a.
       cases (eqb (l .op) 2) (λ e. rw (eqb-true (l .op) 2 e)) (λ b.
-      cases (eqb (l .op) 3) (λ e. rw (eqb-true (l .op) 3 e)) (λ c.
-      cases (eqb (l .op) 4) (λ e. rw (eqb-true (l .op) 4 e)) (λ d.
-      cases (eqb (l .op) 6) (λ e. rw (eqb-true (l .op) 6 e)) (λ f.
-      cases (eqb (l .op) 7) (λ e. rw (eqb-true (l .op) 7 e)) (λ g.
-      cases (eqb (l .op) 9) (λ e. rw (eqb-true (l .op) 9 e)) (λ i.
-      cases (eqb (l .op) 10) (λ e. rw (eqb-true (l .op) 10 e)) (λ j.
-      cases (eqb (l .op) 11) (λ e. rw (eqb-true (l .op) 11 e)) (λ k.
-      absurd (none-left (l .op) h v (eqb-false (l .op) 1 a) (eqb-false (l .op) 2 b) (eqb-false (l .op) 3 c) (eqb-false (l .op) 4 d) five (eqb-false (l .op) 6 f) (eqb-false (l .op) 7 g) eight (eqb-false (l .op) 9 i) (eqb-false (l .op) 10 j) (eqb-false (l .op) 11 k)))))))))))
+      let e : l .op ≡ 3 = third (l .op) h (nonzero t) (eqb-false (l .op) 1 a) (eqb-false (l .op) 2 b) in
+      rw e))
 
 -- ---- what making a line gives
 

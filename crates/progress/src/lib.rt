@@ -6,6 +6,7 @@ ghost use lib.Dec.{eqb, ltb};
 ghost use Rattle.records.specs.Records.{keptOf};
 ghost use Rattle.tally.specs.Tallies.{Counted};
 ghost use Rattle.progress.specs.Progress.{movedOp, Advanced};
+use frames::Frame;
 use state::Answer;
 use state::State;
 use tally::Tallies;
@@ -160,8 +161,52 @@ fn go(
             answer = given;
             first = r.from;
             width = r.width;
+        } else if op == 7 {
+            let place = heads::index(side);
+            let flag = p.arrived[place];
+            let unsent = t.unsent[place];
+            let edits = p.edits;
+            let r = reconcile::send_edits(edits, h, a, flag, unsent);
+            let next = r.edits;
+            let arrived = r.arrived;
+            let given = r.answer;
+            p.edits = next;
+            p.arrived[place] = arrived;
+            answer = given;
+        } else if 3 < op {
+            let place = heads::index(side);
+            let unsent = t.unsent[place];
+            let old_base = p.base;
+            let old_draft = p.draft;
+            let old_values = p.values;
+            let old_arrived = p.arrived;
+            let old_confirmed = p.confirmed;
+            let f = Frame {
+                head: h,
+                base: old_base,
+                draft: old_draft,
+                values: old_values,
+                arrived: old_arrived,
+                confirmed: old_confirmed,
+            };
+            let r = dispatch::move_frame(f, op, a, unsent, t.waiting);
+            let g = r.frame;
+            let given = r.answer;
+            let head = g.head;
+            let base = g.base;
+            let draft = g.draft;
+            let values = g.values;
+            let arrived = g.arrived;
+            let confirmed = g.confirmed;
+            p.head = head;
+            p.base = base;
+            p.draft = draft;
+            p.values = values;
+            p.arrived = arrived;
+            p.confirmed = confirmed;
+            answer = given;
         } else {
-            let r = dispatch::perform(p, op, a, line.b, line.c, line.d);
+            let r = dispatch::draw_up(p, op, a, line.b, line.c, line.d);
             let q = r.state;
             let given = r.answer;
             p = q;

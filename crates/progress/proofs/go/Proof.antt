@@ -8,23 +8,23 @@ use mathlib.Core.Option.{Option, none, some}
 use borrow.Author.Needs.{needs}
 use borrow.Author.Tests.{leb-true}
 use borrow.Rule.Slice.PartMut.{putMid}
-use lib.Dec.{eqb, leb}
+use lib.Dec.{T, eqb, leb}
 use lib.IntN.{ℤ, pos}
 use lib.ListN.{length, getD, set, take, drop, length-set, length-drop, take-append-drop}
 use mir.Syntax.{w32, w64}
 use mir.Val.{toZ, ofZ, Fits}
 use mir.Facts.{toZ-ofZ, fits-below, fits-le}
 use Rattle.exact.proofs.Ints.{fits32}
-use Rattle.protocol.specs.Lists.{natural, count}
-use Rattle.protocol.specs.Plan.{is, whole, isSettled}
-use Rattle.protocol.specs.Calls.{Call, edit, replay}
-use Rattle.protocol.proofs.Laws.{on}
+use Rattle.protocol.specs.Lists.{natural, count, oneTo}
+use Rattle.protocol.specs.Plan.{is, whole, isSettled, unsentOf}
+use Rattle.protocol.specs.Calls.{Call, edit, replay, send}
+use Rattle.protocol.proofs.Laws.{on, range}
 use Rattle.format.specs.Lines.{lineFeed, lineCall}
 use Rattle.rows.specs.Rows.{row}
 use Rattle.state.specs.declared.State.{State}
 use Rattle.state.specs.declared.Answer.{Answer}
 use Rattle.state.specs.View.{view}
-use Rattle.heads.specs.Heads.{modeOf, endIn, keptIn}
+use Rattle.heads.specs.Heads.{modeOf, endIn, keptIn, sidesIn, indexOf}
 use Rattle.records.specs.Records.{keptOf, noRecord}
 use Rattle.heads.specs.Heads.{positionOf, placeOf}
 use Rattle.records.specs.Records.{recordOf}
@@ -32,7 +32,11 @@ use Rattle.state.specs.Parts.{namedIn}
 use Rattle.state.specs.Meets.{Meets, answerOf}
 use Rattle.format.specs.Sheets.{text, turn, stepOf, inFront}
 use Rattle.writer.specs.Writes.{withRow, lineOf}
-use Rattle.state.proofs.Views.{Sized, owned-sized, unmapped}
+use Rattle.state.proofs.Views.{Sized, owned-sized, unmapped, sides-most}
+use Rattle.state.proofs.Steps as steps
+use Rattle.frames.specs.Frames.{frameOf, around, Moves}
+use Rattle.reconcile.specs.Sends.{Sends}
+use Rattle.dispatch.specs.Rare.{moveCall, Counts}
 use Rattle.ruling.specs.declared.Decision.{Decision}
 use Rattle.ruling.specs.Edits.{editRuling, editDecision, spotOf, slotOf, editIn, stored}
 use Rattle.edit.proofs.Edits.{edit-meets}
@@ -50,15 +54,17 @@ use Rattle.tally.specs.Tallies.{Counted, tallyAfter}
 use Rattle.tally.proofs.Counts.{tallied-long}
 use Rattle.progress.specs.Progress.{movedOp, Advanced}
 use Rattle.progress.proofs.Running.{Going, over, paused, unfit, next-line, begins, lent-rest, put-back}
-use Rattle.progress.proofs.Turning.{line-edit, line-replay, line-reads, line-rare, settled-few, Made, meets-made, performs-made, counted-made, kept-most, text-some, fitted-put, unfitted-put}
+use Rattle.progress.proofs.Turning.{line-edit, line-replay, line-reads, line-send, line-moves, line-draws, settled-few, Made, meets-made, performs-made, counted-made, kept-most, text-some, fitted-put, unfitted-put}
 use Rattle.progress.proofs.Rows.{lent-row}
 use Rattle.progress.proofs.go.Statement.{statement}
 use Rattle.progress.proofs.go.Tie as tie
 use Rattle.progress.proofs.go.Reads as reads
 use Rattle.progress.proofs.go.Lts as lts
-use Rattle.dispatch.proofs.perform.Reads as perform-reads
+use Rattle.dispatch.proofs.draw_up.Reads as draw-up-reads
+use Rattle.dispatch.proofs.move_frame.Reads as move-frame-reads
 use Rattle.edit.proofs.spot.Reads as spot-reads
 use Rattle.exact.proofs.number.Reads as number-reads
+use Rattle.heads.proofs.index.Reads as index-reads
 use Rattle.heads.proofs.mode_number.Reads as mode-number-reads
 use Rattle.heads.proofs.place.Reads as place-reads
 use Rattle.heads.proofs.position.Reads as position-reads
@@ -68,6 +74,7 @@ use Rattle.progress.proofs.only_reads.Reads as only-reads-reads
 use Rattle.reader.proofs.line_end.Reads as line-end-reads
 use Rattle.reader.proofs.read_line.Reads as read-line-reads
 use Rattle.reads.proofs.read.Reads as read-reads
+use Rattle.reconcile.proofs.send_edits.Reads as send-edits-reads
 use Rattle.records.proofs.found.Reads as found-reads
 use Rattle.replay.proofs.point.Reads as point-reads
 use Rattle.rows.proofs.capped.Reads as capped-reads
@@ -81,6 +88,9 @@ Inv-loop reserve sheet from area₀ p₀ t₀ at₀ i₀ area p t at i = Going r
 
 abbrev μ-loop : tie.MeasureT-loop
 μ-loop reserve sheet from area₀ p₀ t₀ at₀ i₀ area p t at i = length sheet - i
+
+le-trans : {a b c : ℕ} → a ≤ b → b ≤ c → a ≤ c
+le-trans h k = omega (arith, h, k)
 
 le-same : {a b n : ℕ} → a ≤ b → n ≡ b → a ≤ n
 le-same h e = omega (arith, h, e)
@@ -232,19 +242,69 @@ read-arm c =
     let g = reading-right p ((c .before .before .before .before .before .before .before .before .before .before .before .before .before .before .before .before .before .before .before .before .before .before .loop .t)) ((c .before .before .before .before .before .before .before .before .before .before .before .before .before .before .before .before .before .before .before .before .before .before .loop .inv .counted)) (l .op) (l .a) in
     rw (read-is c, line-reads l (sym ((c .before .before .before .before .before .before .before .before .before .before .only-reads .ensures)) ∙ (c .before .before .before .before .before .before .before .before .before .if4 .taken))) (record { answer = g .0; plan = sym (g .1) }, reading-bounds p ((c .before .before .before .before .before .before .before .before .before .before .before .before .before .before .before .before .before .before .before .before .before .before .loop .t)) ((c .before .before .before .before .before .before .before .before .before .before .before .before .before .before .before .before .before .before .before .before .before .before .loop .inv .counted)) (l .op) (l .a) .0, reading-bounds p ((c .before .before .before .before .before .before .before .before .before .before .before .before .before .before .before .before .before .before .before .before .before .before .loop .t)) ((c .before .before .before .before .before .before .before .before .before .before .before .before .before .before .before .before .before .before .before .before .before .before .loop .inv .counted)) (l .op) (l .a) .1)
 
--- ---- a rare call
+-- ---- a send
 
-rare-arm : (c : tie.After-q Inv-loop μ-loop) → let r = (c .before .perform .result) in Made (lineIn ((c .before .before .before .before .before .before .before .before .before .before .before .before .before .read-line .result))) ((c .before .before .before .before .before .before .before .before .before .before .before .before .before .before .before .before .before .before .loop .p)) (r .state) (r .answer) []
-rare-arm c =
-    let p = (c .before .before .before .before .before .before .before .before .before .before .before .before .before .before .before .before .before .before .loop .p) in
-    let l = (c .before .before .before .before .before .before .before .before .before .before .before .before .before .read-line .result) in
-    let t = (c .before .before .before .before .before .before .before .before .before .before .before .before .struct-told .given) in
-    let e = line-rare l ((c .before .before .before .before .before .before .before .before .if2 .left)) ((c .before .before .before .before .before .before .before .if3 .left)) (sym ((c .before .before .before .before .before .before .only-reads .ensures)) ∙ (c .before .before .before .before .before .if4 .left)) in
-    rw e (performs-made _ p ((c .before .perform .result)) (rw (← toZ-ofZ (fits32 (l .a) (t .1 .0 .1)), ← toZ-ofZ (fits32 (l .b) (t .1 .1 .0 .1)), ← toZ-ofZ (fits32 (l .c) (t .1 .1 .1 .0 .1)), ← toZ-ofZ (fits32 (l .d) (t .1 .1 .1 .1 .0 .1))) ((c .before .perform .ensures))))
+-- the edits that a side has unsent, as they are counted
+unsent-is : (p : State) (t : Tallies) → Counted t (keptOf (p .head) (p .edits)) → {i : ℕ} (s : ℕ) → i ≡ indexOf s → T (oneTo (sidesIn (p .head)) s) → getD (t .unsent) i 0 ≡ unsentOf s (keptOf (p .head) (p .edits))
+unsent-is p t h s e o = let r = range (sidesIn (p .head)) s o in ap (λ j. getD (t .unsent) j 0) e ∙ h .unsent s (r .0) (le-trans (r .1) (sides-most (p .head)))
 
-rare-sized : (c : tie.After-q Inv-loop μ-loop) → Sized ((c .before .perform .result .state))
-rare-sized c =
-    let t = (c .before .perform .ok .1 .1 .0) in
+send-arm : (c : tie.After-next Inv-loop μ-loop) → let p = (c .before .before .before .before .before .before .before .before .before .before .before .before .before .before .before .before .before .before .before .before .loop .p) in let r = (c .before .send-edits .result) in
+    Made (lineIn ((c .before .before .before .before .before .before .before .before .before .before .before .before .before .before .before .read-line .result))) p (steps.stored p (p .head) (p .base) (p .draft) (p .values) (set (p .arrived) ((c .before .before .before .before .before .index .result)) (r .arrived)) (p .confirmed) (r .edits)) (r .answer) []
+send-arm c =
+    let p = (c .before .before .before .before .before .before .before .before .before .before .before .before .before .before .before .before .before .before .before .before .loop .p) in
+    let t = (c .before .before .before .before .before .before .before .before .before .before .before .before .before .before .before .before .before .before .before .before .loop .t) in
+    let l = (c .before .before .before .before .before .before .before .before .before .before .before .before .before .before .before .read-line .result) in
+    let z = toZ-ofZ (fits32 (l .a) ((c .before .before .before .before .before .before .before .before .before .before .before .before .before .before .struct-told .given .1 .0 .1))) in
+    let i = (c .before .before .before .before .before .index .ensures .0) ∙ ap indexOf ((c .before .before .before .before .before .before .before .before .before .before .before .before .before .number .ensures) ∙ ap natural z) in
+    let m = subst (λ x. Sends x (p .head) (p .edits) (getD (p .arrived) ((c .before .before .before .before .before .index .result)) false) (getD (t .unsent) ((c .before .before .before .before .before .index .result)) 0) ((c .before .send-edits .result))) z ((c .before .send-edits .ensures)) in
+    rw (line-send l ((c .before .before .before .before .before .before .if5 .taken)), i) (meets-made (send (l .a)) p _
+    (m (frameOf p) (p .arrived) (p .lower) (p .gap) (p .upper) (p .firm) ((c .before .before .before .before .before .before .before .before .before .before .before .before .before .before .before .before .before .before .before .before .loop .inv .sized .arrived)) (ap (λ j. getD (p .arrived) j false) i) (unsent-is p t ((c .before .before .before .before .before .before .before .before .before .before .before .before .before .before .before .before .before .before .before .before .loop .inv .counted)) (natural (l .a)) i)))
+
+send-sized : (c : tie.After-next Inv-loop μ-loop) → let p = (c .before .before .before .before .before .before .before .before .before .before .before .before .before .before .before .before .before .before .before .before .loop .p) in let r = (c .before .send-edits .result) in Sized (steps.stored p (p .head) (p .base) (p .draft) (p .values) (set (p .arrived) ((c .before .before .before .before .before .index .result)) (r .arrived)) (p .confirmed) (r .edits))
+send-sized c =
+    let z = (c .before .before .before .before .before .before .before .before .before .before .before .before .before .before .before .before .before .before .before .before .loop .inv .sized) in
+    let o = (c .before .send-edits .ok) in
+    record { base = z .base; draft = z .draft; values = z .values; arrived = length-set ((c .before .before .before .before .before .before .before .before .before .before .before .before .before .before .before .before .before .before .before .before .loop .p .arrived)) ((c .before .before .before .before .before .index .result)) ((c .before .send-edits .result .arrived)) ∙ z .arrived; confirmed = z .confirmed; lower = z .lower; gap = z .gap; upper = z .upper; firm = z .firm; edits = search unmapped }
+
+-- ---- a call on the frame
+
+move-arm : (c : tie.After-confirmed Inv-loop μ-loop) → let p = (c .before .before .before .before .before .before .before .before .before .before .before .before .before .before .before .before .before .before .before .before .before .before .before .before .before .before .before .before .before .before .loop .p) in let r = (c .before .before .before .before .before .before .before .move-frame .result) in
+    Made (lineIn ((c .before .before .before .before .before .before .before .before .before .before .before .before .before .before .before .before .before .before .before .before .before .before .before .before .before .read-line .result))) p (around (r .frame) (p .lower) (p .gap) (p .upper) (p .firm) (p .edits)) (r .answer) []
+move-arm c =
+    let p = (c .before .before .before .before .before .before .before .before .before .before .before .before .before .before .before .before .before .before .before .before .before .before .before .before .before .before .before .before .before .before .loop .p) in
+    let t = (c .before .before .before .before .before .before .before .before .before .before .before .before .before .before .before .before .before .before .before .before .before .before .before .before .before .before .before .before .before .before .loop .t) in
+    let l = (c .before .before .before .before .before .before .before .before .before .before .before .before .before .before .before .before .before .before .before .before .before .before .before .before .before .read-line .result) in
+    let z = toZ-ofZ (fits32 (l .a) ((c .before .before .before .before .before .before .before .before .before .before .before .before .before .before .before .before .before .before .before .before .before .before .before .before .struct-told .given .1 .0 .1))) in
+    let i = (c .before .before .before .before .before .before .before .before .before .before .before .before .before .before .index2 .ensures .0) ∙ ap indexOf ((c .before .before .before .before .before .before .before .before .before .before .before .before .before .before .before .before .before .before .before .before .before .before .before .number .ensures) ∙ ap natural z) in
+    let m = subst (λ x. Moves (moveCall (l .op) x) (frameOf p) (Counts (frameOf p) (natural x) (getD (t .unsent) ((c .before .before .before .before .before .before .before .before .before .before .before .before .before .before .index2 .result)) 0) (t .waiting)) ((c .before .before .before .before .before .before .before .move-frame .result))) z ((c .before .before .before .before .before .before .before .move-frame .ensures)) in
+    rw (line-moves l ((c .before .before .before .before .before .before .before .before .before .before .before .before .before .before .before .before .before .before .before .before .if2 .left)) ((c .before .before .before .before .before .before .before .before .before .before .before .before .before .before .before .before .before .before .before .if3 .left)) (sym ((c .before .before .before .before .before .before .before .before .before .before .before .before .before .before .before .before .before .before .only-reads .ensures)) ∙ (c .before .before .before .before .before .before .before .before .before .before .before .before .before .before .before .before .before .if4 .left)) ((c .before .before .before .before .before .before .before .before .before .before .before .before .before .before .before .before .if5 .left)) ((c .before .before .before .before .before .before .before .before .before .before .before .before .before .before .before .if6 .taken)))
+    (meets-made (moveCall (l .op) (l .a)) p _ (m (p .lower) (p .gap) (p .upper) (p .firm) (p .edits) (unsent-is p t ((c .before .before .before .before .before .before .before .before .before .before .before .before .before .before .before .before .before .before .before .before .before .before .before .before .before .before .before .before .before .before .loop .inv .counted)) (natural (l .a)) i, (c .before .before .before .before .before .before .before .before .before .before .before .before .before .before .before .before .before .before .before .before .before .before .before .before .before .before .before .before .before .before .loop .inv .counted .waiting))))
+
+move-sized : (c : tie.After-confirmed Inv-loop μ-loop) → let p = (c .before .before .before .before .before .before .before .before .before .before .before .before .before .before .before .before .before .before .before .before .before .before .before .before .before .before .before .before .before .before .loop .p) in let r = (c .before .before .before .before .before .before .before .move-frame .result) in Sized (around (r .frame) (p .lower) (p .gap) (p .upper) (p .firm) (p .edits))
+move-sized c =
+    let z = (c .before .before .before .before .before .before .before .before .before .before .before .before .before .before .before .before .before .before .before .before .before .before .before .before .before .before .before .before .before .before .loop .inv .sized) in
+    let t = (c .before .before .before .before .before .before .before .move-frame .ok .1 .1 .0) in
+    let u = t .1 .1 in
+    let b = u .1 .0 in
+    let d = u .1 .1 .0 in
+    let v = u .1 .1 .1 .0 in
+    let a = u .1 .1 .1 .1 .0 in
+    let f = u .1 .1 .1 .1 .1 .0 in
+    record { base = search needs; draft = search needs; values = search needs; arrived = search needs; confirmed = search needs; lower = z .lower; gap = z .gap; upper = z .upper; firm = z .firm; edits = z .edits }
+
+-- ---- a call that draws up the plan
+
+draw-arm : (c : tie.After-q Inv-loop μ-loop) → let r = (c .before .draw-up .result) in Made (lineIn ((c .before .before .before .before .before .before .before .before .before .before .before .before .before .before .before .read-line .result))) ((c .before .before .before .before .before .before .before .before .before .before .before .before .before .before .before .before .before .before .before .before .loop .p)) (r .state) (r .answer) []
+draw-arm c =
+    let p = (c .before .before .before .before .before .before .before .before .before .before .before .before .before .before .before .before .before .before .before .before .loop .p) in
+    let l = (c .before .before .before .before .before .before .before .before .before .before .before .before .before .before .before .read-line .result) in
+    let t = (c .before .before .before .before .before .before .before .before .before .before .before .before .before .before .struct-told .given) in
+    let e = line-draws l (sym ((c .before .before .before .before .before .before .before .before .only-reads .ensures)) ∙ (c .before .before .before .before .before .before .before .if4 .left)) ((c .before .before .before .before .before .if6 .left)) in
+    rw e (performs-made _ p ((c .before .draw-up .result)) (rw (← toZ-ofZ (fits32 (l .a) (t .1 .0 .1)), ← toZ-ofZ (fits32 (l .b) (t .1 .1 .0 .1)), ← toZ-ofZ (fits32 (l .c) (t .1 .1 .1 .0 .1)), ← toZ-ofZ (fits32 (l .d) (t .1 .1 .1 .1 .0 .1))) ((c .before .draw-up .ensures))))
+
+draw-sized : (c : tie.After-q Inv-loop μ-loop) → Sized ((c .before .draw-up .result .state))
+draw-sized c =
+    let t = (c .before .draw-up .ok .1 .1 .0) in
     let u = t .1 .1 in
     let b = u .1 .0 in
     let d = u .1 .1 .0 in
@@ -266,7 +326,11 @@ joined c = on ((c .if2 .came))
     (λ v. on v (λ w. let place : tie.After-entry2 Inv-loop μ-loop = (record { before = record { before = record { before = record { before = record { before = record { before = record { before = record { before = record { before = record { before = record { before = record { before = record { before = record { before = record { before = record { before = record { before = record { before = record { before = record { before = record { before = record { before = record { before = record { before = record { before = (c .before); if2 = w .0 }; if3 = w .1 }; position2 = w .2 }; place2 = w .3 }; standing2 = w .4 }; found2 = w .5 }; position3 = w .6 }; place3 = w .7 }; seen2 = w .8 }; found3 = w .9 }; p2 = w .10 }; unset-arg = w .11 }; unset = w .12 }; capped2 = w .13 }; point = w .14 }; old2 = w .15 }; p3 = w .16 }; decide-replay-arg = w .17 }; decide-replay-arg2 = w .18 }; decide-replay-arg3 = w .19 }; decide-replay-arg4 = w .20 }; decide-replay-arg5 = w .21 }; decide-replay = w .22 }; struct-told9 = w .23 }; entry2 = w .24 }) in at-rest (w .25) (w .26) (w .27) (w .28) (replay-arm place .0) (replay-arm place .1))
     (λ u. on u
     (λ w. let place : tie.After-read Inv-loop μ-loop = (record { before = record { before = record { before = record { before = record { before = record { before = record { before = record { before = record { before = record { before = record { before = record { before = record { before = (c .before); if2 = w .0 }; if3 = w .1 }; only-reads = w .2 }; if4 = w .3 }; position4 = w .4 }; place4 = w .5 }; seen3 = w .6 }; p4 = w .7 }; read-arg = w .8 }; read-arg2 = w .9 }; t = w .10 }; read-arg3 = w .11 }; read = w .12 }) in at-reading (w .13) (w .14) (w .15) (w .16) (read-arm place .0) ((c .before .before .before .before .before .before .before .before .before .before .loop .inv .sized)) (read-arm place .1) (read-arm place .2))
-    (λ w. let place : tie.After-q Inv-loop μ-loop = (record { before = record { before = record { before = record { before = record { before = record { before = record { before = record { before = record { before = (c .before); if2 = w .0 }; if3 = w .1 }; only-reads = w .2 }; if4 = w .3 }; struct-told10 = w .4 }; struct-told11 = w .5 }; struct-told12 = w .6 }; perform = w .7 }; q = w .8 }) in at-rest (w .9) (w .10) (w .11) (w .12) (rare-arm place) (rare-sized place))))
+    (λ x. on x
+    (λ w. let place : tie.After-next Inv-loop μ-loop = (record { before = record { before = record { before = record { before = record { before = record { before = record { before = record { before = record { before = record { before = record { before = (c .before); if2 = w .0 }; if3 = w .1 }; only-reads = w .2 }; if4 = w .3 }; if5 = w .4 }; index = w .5 }; flag = w .6 }; unsent = w .7 }; edits = w .8 }; send-edits = w .9 }; next = w .10 }) in at-rest (w .11) (w .12) (w .13) (w .14) (send-arm place) (send-sized place))
+    (λ y. on y
+    (λ w. let place : tie.After-confirmed Inv-loop μ-loop = (record { before = record { before = record { before = record { before = record { before = record { before = record { before = record { before = record { before = record { before = record { before = record { before = record { before = record { before = record { before = record { before = record { before = record { before = record { before = record { before = record { before = (c .before); if2 = w .0 }; if3 = w .1 }; only-reads = w .2 }; if4 = w .3 }; if5 = w .4 }; if6 = w .5 }; index2 = w .6 }; unsent2 = w .7 }; old-base = w .8 }; old-draft = w .9 }; old-values = w .10 }; old-arrived = w .11 }; old-confirmed = w .12 }; move-frame = w .13 }; g = w .14 }; head2 = w .15 }; base = w .16 }; draft = w .17 }; values = w .18 }; arrived = w .19 }; confirmed = w .20 }) in at-rest (w .21) (w .22) (w .23) (w .24) (move-arm place) (move-sized place))
+    (λ w. let place : tie.After-q Inv-loop μ-loop = (record { before = record { before = record { before = record { before = record { before = record { before = record { before = record { before = record { before = record { before = record { before = (c .before); if2 = w .0 }; if3 = w .1 }; only-reads = w .2 }; if4 = w .3 }; if5 = w .4 }; if6 = w .5 }; struct-told10 = w .6 }; struct-told11 = w .7 }; struct-told12 = w .8 }; draw-up = w .9 }; q = w .10 }) in at-rest (w .11) (w .12) (w .13) (w .14) (draw-arm place) (draw-sized place))))))
 
 -- ---- its answer, put into the rest of the area
 
@@ -535,8 +599,38 @@ element-copy-out-seen-3 c = omega arith
 read-requires : tie.Need-read-requires Inv-loop μ-loop
 read-requires c κs = search needs
 
-perform-requires : tie.Need-perform-requires Inv-loop μ-loop
-perform-requires c κs = search needs
+index-requires : tie.Need-index-requires Inv-loop μ-loop
+index-requires c κs = search needs
+
+element-copy-out-flag : tie.Need-element-copy-out-flag Inv-loop μ-loop
+element-copy-out-flag c = omega arith
+
+mul-unsent : tie.Need-mul-unsent Inv-loop μ-loop
+mul-unsent c = omega arith
+
+element-copy-out-unsent : tie.Need-element-copy-out-unsent Inv-loop μ-loop
+element-copy-out-unsent c = omega arith
+
+send-edits-requires : tie.Need-send-edits-requires Inv-loop μ-loop
+send-edits-requires c κs = search needs
+
+element-write-p : tie.Need-element-write-p Inv-loop μ-loop
+element-write-p c = omega arith
+
+index-requires-2 : tie.Need-index-requires-2 Inv-loop μ-loop
+index-requires-2 c κs = search needs
+
+mul-unsent-2 : tie.Need-mul-unsent-2 Inv-loop μ-loop
+mul-unsent-2 c = omega arith
+
+element-copy-out-unsent-2 : tie.Need-element-copy-out-unsent-2 Inv-loop μ-loop
+element-copy-out-unsent-2 c = omega arith
+
+move-frame-requires : tie.Need-move-frame-requires Inv-loop μ-loop
+move-frame-requires c κs = search needs
+
+draw-up-requires : tie.Need-draw-up-requires Inv-loop μ-loop
+draw-up-requires c κs = search needs
 
 moved-op-requires : tie.Need-moved-op-requires Inv-loop μ-loop
 moved-op-requires c κs = search needs
@@ -576,18 +670,18 @@ part-put-end-2 c = le-self _
 put-requires : tie.Need-put-requires Inv-loop μ-loop
 put-requires c κs = search needs
 
-add-t134 : tie.Need-add-t134 Inv-loop μ-loop
-add-t134 c =
+add-t174 : tie.Need-add-t174 Inv-loop μ-loop
+add-t174 c =
     end-fits (c .before .before .before .before .before .before .before .before .before .before .before .before .before .before .before .before .before .before .before .before)
 
 same-length-2 : tie.Need-same-length-2 Inv-loop μ-loop
-same-length-2 c = same-after (c .before .before .before) ((c .if5 .taken))
+same-length-2 c = same-after (c .before .before .before) ((c .if7 .taken))
 
 returns-2 : tie.Need-returns-2 Inv-loop μ-loop
-returns-2 c = ending (c .before .before .before) ((c .if5 .taken))
+returns-2 c = ending (c .before .before .before) ((c .if7 .taken))
 
 add-at : tie.Need-add-at Inv-loop μ-loop
-add-at c = at-fits (c .before .before .before) ((c .if5 .left))
+add-at c = at-fits (c .before .before .before) ((c .if7 .left))
 
 add-i : tie.Need-add-i Inv-loop μ-loop
 add-i c =
@@ -598,7 +692,7 @@ loop-less c =
     nearer (c .before .before .before .before .before .before .before .before .before .before .before .before .before .before .before .before .before .before .before .before)
 
 loop-again : tie.Need-loop-again Inv-loop μ-loop
-loop-again c = going-on (c .before .before .before) ((c .if5 .left))
+loop-again c = going-on (c .before .before .before) ((c .if7 .left))
 
 same-length-3 : tie.Need-same-length-3 Inv-loop μ-loop
 same-length-3 c = (c .before .loop .inv .same)
@@ -670,7 +764,17 @@ go-spec =
     mul-seen-3
     element-copy-out-seen-3
     read-requires
-    perform-requires
+    index-requires
+    element-copy-out-flag
+    mul-unsent
+    element-copy-out-unsent
+    send-edits-requires
+    element-write-p
+    index-requires-2
+    mul-unsent-2
+    element-copy-out-unsent-2
+    move-frame-requires
+    draw-up-requires
     moved-op-requires
     tallied-requires
     add-put
@@ -682,7 +786,7 @@ go-spec =
     part-put-start-2
     part-put-end-2
     put-requires
-    add-t134
+    add-t174
     same-length-2
     returns-2
     add-at
