@@ -1,0 +1,133 @@
+//! Compares the library with the separate program on random sheets, and holds the claim about whole lists of calls against
+//! the library's answers.
+//!
+//! differential [SEED [LINES [LISTS]]]
+
+mod book;
+mod call;
+mod compare;
+mod generate;
+mod random;
+mod sheets;
+
+use call::NAMES;
+use compare::{shrink, Areas, Counts};
+use random::Random;
+use std::process::ExitCode;
+
+/// Refusals that a sheet can meet. 30 needs more lines than a sheet has; 41 never is an answer line.
+const REFUSALS: [usize; 28] = [
+    11, 12, 13, 14, 15, 16, 17, 21, 22, 23, 24, 25, 26, 27, 28, 29, 31, 32, 33, 34, 35, 36, 37, 38, 39, 40, 51, 52,
+];
+
+const FAILURES_SHOWN: usize = 5;
+
+fn argument(index: usize, default: u64) -> u64 {
+    match std::env::args().nth(index) {
+        None => default,
+        Some(text) => text.parse().unwrap_or_else(|_| {
+            eprintln!("differential: not a number: {text}");
+            std::process::exit(2)
+        }),
+    }
+}
+
+fn main() -> ExitCode {
+    let seed = argument(1, 1);
+    let lines = argument(2, 1_500_000);
+    let lists = argument(3, 2_000);
+    println!("seed {seed}, {lines} lines, {lists} lists");
+    let mut passed = 0u64;
+    let mut failed = 0u64;
+
+    let mut counts = Counts::new();
+    let mut areas = Areas::new();
+    let mut index = 0;
+    while counts.lines < lines && failed < FAILURES_SHOWN as u64 {
+        let mut random = Random::item(seed, index);
+        let sheet = sheets::sheet(&mut random);
+        match areas.compare(&mut random, &sheet, &mut counts) {
+            Ok(()) => passed += 1,
+            Err((length, what)) => {
+                failed += 1;
+                println!("sheet {index}, area of {length} bytes: {what}");
+                show(&shrink(&sheet));
+            }
+        }
+        index += 1;
+    }
+    println!("{} lines, {} sheets, {} runs compared", counts.lines, index, counts.runs);
+    print!("accepted:");
+    for (call, (_, name, _)) in NAMES.iter().enumerate() {
+        print!(" {name} {}", counts.accepted[call]);
+    }
+    print!("\nrefused:");
+    for (refusal, &count) in counts.refused.iter().enumerate() {
+        if count > 0 || REFUSALS.contains(&refusal) {
+            print!(" {refusal}: {count}");
+        }
+    }
+    println!();
+    let mut met = |what: &str, count: u64, expected: bool| {
+        if (count > 0) == expected {
+            passed += 1;
+        } else {
+            failed += 1;
+            println!("{what}: met {count} times");
+        }
+    };
+    for (call, (_, name, _)) in NAMES.iter().enumerate() {
+        met(name, counts.accepted[call], true);
+    }
+    for (refusal, &count) in counts.refused.iter().enumerate() {
+        met(&format!("refusal {refusal}"), count, REFUSALS.contains(&refusal));
+    }
+
+    let mut tally = book::Tally::default();
+    let mut broken = 0;
+    for list in 0..lists {
+        let mut random = Random::item(!seed, list);
+        match book::check(&mut random, &mut tally) {
+            Ok(()) => passed += 1,
+            Err((sheet, what)) => {
+                failed += 1;
+                broken += 1;
+                println!("list {list}: {what}");
+                show(&sheet);
+                if broken == FAILURES_SHOWN {
+                    break;
+                }
+            }
+        }
+    }
+    println!(
+        "{} lists with a book: {} accepted calls, {} late edits, {} installs, closing moves tried at {} places",
+        tally.lists, tally.moves, tally.late, tally.installs, tally.prefixes
+    );
+
+    println!("{passed} passed, {failed} failed");
+    if failed == 0 && passed > 0 {
+        ExitCode::SUCCESS
+    } else {
+        ExitCode::FAILURE
+    }
+}
+
+/// Prints a sheet with both programs' answers, or its start if it is long.
+fn show(sheet: &[u8]) {
+    let mut area = vec![0; 50 * sheet.len() + 300];
+    let given = library::screen_run(sheet, &mut area);
+    let theirs = &area[..(given as usize / 2).min(area.len())];
+    let ours = separate::answers(sheet);
+    let mut ours = ours.split(|&b| b == b'\n');
+    let mut theirs = theirs.split(|&b| b == b'\n');
+    println!("  line | library | separate program");
+    for line in sheet.split_inclusive(|&b| b == b'\n').take(400) {
+        println!(
+            "  {} | {} | {}",
+            line.escape_ascii(),
+            theirs.next().unwrap_or(b"").escape_ascii(),
+            ours.next().unwrap_or(b"").escape_ascii()
+        );
+    }
+}
