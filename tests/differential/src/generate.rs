@@ -104,7 +104,7 @@ impl<'a> Generator<'a> {
     /// Chooses how long the next round from a whole plan to the next will be.
     fn new_round(&mut self) {
         self.whole_due = self.random.below(self.style.whole + 1);
-        self.kept_due = self.random.below(self.style.kept + 1);
+        self.kept_due = if self.random.chance(250) { self.style.kept } else { self.random.below(self.style.kept + 1) };
         self.late_due = self.random.below(self.style.late + 1);
         self.splits_due = 1 + self.random.below(self.style.sides - 1);
     }

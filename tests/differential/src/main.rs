@@ -20,6 +20,9 @@ const REFUSALS: [usize; 28] = [
     11, 12, 13, 14, 15, 16, 17, 21, 22, 23, 24, 25, 26, 27, 28, 29, 31, 32, 33, 34, 35, 36, 37, 38, 39, 40, 51, 52,
 ];
 
+/// Shorter runs, as to repeat a failure, need not meet every refusal.
+const LINES_TO_MEET_ALL: u64 = 500_000;
+
 const FAILURES_SHOWN: usize = 5;
 
 fn argument(index: usize, default: u64) -> u64 {
@@ -71,7 +74,7 @@ fn main() -> ExitCode {
     let mut met = |what: &str, count: u64, expected: bool| {
         if (count > 0) == expected {
             passed += 1;
-        } else {
+        } else if count > 0 || lines >= LINES_TO_MEET_ALL {
             failed += 1;
             println!("{what}: met {count} times");
         }

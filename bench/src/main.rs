@@ -1,0 +1,275 @@
+//! Times the library and the separate program on the same sheets, turn by turn in one process.
+//!
+//! bench [ROUNDS]
+
+use std::fmt::Write;
+use std::hint::black_box;
+use std::time::Instant;
+
+type Program = fn(&[u8], &mut [u8]) -> u64;
+
+const LIMIT: usize = separate::SHEET_LIMIT;
+
+/// The time of the setup alone is taken off, so that a line of the body is what is timed.
+struct Workload {
+    name: String,
+    setup: String,
+    body: String,
+}
+
+impl Workload {
+    fn new(name: &str, setup: String, body: String) -> Workload {
+        Workload { name: name.to_string(), setup, body }
+    }
+}
+
+/// Lines repeated while the sheet has room, and at most so often.
+fn filled(setup: &str, lines: &str, most: usize) -> String {
+    lines.repeat(((LIMIT - setup.len()) / lines.len()).min(most))
+}
+
+/// Measures 0, 100, 200 and on, with rules that hold between neighbours near and far.
+fn drawn(measures: usize, rules: usize, firm: bool) -> String {
+    let mut text = String::new();
+    for m in 0..measures {
+        writeln!(text, "measure {}", 100 * m).unwrap();
+    }
+    let mut count = 0;
+    for step in 1..measures {
+        for a in 1..=measures - step {
+            if count < rules {
+                writeln!(text, "rule {a} 1 {} {}", a + step, firm as u8).unwrap();
+                count += 1;
+            }
+        }
+    }
+    assert_eq!(count, rules);
+    text + "open\n"
+}
+
+/// Accepted edits of a whole plan, of every kind, that leave its values as they were.
+fn edits(measures: usize) -> String {
+    let mut text = String::new();
+    for m in 1..=measures {
+        let value = 100 * (m - 1);
+        writeln!(text, "edit 1 {m} 0 {m} 2 10").unwrap();
+        writeln!(text, "edit 1 {m} 0 {m} 2 -10").unwrap();
+        writeln!(text, "edit 1 {m} 0 {m} 1 {}", value + 5).unwrap();
+        writeln!(text, "edit 1 {m} 0 {m} 3 1").unwrap();
+        writeln!(text, "edit 1 {m} 0 {m} 4 1").unwrap();
+        writeln!(text, "edit 1 {m} 0 {m} 1 {value}").unwrap();
+    }
+    text
+}
+
+/// From a whole plan, splits to so many sides and keeps so many edits. `first` is the next number.
+fn parted(sides: usize, kept: usize, first: usize, measures: usize) -> String {
+    let mut text = String::new();
+    for _ in 1..sides {
+        text += "split 1\n";
+    }
+    for i in 0..kept {
+        let constant = if (i / sides / measures) % 2 == 0 { 3 } else { -3 };
+        // Every fourth edit names the one that its side took before, by the same client.
+        let side = i % sides;
+        let after = if i % 4 == 3 && i >= sides { first + i - sides } else { 0 };
+        writeln!(text, "edit {} {} {after} {} 2 {constant}", side + 1, side + 1, i / sides % measures + 1).unwrap();
+    }
+    text
+}
+
+/// One join from split to install.
+fn cycle(sides: usize, kept: usize, first: usize, measures: usize) -> String {
+    let mut text = parted(sides, kept, first, measures) + "join\n";
+    for s in 1..=sides {
+        writeln!(text, "send {s}").unwrap();
+    }
+    for n in first..first + kept {
+        writeln!(text, "replay {n}").unwrap();
+    }
+    text += "stop\n";
+    for s in 1..=sides {
+        writeln!(text, "confirm {s}").unwrap();
+    }
+    text + "install\n"
+}
+
+/// As many joins as a sheet has room for.
+fn cycles(sides: usize, kept: usize, measures: usize, rules: usize) -> (String, String) {
+    let setup = drawn(measures, rules, false);
+    let mut body = String::new();
+    let mut first = 1;
+    loop {
+        let next = cycle(sides, kept, first, measures);
+        if setup.len() + body.len() + next.len() > LIMIT {
+            return (setup, body);
+        }
+        body += &next;
+        first += kept;
+    }
+}
+
+/// A joining plan with so many kept edits, half of them settled.
+fn joining(sides: usize, kept: usize) -> String {
+    let mut text = drawn(8, 4, false) + &parted(sides, kept, 1, 8) + "join\n";
+    for s in 1..=sides {
+        writeln!(text, "send {s}").unwrap();
+    }
+    for n in 1..=kept / 2 {
+        writeln!(text, "replay {n}").unwrap();
+    }
+    text
+}
+
+fn fates(kept: usize) -> String {
+    (1..=kept.max(1)).map(|n| format!("fate {n}\n")).collect()
+}
+
+const MALFORMED: &str = "measure 1234567890\nedit 1 5 0 1 2\nedit 1 5 0 1 2 1\r\nmesure 5\n\nedit  1 5 0 1 2 1\nreplay -0\nshow 1 2\n\
+                         rule 1 07 2 0\nopen \nedit 1 5 0 1 2 1 1\n";
+
+fn workloads() -> Vec<Workload> {
+    let mut list = Vec::new();
+    for rules in [1, 3] {
+        let setup = drawn(4, rules, false);
+        let body = filled(&setup, &edits(4), 1000);
+        list.push(Workload::new(&format!("edit, {rules} rule{}", if rules == 1 { "" } else { "s" }), setup, body));
+    }
+    let setup = drawn(32, 64, false);
+    let body = filled(&setup, &edits(32), 1000);
+    list.push(Workload::new("edit, 64 rules", setup, body));
+    let (setup, body) = cycles(8, 256, 8, 4);
+    list.push(Workload::new("joins, 8 sides, 256 edits", setup, body));
+    let body = filled("", MALFORMED, 1000);
+    list.push(Workload::new("malformed lines", String::new(), body));
+    let setup = joining(8, 256);
+    let body = filled(&setup, "left\n", 10_000);
+    list.push(Workload::new("left, 256 kept edits", setup.clone(), body));
+    let body = filled(&setup, &fates(256), 10_000);
+    list.push(Workload::new("fate, 256 kept edits", setup, body));
+    let mut setup: String = (0..32).map(|m| format!("measure {}\n", [0, 7, -45, 600, -7200, 45_000, 600_000, -1_000_000][m % 8])).collect();
+    setup += "open\n";
+    let body = filled(&setup, "show 1\n", 1500);
+    list.push(Workload::new("show, 32 measures", setup, body));
+    list
+}
+
+fn growth() -> Vec<(&'static str, Vec<Workload>)> {
+    let mut rules = Vec::new();
+    for count in [0, 1, 4, 16, 64] {
+        let setup = drawn(32, count, false);
+        let body = filled(&setup, &edits(32), 1000);
+        rules.push(Workload::new(&format!("edit, {count} rules"), setup, body));
+    }
+    // Refused at the last but one check, so that the plan stays as it is.
+    let refused = |kept: usize| {
+        let client = if kept == 0 { 1 } else { (kept - 1) % 8 + 1 };
+        format!("edit 1 {client} {kept} 1 2 1000000\n")
+    };
+    let mut kept = Vec::new();
+    for count in [0, 64, 256] {
+        let setup = drawn(8, 4, false) + &parted(8, count.min(255), 1, 8);
+        kept.push(Workload::new(&format!("edit naming the last, {} kept", count.min(255)), setup.clone(), filled(&setup, &refused(count.min(255)), 3000)));
+    }
+    for count in [0, 64, 256] {
+        let setup = joining(8, count);
+        kept.push(Workload::new(&format!("left, {count} kept"), setup.clone(), filled(&setup, "left\n", 10_000)));
+    }
+    for count in [0, 64, 256] {
+        let setup = joining(8, count);
+        kept.push(Workload::new(&format!("fate, {count} kept"), setup.clone(), filled(&setup, &fates(count), 10_000)));
+    }
+    for count in [0, 64, 256] {
+        let (setup, body) = cycles(8, count, 8, 4);
+        kept.push(Workload::new(&format!("joins, {count} kept"), setup, body));
+    }
+    let mut sides = Vec::new();
+    for count in [1, 4, 8] {
+        let setup = if count == 1 { drawn(8, 4, false) } else { joining(count, 64) };
+        let line = format!("edit {count} 1 0 1 2 1000000\n");
+        sides.push(Workload::new(&format!("edit, {count} sides"), setup.clone(), filled(&setup, &line, 3000)));
+    }
+    for count in [1, 4, 8] {
+        let setup = if count == 1 { drawn(8, 4, false) } else { joining(count, 64) };
+        sides.push(Workload::new(&format!("left, {count} sides"), setup.clone(), filled(&setup, "left\n", 10_000)));
+    }
+    for count in [1, 4, 8] {
+        let setup = if count == 1 { drawn(8, 4, false) } else { joining(count, 64) };
+        sides.push(Workload::new(&format!("show, {count} sides"), setup.clone(), filled(&setup, &format!("show {count}\n"), 3000)));
+    }
+    for count in [2, 4, 8] {
+        let (setup, body) = cycles(count, 64, 8, 4);
+        sides.push(Workload::new(&format!("joins, {count} sides, 64 edits"), setup, body));
+    }
+    let run = vec![
+        Workload::new("run of an empty sheet", String::new(), String::new()),
+        Workload::new("run of one line", String::new(), "left".into()),
+    ];
+    vec![("rules", rules), ("kept edits", kept), ("sides", sides), ("a whole run", run)]
+}
+
+/// Nanoseconds of one run, the least of several together where a run is short.
+fn time(program: Program, sheet: &[u8], area: &mut [u8]) -> f64 {
+    let times = if sheet.len() < 1000 { 50 } else { 1 };
+    let start = Instant::now();
+    for _ in 0..times {
+        black_box(program(black_box(sheet), black_box(area)));
+    }
+    start.elapsed().as_nanos() as f64 / times as f64
+}
+
+/// Nanoseconds for each line of the body: library, separate program.
+fn measure(work: &Workload, rounds: usize) -> (f64, f64) {
+    let sheet = (work.setup.clone() + &work.body).into_bytes();
+    let setup = work.setup.as_bytes();
+    let lines = work.body.lines().count().max(1) as f64;
+    let programs: [Program; 2] = [library::screen_run, separate::screen_run];
+    let expected = separate::answers(&sheet);
+    let mut area = vec![0; expected.len()];
+    assert_eq!(library::screen_run(&sheet, &mut area), 2 * expected.len() as u64, "{}", work.name);
+    assert_eq!(area, expected, "{}", work.name);
+    let mut least = [[f64::MAX; 2]; 2];
+    for _ in 0..rounds {
+        for (p, &program) in programs.iter().enumerate() {
+            least[p][0] = least[p][0].min(time(program, &sheet, &mut area));
+            if !setup.is_empty() {
+                least[p][1] = least[p][1].min(time(program, setup, &mut area));
+            } else {
+                least[p][1] = 0.0;
+            }
+        }
+    }
+    ((least[0][0] - least[0][1]) / lines, (least[1][0] - least[1][1]) / lines)
+}
+
+fn heading(first: &str) {
+    println!("| {first} | library, ns per line | separate program, ns per line | ratio |");
+    println!("|---|---|---|---|");
+}
+
+fn row(name: &str, (library, separate): (f64, f64)) {
+    println!("| {name} | {library:.1} | {separate:.1} | {:.2} |", library / separate);
+}
+
+fn main() {
+    let rounds = std::env::args().nth(1).and_then(|text| text.parse().ok()).unwrap_or(400);
+    println!("Least of {rounds} rounds; both programs optimised, in one process, turn by turn; the area is not cleared between");
+    println!("runs; the time of the lines that set the plan up is taken off. Ratio: library over separate program.");
+    println!();
+    heading("workload");
+    let mut product = 0.0;
+    let list = workloads();
+    for work in &list {
+        let times = measure(work, rounds);
+        row(&work.name, times);
+        product += (times.0 / times.1).ln();
+    }
+    println!("| geometric mean | | | {:.2} |", (product / list.len() as f64).exp());
+    for (name, works) in growth() {
+        println!();
+        heading(name);
+        for work in &works {
+            row(&work.name, measure(work, rounds));
+        }
+    }
+}
