@@ -159,7 +159,6 @@ pub struct Plan {
     next_number: u32,
     /// Number of the first kept edit; the others follow without gaps.
     first_number: u32,
-    kept: u16,
     unsent: u16,
     waiting: u16,
     settled: u16,
@@ -172,7 +171,7 @@ pub struct Plan {
     base: Values,
     draft: Values,
     values: [Values; SIDE_LIMIT],
-    edits: [Kept; KEPT_LIMIT],
+    edits: Vec<Kept>,
 }
 
 impl Default for Plan {
@@ -195,7 +194,6 @@ impl Plan {
             firm: 0,
             next_number: 1,
             first_number: 1,
-            kept: 0,
             unsent: 0,
             waiting: 0,
             settled: 0,
@@ -206,17 +204,7 @@ impl Plan {
             base: [0; MEASURE_LIMIT],
             draft: [0; MEASURE_LIMIT],
             values: [[0; MEASURE_LIMIT]; SIDE_LIMIT],
-            edits: [Kept {
-                change: Change::Set(0),
-                fate: Fate::NotKept,
-                replied: false,
-                side: 0,
-                measure: 0,
-                client: 0,
-                earlier: NONE,
-                place: 0,
-                next: NONE,
-            }; KEPT_LIMIT],
+            edits: Vec::with_capacity(KEPT_LIMIT),
         }
     }
 
@@ -302,7 +290,7 @@ impl Plan {
         }
         if self.mode == Mode::Whole {
             self.base = self.values[0];
-            self.kept = 0;
+            self.edits.clear();
             self.first_number = self.next_number;
             self.mode = Mode::Split;
         }
@@ -335,7 +323,7 @@ impl Plan {
             if self.firm >> measure & 1 == 1 {
                 return Err(Frozen);
             }
-            if self.kept as usize == KEPT_LIMIT {
+            if self.edits.len() == KEPT_LIMIT {
                 return Err(KeptFull);
             }
         }
@@ -353,8 +341,8 @@ impl Plan {
         self.values[side][measure] = value;
         self.next_number += 1;
         if keep {
-            let at = self.kept;
-            self.edits[at as usize] = Kept {
+            let at = self.edits.len() as u16;
+            self.edits.push(Kept {
                 change,
                 fate: Fate::Unsent,
                 replied: self.mode == Mode::Split,
@@ -364,11 +352,10 @@ impl Plan {
                 earlier,
                 place: 0,
                 next: self.chain[side],
-            };
+            });
             self.chain[side] = at;
             self.with_unsent |= 1 << side;
             self.unsent += 1;
-            self.kept += 1;
         }
         Ok(number)
     }
@@ -500,8 +487,7 @@ impl Plan {
         let all = self.all_sides();
         let to_send = all & (!self.arrived | self.with_unsent);
         let to_confirm = all & !self.confirmed;
-        to_send.count_ones()
-            + to_confirm.count_ones()
+        u16::from_le_bytes([to_send, to_confirm]).count_ones()
             + self.unsent as u32
             + self.waiting as u32
             + (self.mode == Mode::Joining) as u32
@@ -531,7 +517,7 @@ impl Plan {
 
     /// First number and count of the kept edits.
     pub fn kept(&self) -> (i32, i32) {
-        (self.first_number as i32, self.kept as i32)
+        (self.first_number as i32, self.edits.len() as i32)
     }
 
     pub fn waiting(&self) -> i32 {
@@ -611,7 +597,7 @@ impl Plan {
     }
 
     fn kept_index(&self, n: i32) -> Option<usize> {
-        index(n, self.first_number as i32, self.kept as u32)
+        index(n, self.first_number as i32, self.edits.len() as u32)
     }
 }
 

@@ -1,317 +1,379 @@
 //! The sheet program and the screen: lines in, answer lines out.
 
 use crate::plan::{Plan, Refusal};
+use std::slice::Iter;
 
 pub const SHEET_LIMIT: usize = 65_536;
 
 /// No answer line is longer: 32 values of up to eight characters, each behind a space.
 const LONGEST_ANSWER: usize = 320;
 
-enum Answer<'a> {
-    Number(u32),
-    Pair(u32, u32),
-    Values(&'a [i32]),
-    Refused(Refusal),
-}
+const LF: u8 = b'\n';
 
 /// Answers a sheet into the area. Gives twice the bytes written, plus 1 if an answer did not fit.
 pub fn screen_run(sheet: &[u8], area: &mut [u8]) -> u64 {
-    let mut used = 0;
-    let fitted = run(sheet, |answer| match write(&answer, &mut area[used..]) {
-        Some(length) => {
-            used += length;
-            true
-        }
-        None => false,
-    });
+    let length = area.len();
+    let mut writer = Writer { rest: area };
+    let fitted = run(sheet, &mut writer).is_some();
+    let used = length - writer.rest.len();
     2 * used as u64 + !fitted as u64
 }
 
 /// All answers of a sheet.
 pub fn answers(sheet: &[u8]) -> Vec<u8> {
-    let mut out = vec![0; sheet.len() + LONGEST_ANSWER];
-    let mut used = 0;
-    run(sheet, |answer| {
-        if out.len() - used < LONGEST_ANSWER {
-            out.resize(2 * out.len(), 0);
+    let mut length = sheet.len() + LONGEST_ANSWER;
+    loop {
+        let mut area = vec![0; length];
+        let given = screen_run(sheet, &mut area);
+        if given % 2 == 0 {
+            area.truncate(given as usize / 2);
+            return area;
         }
-        match write(&answer, &mut out[used..]) {
-            Some(length) => {
-                used += length;
-                true
-            }
-            None => false,
-        }
-    });
-    out.truncate(used);
-    out
+        length *= 4;
+    }
 }
 
-/// Runs the lines one by one until the answer's taker returns false. Gives whether all were taken.
-fn run(sheet: &[u8], mut take: impl FnMut(Answer) -> bool) -> bool {
+/// Runs the lines one by one. None if an answer does not fit.
+fn run(sheet: &[u8], writer: &mut Writer) -> Option<()> {
     if sheet.len() > SHEET_LIMIT {
-        return take(Answer::Refused(Refusal::SheetTooLong));
+        return writer.refusal(Refusal::SheetTooLong);
+    }
+    if sheet.is_empty() {
+        return Some(());
     }
     let mut plan = Plan::new();
-    let mut reader = Reader { rest: sheet };
-    while !reader.rest.is_empty() {
-        let answer = match line(&mut plan, &mut reader) {
-            Some(answer) => answer,
-            None => {
-                reader.skip_line();
-                Answer::Refused(Refusal::Unreadable)
+    let mut reader = Reader { rest: sheet.iter() };
+    loop {
+        match line(&mut plan, &mut reader, writer) {
+            Ok(fitted) => fitted?,
+            Err(Unread { last }) => {
+                if last != LF {
+                    reader.skip_line();
+                }
+                writer.refusal(Refusal::Unreadable)?;
             }
-        };
-        if !take(answer) {
-            return false;
+        }
+        if reader.rest.as_slice().is_empty() {
+            return Some(());
         }
     }
-    true
 }
 
-/// Reads one line and makes its call. None if it cannot be read; the reader then stands before the line's end.
-fn line<'a>(plan: &'a mut Plan, reader: &mut Reader) -> Option<Answer<'a>> {
-    let (name, rest) = Name::read(reader.rest)?;
-    reader.rest = rest;
-    Some(match name {
-        Name::Measure => {
+/// A line that cannot be read, with the last byte taken from it.
+struct Unread {
+    last: u8,
+}
+
+/// Reads one line, makes its call and writes the answer. None if the answer does not fit.
+#[inline(always)]
+fn line(plan: &mut Plan, reader: &mut Reader, writer: &mut Writer) -> Result<Option<()>, Unread> {
+    let start = reader.rest.clone();
+    Ok(match reader.letters() {
+        MEASURE => {
+            reader.ending(b"ure")?;
             let [v] = reader.numbers()?;
-            number(plan.measure(v))
+            writer.given(plan.measure(v))
         }
-        Name::Rule => {
+        RULE => {
             let [a, c, b, f] = reader.numbers()?;
-            number(plan.rule(a, c, b, f))
+            writer.given(plan.rule(a, c, b, f))
         }
-        Name::Open => {
+        OPEN => {
             let [] = reader.numbers()?;
-            nothing(plan.open())
+            writer.nothing(plan.open())
         }
-        Name::Split => {
+        SPLIT => {
+            reader.ending(b"t")?;
             let [s] = reader.numbers()?;
-            number(plan.split(s))
+            writer.given(plan.split(s))
         }
-        Name::Edit => {
+        EDIT => {
             let [s, client, after, m, kind, constant] = reader.numbers()?;
-            number(plan.edit(s, client, after, m, kind, constant))
+            writer.given(plan.edit(s, client, after, m, kind, constant))
         }
-        Name::Join => {
+        JOIN => {
             let [] = reader.numbers()?;
-            nothing(plan.join())
+            writer.nothing(plan.join())
         }
-        Name::Send => {
+        SEND => {
             let [s] = reader.numbers()?;
-            number(plan.send(s))
+            writer.given(plan.send(s))
         }
-        Name::Replay => {
+        REPLAY => {
+            reader.ending(b"ay")?;
             let [n] = reader.numbers()?;
-            number(plan.replay(n).map(|fate| fate as u32))
+            writer.given(plan.replay(n).map(|fate| fate as u32))
         }
-        Name::Stop => {
+        STOP => {
             let [] = reader.numbers()?;
-            nothing(plan.stop())
+            writer.nothing(plan.stop())
         }
-        Name::Confirm => {
+        CONFIRM => {
+            reader.ending(b"irm")?;
             let [s] = reader.numbers()?;
-            nothing(plan.confirm(s))
+            writer.nothing(plan.confirm(s))
         }
-        Name::Install => {
+        INSTALL => {
+            reader.ending(b"all")?;
             let [] = reader.numbers()?;
-            nothing(plan.install())
+            writer.nothing(plan.install())
         }
-        Name::Show => {
+        SHOW => {
             let [s] = reader.numbers()?;
             match plan.values_of(s) {
-                Ok(values) => Answer::Values(values),
-                Err(refusal) => Answer::Refused(refusal),
+                Ok(values) => writer.values(values),
+                Err(refusal) => writer.refusal(refusal),
             }
         }
-        Name::Fate => {
+        FATE => {
             let [n] = reader.numbers()?;
             let (fate, place) = plan.fate(n);
-            Answer::Pair(fate as u32, place)
+            writer.pair(fate as u32, place)
         }
-        Name::Left => {
+        LEFT => {
             let [] = reader.numbers()?;
-            Answer::Number(plan.left())
+            writer.number(plan.left())
+        }
+        _ => {
+            // A line feed may be among the letters.
+            reader.rest = start;
+            return Err(Unread { last: 0 });
         }
     })
 }
 
-fn number(given: Result<u32, Refusal>) -> Answer<'static> {
-    match given {
-        Ok(n) => Answer::Number(n),
-        Err(refusal) => Answer::Refused(refusal),
-    }
-}
+// The first four letters of the names, which are all different.
+const MEASURE: u32 = code(b"meas");
+const RULE: u32 = code(b"rule");
+const OPEN: u32 = code(b"open");
+const SPLIT: u32 = code(b"spli");
+const EDIT: u32 = code(b"edit");
+const JOIN: u32 = code(b"join");
+const SEND: u32 = code(b"send");
+const REPLAY: u32 = code(b"repl");
+const STOP: u32 = code(b"stop");
+const CONFIRM: u32 = code(b"conf");
+const INSTALL: u32 = code(b"inst");
+const SHOW: u32 = code(b"show");
+const FATE: u32 = code(b"fate");
+const LEFT: u32 = code(b"left");
 
-fn nothing(given: Result<(), Refusal>) -> Answer<'static> {
-    number(given.map(|()| 0))
-}
-
-#[derive(Clone, Copy)]
-enum Name {
-    Measure,
-    Rule,
-    Open,
-    Split,
-    Edit,
-    Join,
-    Send,
-    Replay,
-    Stop,
-    Confirm,
-    Install,
-    Show,
-    Fate,
-    Left,
-}
-
-impl Name {
-    /// A name at the front of the bytes, and what follows it.
-    fn read(bytes: &[u8]) -> Option<(Name, &[u8])> {
-        Some(match bytes {
-            [b'm', b'e', b'a', b's', b'u', b'r', b'e', rest @ ..] => (Name::Measure, rest),
-            [b'r', b'u', b'l', b'e', rest @ ..] => (Name::Rule, rest),
-            [b'r', b'e', b'p', b'l', b'a', b'y', rest @ ..] => (Name::Replay, rest),
-            [b'o', b'p', b'e', b'n', rest @ ..] => (Name::Open, rest),
-            [b's', b'p', b'l', b'i', b't', rest @ ..] => (Name::Split, rest),
-            [b's', b'e', b'n', b'd', rest @ ..] => (Name::Send, rest),
-            [b's', b't', b'o', b'p', rest @ ..] => (Name::Stop, rest),
-            [b's', b'h', b'o', b'w', rest @ ..] => (Name::Show, rest),
-            [b'e', b'd', b'i', b't', rest @ ..] => (Name::Edit, rest),
-            [b'j', b'o', b'i', b'n', rest @ ..] => (Name::Join, rest),
-            [b'c', b'o', b'n', b'f', b'i', b'r', b'm', rest @ ..] => (Name::Confirm, rest),
-            [b'i', b'n', b's', b't', b'a', b'l', b'l', rest @ ..] => (Name::Install, rest),
-            [b'f', b'a', b't', b'e', rest @ ..] => (Name::Fate, rest),
-            [b'l', b'e', b'f', b't', rest @ ..] => (Name::Left, rest),
-            _ => return None,
-        })
-    }
+const fn code(letters: &[u8; 4]) -> u32 {
+    u32::from_le_bytes(*letters)
 }
 
 struct Reader<'a> {
-    rest: &'a [u8],
+    rest: Iter<'a, u8>,
 }
 
 impl Reader<'_> {
-    /// The numbers up to the line's end, each behind one space. Takes the line feed too.
-    #[inline]
-    fn numbers<const N: usize>(&mut self) -> Option<[i32; N]> {
-        let mut numbers = [0; N];
-        for number in &mut numbers {
-            *number = self.number()?;
-        }
-        match self.rest {
-            [] => {}
-            [b'\n', rest @ ..] => self.rest = rest,
-            _ => return None,
-        }
-        Some(numbers)
+    /// The next byte. A sheet ends as if by a line feed.
+    #[inline(always)]
+    fn byte(&mut self) -> u8 {
+        self.rest.next().copied().unwrap_or(LF)
     }
 
-    /// A space and a number: 0, or an optional minus and one to nine digits, the first not 0.
-    #[inline]
-    fn number(&mut self) -> Option<i32> {
-        let [b' ', rest @ ..] = self.rest else {
-            return None;
-        };
-        let (negative, rest) = match rest {
-            [b'-', rest @ ..] => (true, rest),
-            _ => (false, rest),
-        };
-        let mut value = match rest {
-            [d @ b'1'..=b'9', ..] => (d - b'0') as i32,
-            [b'0', rest @ ..] if !negative => {
-                self.rest = rest;
-                return Some(0);
+    /// The first four letters of a line, which tell the names apart. Takes nothing if there are fewer bytes.
+    #[inline(always)]
+    fn letters(&mut self) -> u32 {
+        match self.rest.as_slice().split_first_chunk() {
+            Some((letters, rest)) => {
+                self.rest = rest.iter();
+                code(letters)
             }
-            _ => return None,
-        };
-        let mut length = 1;
-        while let Some(d @ b'0'..=b'9') = rest.get(length) {
-            if length == 9 {
-                return None;
-            }
-            value = value * 10 + (d - b'0') as i32;
-            length += 1;
+            None => 0,
         }
-        self.rest = &rest[length..];
-        Some(if negative { -value } else { value })
+    }
+
+    /// The rest of a name. Takes nothing if it is another.
+    #[inline(always)]
+    fn ending<const N: usize>(&mut self, ending: &[u8; N]) -> Result<(), Unread> {
+        match self.rest.as_slice().split_first_chunk() {
+            Some((letters, rest)) if letters == ending => {
+                self.rest = rest.iter();
+                Ok(())
+            }
+            _ => Err(Unread { last: 0 }),
+        }
+    }
+
+    /// The numbers up to the line's end, each behind one space. Takes the line feed too.
+    #[inline(always)]
+    fn numbers<const N: usize>(&mut self) -> Result<[i32; N], Unread> {
+        let mut numbers = [0; N];
+        let mut last = self.byte();
+        for number in &mut numbers {
+            if last != b' ' {
+                return Err(Unread { last });
+            }
+            (*number, last) = self.number()?;
+        }
+        if last != LF {
+            return Err(Unread { last });
+        }
+        Ok(numbers)
+    }
+
+    /// A number and the byte behind it: 0, or an optional minus and one to nine digits, the first not 0.
+    #[inline(always)]
+    fn number(&mut self) -> Result<(i32, u8), Unread> {
+        let mut last = self.byte();
+        let negative = last == b'-';
+        if negative {
+            last = self.byte();
+        }
+        let mut value = match last {
+            b'1'..=b'9' => (last - b'0') as i32,
+            b'0' if !negative => return Ok((0, self.byte())),
+            _ => return Err(Unread { last }),
+        };
+        for length in 1..=9 {
+            last = self.byte();
+            let digit = last.wrapping_sub(b'0');
+            if digit > 9 {
+                return Ok((if negative { -value } else { value }, last));
+            }
+            if length < 9 {
+                value = value * 10 + digit as i32;
+            }
+        }
+        Err(Unread { last })
     }
 
     fn skip_line(&mut self) {
-        self.rest = match self.rest.iter().position(|&b| b == b'\n') {
-            Some(end) => &self.rest[end + 1..],
-            None => &[],
+        self.rest.find(|&&b| b == LF);
+    }
+}
+
+/// The unused rest of the area. Each answer goes in whole, or None is given.
+struct Writer<'a> {
+    rest: &'a mut [u8],
+}
+
+impl Writer<'_> {
+    #[inline]
+    fn given(&mut self, given: Result<u32, Refusal>) -> Option<()> {
+        match given {
+            Ok(n) => self.number(n),
+            Err(refusal) => self.refusal(refusal),
+        }
+    }
+
+    #[inline]
+    fn nothing(&mut self, given: Result<(), Refusal>) -> Option<()> {
+        self.given(given.map(|()| 0))
+    }
+
+    /// Takes L bytes of the rest.
+    #[inline]
+    fn take<const L: usize>(&mut self) -> Option<&mut [u8; L]> {
+        if self.rest.len() < L {
+            return None;
+        }
+        let (line, rest) = std::mem::take(&mut self.rest).split_first_chunk_mut()?;
+        self.rest = rest;
+        Some(line)
+    }
+
+    #[inline]
+    fn refusal(&mut self, refusal: Refusal) -> Option<()> {
+        let n = refusal as u8;
+        *self.take()? = [b'n', b'o', b' ', b'0' + n / 10, b'0' + n % 10, LF];
+        Some(())
+    }
+
+    #[inline]
+    fn number(&mut self, n: u32) -> Option<()> {
+        match n {
+            0..=9 => self.sized_number::<5>(n),
+            10..=99 => self.sized_number::<6>(n),
+            100..=999 => self.sized_number::<7>(n),
+            1_000..=9_999 => self.sized_number::<8>(n),
+            10_000..=99_999 => self.sized_number::<9>(n),
+            _ => self.sized_number::<10>(n),
+        }
+    }
+
+    /// A line of L bytes with one number.
+    #[inline]
+    fn sized_number<const L: usize>(&mut self, n: u32) -> Option<()> {
+        let line = self.take::<L>()?;
+        line[..3].copy_from_slice(b"ok ");
+        put_digits(n, &mut line[3..L - 1]);
+        line[L - 1] = LF;
+        Some(())
+    }
+
+    #[inline]
+    fn pair(&mut self, fate: u32, place: u32) -> Option<()> {
+        match place {
+            0..=9 => self.sized_pair::<7>(fate, place),
+            10..=99 => self.sized_pair::<8>(fate, place),
+            _ => self.sized_pair::<9>(fate, place),
+        }
+    }
+
+    /// A line of L bytes with a fate, which is one digit, and a place.
+    #[inline]
+    fn sized_pair<const L: usize>(&mut self, fate: u32, place: u32) -> Option<()> {
+        let line = self.take::<L>()?;
+        line[..5].copy_from_slice(&[b'o', b'k', b' ', b'0' + fate as u8, b' ']);
+        put_digits(place, &mut line[5..L - 1]);
+        line[L - 1] = LF;
+        Some(())
+    }
+
+    fn values(&mut self, values: &[i32]) -> Option<()> {
+        let length = match self.rest.first_chunk_mut() {
+            Some(line) => put_values(values, line),
+            None => {
+                let mut line = [0; LONGEST_ANSWER];
+                let length = put_values(values, &mut line);
+                self.rest.get_mut(..length)?.copy_from_slice(&line[..length]);
+                length
+            }
+        };
+        self.rest = &mut std::mem::take(&mut self.rest)[length..];
+        Some(())
+    }
+}
+
+/// Puts a line of values to the front and gives its length.
+fn put_values(values: &[i32], line: &mut [u8; LONGEST_ANSWER]) -> usize {
+    line[..2].copy_from_slice(b"ok");
+    let mut at = 2;
+    for &value in values {
+        line[at] = b' ';
+        at += 1;
+        if value < 0 {
+            line[at] = b'-';
+            at += 1;
+        }
+        let n = value.unsigned_abs();
+        at += match n {
+            0..=9 => put_sized::<1>(n, &mut line[at..]),
+            10..=99 => put_sized::<2>(n, &mut line[at..]),
+            100..=999 => put_sized::<3>(n, &mut line[at..]),
+            1_000..=9_999 => put_sized::<4>(n, &mut line[at..]),
+            10_000..=99_999 => put_sized::<5>(n, &mut line[at..]),
+            100_000..=999_999 => put_sized::<6>(n, &mut line[at..]),
+            _ => put_sized::<7>(n, &mut line[at..]),
         };
     }
+    line[at] = LF;
+    at + 1
 }
 
-/// Writes an answer line to the front of the area if it fits whole, and gives its length.
-fn write(answer: &Answer, area: &mut [u8]) -> Option<usize> {
-    match *answer {
-        Answer::Number(n) => {
-            let digits = digits(n);
-            let length = 4 + digits;
-            let line = area.get_mut(..length)?;
-            line[..3].copy_from_slice(b"ok ");
-            put_digits(&mut line[3..3 + digits], n);
-            line[3 + digits] = b'\n';
-            Some(length)
-        }
-        Answer::Refused(refusal) => {
-            let n = refusal as u8;
-            area.get_mut(..6)?.copy_from_slice(&[b'n', b'o', b' ', b'0' + n / 10, b'0' + n % 10, b'\n']);
-            Some(6)
-        }
-        Answer::Pair(a, b) => {
-            let end = 3 + digits(a);
-            let length = end + 2 + digits(b);
-            let line = area.get_mut(..length)?;
-            line[..3].copy_from_slice(b"ok ");
-            put_digits(&mut line[3..end], a);
-            line[end] = b' ';
-            put_digits(&mut line[end + 1..length - 1], b);
-            line[length - 1] = b'\n';
-            Some(length)
-        }
-        Answer::Values(values) => {
-            let width = |v: i32| 1 + (v < 0) as usize + digits(v.unsigned_abs());
-            let length = 3 + values.iter().map(|&v| width(v)).sum::<usize>();
-            let line = area.get_mut(..length)?;
-            line[..2].copy_from_slice(b"ok");
-            let mut at = 2;
-            for &v in values {
-                line[at] = b' ';
-                at += 1;
-                if v < 0 {
-                    line[at] = b'-';
-                    at += 1;
-                }
-                let end = at + digits(v.unsigned_abs());
-                put_digits(&mut line[at..end], v.unsigned_abs());
-                at = end;
-            }
-            line[at] = b'\n';
-            Some(length)
-        }
-    }
-}
-
-fn digits(n: u32) -> usize {
-    match n {
-        0..=9 => 1,
-        10..=99 => 2,
-        100..=999 => 3,
-        1_000..=9_999 => 4,
-        10_000..=99_999 => 5,
-        100_000..=999_999 => 6,
-        _ => n.ilog10() as usize + 1,
-    }
+/// Puts a number of D digits to the front.
+#[inline]
+fn put_sized<const D: usize>(n: u32, line: &mut [u8]) -> usize {
+    put_digits(n, &mut line[..D]);
+    D
 }
 
 /// Fills the place with the number's digits.
-fn put_digits(place: &mut [u8], mut n: u32) {
+#[inline]
+fn put_digits(mut n: u32, place: &mut [u8]) {
     for digit in place.iter_mut().rev() {
         *digit = b'0' + (n % 10) as u8;
         n /= 10;
