@@ -2,6 +2,7 @@
 
 use crate::call::NAMES;
 use crate::random::Random;
+use std::time::{Duration, Instant};
 
 const GUARD: usize = 64;
 
@@ -112,10 +113,16 @@ impl Areas {
     }
 }
 
+const SHRINK_TIME: Duration = Duration::from_secs(3);
+
 /// A shorter sheet that still differs in an area of some length.
 pub fn shrink(sheet: &[u8]) -> Vec<u8> {
     let mut areas = Areas::new();
+    let start = Instant::now();
     let mut differs = |sheet: &[u8]| {
+        if start.elapsed() > SHRINK_TIME {
+            return false;
+        }
         let total = separate::answers(sheet).len();
         [total, total + 300, total.saturating_sub(1)].iter().any(|&length| areas.run(sheet, length, 7).is_err())
     };

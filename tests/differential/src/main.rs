@@ -48,7 +48,8 @@ fn main() -> ExitCode {
     let mut index = 0;
     while counts.lines < lines && failed < FAILURES_SHOWN as u64 {
         let mut random = Random::item(seed, index);
-        let sheet = sheets::sheet(&mut random);
+        // A block of exactly its length, so that a memory checker sees a read behind the end.
+        let sheet = sheets::sheet(&mut random).into_boxed_slice();
         match areas.compare(&mut random, &sheet, &mut counts) {
             Ok(()) => passed += 1,
             Err((length, what)) => {
