@@ -2,10 +2,13 @@
 //! the library's answers.
 //!
 //! differential [SEED [LINES [LISTS]]]
+//!
+//! The environment's COUNTER may name the counter program, which is then run on some of the sheets.
 
 mod book;
 mod call;
 mod compare;
+mod counter;
 mod generate;
 mod random;
 mod sheets;
@@ -24,6 +27,8 @@ const REFUSALS: [usize; 28] = [
 const LINES_TO_MEET_ALL: u64 = 500_000;
 
 const FAILURES_SHOWN: usize = 5;
+
+const COUNTER_SHEETS: u64 = 300;
 
 fn argument(index: usize, default: u64) -> u64 {
     match std::env::args().nth(index) {
@@ -108,6 +113,26 @@ fn main() -> ExitCode {
         "{} lists with a book: {} accepted calls, {} late edits, {} installs, closing moves tried at {} places",
         tally.lists, tally.moves, tally.late, tally.installs, tally.prefixes
     );
+
+    if let Ok(program) = std::env::var("COUNTER") {
+        let mut broken = 0;
+        for index in 0..COUNTER_SHEETS {
+            let mut random = Random::item(seed, index);
+            let sheet = sheets::sheet(&mut random);
+            match counter::check(&program, &mut random, &sheet) {
+                Ok(()) => passed += 1,
+                Err(what) => {
+                    failed += 1;
+                    broken += 1;
+                    println!("sheet {index}: {what}");
+                    if broken == FAILURES_SHOWN {
+                        break;
+                    }
+                }
+            }
+        }
+        println!("counter program run on {COUNTER_SHEETS} sheets");
+    }
 
     println!("{passed} passed, {failed} failed");
     if failed == 0 && passed > 0 {
