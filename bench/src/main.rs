@@ -128,12 +128,16 @@ fn fates(kept: usize) -> String {
 const MALFORMED: &str = "measure 1234567890\nedit 1 5 0 1 2\nedit 1 5 0 1 2 1\r\nmesure 5\n\nedit  1 5 0 1 2 1\nreplay -0\nshow 1 2\n\
                          rule 1 07 2 0\nopen \nedit 1 5 0 1 2 1 1\n";
 
+fn counted(count: usize, what: &str) -> String {
+    format!("{count} {what}{}", if count == 1 { "" } else { "s" })
+}
+
 fn workloads() -> Vec<Workload> {
     let mut list = Vec::new();
     for rules in [1, 3] {
         let setup = drawn(4, rules, false);
         let body = filled(&setup, &edits(4), 1000);
-        list.push(Workload::new(&format!("edit, {rules} rule{}", if rules == 1 { "" } else { "s" }), setup, body));
+        list.push(Workload::new(&format!("edit, {}", counted(rules, "rule")), setup, body));
     }
     let setup = drawn(32, 64, false);
     let body = filled(&setup, &edits(32), 1000);
@@ -159,7 +163,7 @@ fn growth() -> Vec<(&'static str, Vec<Workload>)> {
     for count in [0, 1, 4, 16, 64] {
         let setup = drawn(32, count, false);
         let body = filled(&setup, &edits(32), 1000);
-        rules.push(Workload::new(&format!("edit, {count} rules"), setup, body));
+        rules.push(Workload::new(&format!("edit, {}", counted(count, "rule")), setup, body));
     }
     // Refused at the last but one check, so that the plan stays as it is.
     let refused = |kept: usize| {
@@ -187,15 +191,15 @@ fn growth() -> Vec<(&'static str, Vec<Workload>)> {
     for count in [1, 4, 8] {
         let setup = if count == 1 { drawn(8, 4, false) } else { joining(count, 64) };
         let line = format!("edit {count} 1 0 1 2 1000000\n");
-        sides.push(Workload::new(&format!("edit, {count} sides"), setup.clone(), filled(&setup, &line, 3000)));
+        sides.push(Workload::new(&format!("edit, {}", counted(count, "side")), setup.clone(), filled(&setup, &line, 3000)));
     }
     for count in [1, 4, 8] {
         let setup = if count == 1 { drawn(8, 4, false) } else { joining(count, 64) };
-        sides.push(Workload::new(&format!("left, {count} sides"), setup.clone(), filled(&setup, "left\n", 10_000)));
+        sides.push(Workload::new(&format!("left, {}", counted(count, "side")), setup.clone(), filled(&setup, "left\n", 10_000)));
     }
     for count in [1, 4, 8] {
         let setup = if count == 1 { drawn(8, 4, false) } else { joining(count, 64) };
-        sides.push(Workload::new(&format!("show, {count} sides"), setup.clone(), filled(&setup, &format!("show {count}\n"), 3000)));
+        sides.push(Workload::new(&format!("show, {}", counted(count, "side")), setup.clone(), filled(&setup, &format!("show {count}\n"), 3000)));
     }
     for count in [2, 4, 8] {
         let (setup, body) = cycles(count, 64, 8, 4);
@@ -208,7 +212,7 @@ fn growth() -> Vec<(&'static str, Vec<Workload>)> {
     vec![("rules", rules), ("kept edits", kept), ("sides", sides), ("a whole run", run)]
 }
 
-/// Nanoseconds of one run, the least of several together where a run is short.
+/// Nanoseconds of one run; of a short one, the mean of several in a row.
 fn time(program: Program, sheet: &[u8], area: &mut [u8]) -> f64 {
     let times = if sheet.len() < 1000 { 50 } else { 1 };
     let start = Instant::now();
