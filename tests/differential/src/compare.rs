@@ -6,9 +6,11 @@ use std::time::{Duration, Instant};
 
 const GUARD: usize = 64;
 
-/// What was met, by refusal number and by name of an accepted call.
+/// What was met, by refusal number and by name of an accepted call. Each sheet counts once.
 pub struct Counts {
     pub lines: u64,
+    /// Lines compared again in areas of other lengths.
+    pub again: u64,
     pub runs: u64,
     pub refused: [u64; 100],
     pub accepted: [u64; 14],
@@ -16,7 +18,7 @@ pub struct Counts {
 
 impl Counts {
     pub fn new() -> Counts {
-        Counts { lines: 0, runs: 0, refused: [0; 100], accepted: [0; 14] }
+        Counts { lines: 0, again: 0, runs: 0, refused: [0; 100], accepted: [0; 14] }
     }
 
     /// Counts the lines of a sheet by their answers.
@@ -90,7 +92,7 @@ impl Areas {
             if self.ours[GUARD..GUARD + written] != self.full[..written] {
                 return Err((length, "a short area has other answers".into()));
             }
-            counts.add(sheet, &self.full[..written]);
+            counts.again += self.full[..written].iter().filter(|&&b| b == b'\n').count() as u64;
         }
         Ok(())
     }

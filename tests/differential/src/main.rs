@@ -65,7 +65,7 @@ fn main() -> ExitCode {
         }
         index += 1;
     }
-    println!("{} lines, {} sheets, {} runs compared", counts.lines, index, counts.runs);
+    println!("{} lines of {index} sheets compared; {} runs in all, with {} lines again", counts.lines, counts.runs, counts.again);
     print!("accepted:");
     for (call, (_, name, _)) in NAMES.iter().enumerate() {
         print!(" {name} {}", counts.accepted[call]);
