@@ -3,7 +3,13 @@
  *     every_length STEP SHEET ANSWERS   a sheet with its stored answers; only every STEP-th length, the last ones always
  *     every_length STEP                 the sheets that are not stored: an empty one, and one of a byte too many
  *
- * The sheet and the area end where their blocks end, so that a memory checker sees any access past them. */
+ * The sheet and the area end where their blocks end, so that a memory checker sees any access past them. With -DGUARD_PAGES the blocks end
+ * at a page that may not be touched, for machines without one. */
+#ifdef GUARD_PAGES
+#define _DEFAULT_SOURCE
+#include <sys/mman.h>
+#include <unistd.h>
+#endif
 #include <stdio.h>
 #include <stdlib.h>
 #include <string.h>
@@ -19,6 +25,36 @@ static void *block(size_t size) {
     }
     return p;
 }
+
+#ifdef GUARD_PAGES
+static size_t pages(size_t size) {
+    size_t page = (size_t)sysconf(_SC_PAGESIZE);
+    return (size + page - 1) / page * page;
+}
+
+static uint8_t *lend(size_t size) {
+    size_t room = pages(size), guard = pages(1);
+    uint8_t *p = mmap(NULL, room + guard, PROT_READ | PROT_WRITE, MAP_PRIVATE | MAP_ANONYMOUS, -1, 0);
+    if (p == MAP_FAILED || mprotect(p + room, guard, PROT_NONE) != 0) {
+        fputs("every_length: no memory\n", stderr);
+        exit(2);
+    }
+    return p + (room - size);
+}
+
+static void take_back(uint8_t *p, size_t size) {
+    munmap(p - (pages(size) - size), pages(size) + pages(1));
+}
+#else
+static uint8_t *lend(size_t size) {
+    return block(size);
+}
+
+static void take_back(uint8_t *p, size_t size) {
+    (void)size;
+    free(p);
+}
+#endif
 
 /* What stands in the area beforehand: no byte of an answer has the high bit. */
 static uint8_t pattern(size_t i) {
@@ -36,7 +72,7 @@ static size_t whole_lines(const uint8_t *text, size_t len, size_t area) {
 
 /* One run with an area of `size` bytes; 1 if it is right. */
 static int run(const char *name, const uint8_t *sheet, size_t len, const uint8_t *answers, size_t full, size_t size) {
-    uint8_t *in = block(FRONT + len), *out = block(FRONT + size);
+    uint8_t *in = lend(FRONT + len), *out = lend(FRONT + size);
     memcpy(in + FRONT, sheet, len);
     for (size_t i = 0; i < FRONT + size; i++)
         out[i] = pattern(i);
@@ -56,8 +92,8 @@ static int run(const char *name, const uint8_t *sheet, size_t len, const uint8_t
     if (wrong != NULL)
         printf("every_length: %s, area of %zu bytes: %s (%llu, due %llu)\n", name, size, wrong, (unsigned long long)got,
                (unsigned long long)due);
-    free(in);
-    free(out);
+    take_back(in, FRONT + len);
+    take_back(out, FRONT + size);
     return wrong == NULL;
 }
 
