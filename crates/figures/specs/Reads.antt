@@ -2,15 +2,20 @@
 use Prim.Native.Nat.{ℕ, zero, suc, _+_}
 use mathlib.Core.Bool.{Bool, false, not, cond, _||_}
 use mathlib.Core.List.{List, [], _∷_}
-use lib.Dec.{leb, ltb}
+use lib.Dec.{eqb, leb, ltb}
 use lib.ListN.{getD, set, replicate}
 use Rattle.protocol.specs.Lists.{bit, oneTo, tally}
-use Rattle.protocol.specs.Plan.{blank, joining, is, active, unsentOf}
+use Rattle.protocol.specs.Plan.{fateNumber, blank, joining, is, active, unsentOf}
 use Rattle.protocol.specs.Calls.{Check, _unless_}
 use Rattle.records.specs.declared.EditRecord.{EditRecord}
 use Rattle.heads.specs.declared.Head.{Head}
 use Rattle.heads.specs.Heads.{modeOf, sidesIn, indexOf, measuresIn, unsetIn}
-use Rattle.records.specs.Records.{keptOf}
+use Rattle.records.specs.Records.{fateOf, keptOf}
+use Rattle.state.specs.declared.Answer.{Answer}
+use Rattle.state.specs.declared.Answer.the-variants.{Pair}
+
+abbrev pub fateAnswer : ℕ → EditRecord → Answer
+fateAnswer i e = cond (eqb i 0) (Pair 0 0) (Pair (fateNumber (fateOf (e .fate))) (e .place))
 
 abbrev pub showChecks : Head → ℕ → ℕ → List Check
 showChecks h s room = (31 unless not (is blank (modeOf (h .mode)))) ∷ (21 unless oneTo (sidesIn h) s) ∷ (41 unless leb (measuresIn h) room) ∷ []

@@ -9,11 +9,25 @@ ghost use Rattle.protocol.specs.Plan.{is, joining};
 ghost use Rattle.protocol.specs.Calls.{left, first};
 ghost use Rattle.heads.specs.Heads.{modeOf, sidesIn};
 ghost use Rattle.state.specs.Meets.{refusalOf};
-ghost use Rattle.figures.specs.Reads.{showChecks, pendingIn, unsentCounts, leftNumber};
+ghost use Rattle.figures.specs.Reads.{fateAnswer, showChecks, pendingIn, unsentCounts, leftNumber};
 use heads::Head;
 use heads::Mode;
 use records::EditRecord;
 use records::Test;
+use state::Answer;
+
+// ---- fate
+
+// The fate and place of the edit found at a place from 1; place 0 is none.
+pub fn fate_answer(i: usize, e: EditRecord) -> Answer
+    ensures { λ r. ⌜ r ≡ fateAnswer i e ⌝ }
+{
+    if i == 0 {
+        return Answer::Pair(0, 0);
+    }
+    let f = e.fate;
+    Answer::Pair(records::fate_number(f), e.place)
+}
 
 // ---- left
 

@@ -34,13 +34,11 @@ use Rattle.tally.specs.Tallies.{Counted, tallyAfter, opOf, firstNumber}
 use Rattle.tally.proofs.Counts.{counted-after}
 use Rattle.dispatch.specs.Rare.{drawCall, moveCall, Performs}
 use Rattle.reads.specs.Readings.{readCall}
+use Rattle.reads.proofs.Right.{alone-row}
 use Rattle.reader.specs.declared.Line.{Line}
 use Rattle.reader.specs.Reads.{lineIn}
 use Rattle.writer.specs.Writes.{withRow}
 use Rattle.progress.specs.Progress.{movedOp}
-
-true-false : true ≡ false → ⊥
-true-false e = subst T e tt
 
 -- the one number that is left
 last : (n : ℕ) → 3 < n → n ≤ 11 → n ≢ 4 → n ≢ 5 → n ≢ 6 → n ≢ 7 → n ≢ 8 → n ≢ 9 → n ≢ 10 → n ≡ 11
@@ -58,11 +56,8 @@ third n h a b c = omega arith
 -- ---- the call of a line, by its number
 
 module _ (l : Line) where
-  nonzero : (eqb (l .op) 0 || ltb 11 (l .op)) ≡ false → l .op ≢ 0
-  nonzero t e = true-false (sym (rw e) ∙ t)
-
-  small : (eqb (l .op) 0 || ltb 11 (l .op)) ≡ false → l .op ≤ 11
-  small t = ltb-false 11 (l .op) (rw (ne-eqb (l .op) 0 (nonzero t)) at t)
+  pub line-none : l .op ≡ 0 → lineIn l ≡ none
+  line-none e = rw e
 
   pub line-edit : l .op ≡ 5 → lineIn l ≡ some (edit (l .a) (l .b) (l .c) (l .d) (l .e) (l .f))
   line-edit e = rw e
@@ -70,20 +65,17 @@ module _ (l : Line) where
   pub line-replay : l .op ≡ 8 → lineIn l ≡ some (replay (l .a))
   line-replay e = rw e
 
-  pub line-reads : (eqb (l .op) 0 || ltb 11 (l .op)) ≡ true → lineIn l ≡ readCall (l .op) (l .a)
-  line-reads t = cases (eqb (l .op) 0) (λ z. rw (eqb-true (l .op) 0 z))
-      (λ z.
-      let h = ltb-true 11 (l .op) (rw z at t) in
+  pub line-reads : 11 < l .op → lineIn l ≡ readCall (l .op) (l .a)
+  line-reads h =
       let off : (k : ℕ) → k ≤ 11 → eqb (l .op) k ≡ false = λ k a. ne-eqb (l .op) k (λ e. omega arith) in
-      rw (off 1 (omega arith), off 2 (omega arith), off 3 (omega arith), off 4 (omega arith), off 5 (omega arith), off 6 (omega arith), off 7 (omega arith), off 8 (omega arith), off 9 (omega arith), off 10 (omega arith), off 11 (omega arith)))
+      rw (off 1 (omega arith), off 2 (omega arith), off 3 (omega arith), off 4 (omega arith), off 5 (omega arith), off 6 (omega arith), off 7 (omega arith), off 8 (omega arith), off 9 (omega arith), off 10 (omega arith), off 11 (omega arith))
 
   pub line-send : l .op ≡ 7 → lineIn l ≡ some (send (l .a))
   line-send e = rw e
 
   -- what is left above 3 and up to 11
-  pub line-moves : l .op ≢ 5 → l .op ≢ 8 → (eqb (l .op) 0 || ltb 11 (l .op)) ≡ false → l .op ≢ 7 → 3 < l .op → lineIn l ≡ some (moveCall (l .op) (l .a))
-  line-moves five eight t seven h =
-      let k = small t in
+  pub line-moves : l .op ≢ 5 → l .op ≢ 8 → l .op ≤ 11 → l .op ≢ 7 → 3 < l .op → lineIn l ≡ some (moveCall (l .op) (l .a))
+  line-moves five eight k seven h =
       cases (eqb (l .op) 4) (λ e. rw (eqb-true (l .op) 4 e)) (λ a.
       cases (eqb (l .op) 6) (λ e. rw (eqb-true (l .op) 6 e)) (λ b.
       cases (eqb (l .op) 9) (λ e. rw (eqb-true (l .op) 9 e)) (λ c.
@@ -91,11 +83,11 @@ module _ (l : Line) where
       let e : l .op ≡ 11 = last (l .op) h k (eqb-false (l .op) 4 a) five (eqb-false (l .op) 6 b) seven eight (eqb-false (l .op) 9 c) (eqb-false (l .op) 10 d) in
       rw e))))
 
-  pub line-draws : (eqb (l .op) 0 || ltb 11 (l .op)) ≡ false → l .op ≤ 3 → lineIn l ≡ drawCall (l .op) (l .a) (l .b) (l .c) (l .d)
-  line-draws t h =
+  pub line-draws : l .op ≢ 0 → l .op ≤ 3 → lineIn l ≡ drawCall (l .op) (l .a) (l .b) (l .c) (l .d)
+  line-draws z h =
       cases (eqb (l .op) 1) (λ e. rw (eqb-true (l .op) 1 e)) (λ a.
       cases (eqb (l .op) 2) (λ e. rw (eqb-true (l .op) 2 e)) (λ b.
-      let e : l .op ≡ 3 = third (l .op) h (nonzero t) (eqb-false (l .op) 1 a) (eqb-false (l .op) 2 b) in
+      let e : l .op ≡ 3 = third (l .op) h z (eqb-false (l .op) 1 a) (eqb-false (l .op) 2 b) in
       rw e))
 
 -- ---- what making a line gives
@@ -104,15 +96,12 @@ pub record Made (l : Option Call) (p q : State) (a : Answer) (vs : List ℤ) : T
   pub answer : withRow (answerOf a) vs ≡ stepOf l (view p) .answer
   pub plan : view q ≡ stepOf l (view p) .plan
 
-alone-row : (a : Answer) → withRow (answerOf a) [] ≡ answerOf a
-alone-row (Refused k) = refl
-alone-row Done = refl
-alone-row (Number n) = refl
-alone-row (Pair a b) = refl
-
 pub meets-made : (c : Call) (p : State) (r : Answered) → Meets c p r → Made (some c) p (r .state) (r .answer) []
 unfolding step
 meets-made c p r m = record { answer = alone-row (r .answer) ∙ m .answer; plan = m .plan }
+
+pub none-made : (p : State) → Made none p p (Refused 51) []
+none-made p = record { answer = refl; plan = refl }
 
 pub performs-made : (l : Option Call) (p : State) (r : Answered) → Performs l p r → Made l p (r .state) (r .answer) []
 performs-made none p r e = rw e (record { answer = refl; plan = refl })

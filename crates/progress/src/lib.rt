@@ -1,8 +1,5 @@
 // The run over a sheet (01, "The sheet program"): each line is read, made on the plan and answered. The loop owns the plan and stores in place.
 ghost use mathlib.Core.Path.{_≡_};
-ghost use mathlib.Core.Bool.{cond};
-ghost use mathlib.Core.Bool.{_||_};
-ghost use lib.Dec.{eqb, ltb};
 ghost use Rattle.records.specs.Records.{keptOf};
 ghost use Rattle.tally.specs.Tallies.{Counted};
 ghost use Rattle.progress.specs.Progress.{movedOp, Advanced};
@@ -29,16 +26,6 @@ fn moved_op(answer: Answer, op: u32) -> u32
         Answer::Number(_) => op,
         Answer::Pair(_, _) => op,
     }
-}
-
-// 0 is a line that cannot be read, 12 to 14 are the calls that only read.
-fn only_reads(op: u32) -> bool
-    ensures { λ t. ⌜ t ≡ (eqb op 0 || ltb 11 op) ⌝ }
-{
-    if op == 0 {
-        return true;
-    }
-    11 < op
 }
 
 fn go(
@@ -73,7 +60,7 @@ fn go(
         let h = p.head;
         let mode = h.mode;
         let whole = heads::mode_number(mode) == 1;
-        let mut answer = Answer::Done;
+        let mut answer = Answer::Refused(51);
         let mut first: usize = 0;
         let mut width: usize = 0;
         if op == 5 {
@@ -142,7 +129,7 @@ fn go(
             p.draft[point] = amount;
             p.edits[slot] = entry;
             answer = given;
-        } else if only_reads(op) {
+        } else if 11 < op {
             let named = heads::position(h, side);
             let seat = heads::place(named);
             let seen = p.edits[seat];
@@ -205,7 +192,7 @@ fn go(
             p.arrived = arrived;
             p.confirmed = confirmed;
             answer = given;
-        } else {
+        } else if op != 0 {
             let r = dispatch::draw_up(p, op, a, line.b, line.c, line.d);
             let q = r.state;
             let given = r.answer;

@@ -11,21 +11,23 @@ use lib.IntN.{ℤ, pos}
 use lib.ListN.{length, getD, set, take, drop, length-set}
 use Rattle.protocol.specs.Lists.{bit, natural, oneTo, tally, count}
 use Rattle.protocol.specs.Plan.{Kept, fateNumber, isOpen, sideAt, lookup, unsentOf, pending}
-use Rattle.protocol.specs.Calls.{show, fine, refused, first, checks, further, gives, step, fateIn, leftIn, shown}
+use Rattle.protocol.specs.Calls.{show, fine, refused, first, checks, further, gives, step, fateIn, leftIn, shown, ok}
 use Rattle.protocol.proofs.Laws.{cases, range, yes-is, is-yes, tally-same}
 use Rattle.rows.specs.Rows.{span, row, copied, copiedIn}
 use Rattle.rows.proofs.Spans.{getD-set, getD-other, below}
 use Rattle.records.specs.declared.EditRecord.{EditRecord}
 use Rattle.heads.specs.declared.Head.{Head}
 use Rattle.state.specs.declared.State.{State}
-use Rattle.heads.specs.Heads.{sidesIn, indexOf, offsetOf, measuresIn, positionOf, placeOf, unsetIn}
+use Rattle.heads.specs.Heads.{sidesIn, indexOf, offsetOf, measuresIn, endIn, keptIn, positionOf, placeOf, unsetIn}
 use Rattle.records.specs.Records.{fateOf, keptAt, logOf, keptOf, noRecord}
 use Rattle.state.specs.View.{view}
 use Rattle.heads.proofs.Flags.{index-suc}
 use Rattle.state.proofs.Views.{sides-most, sides-length, side-at, row-length}
 use Rattle.state.proofs.Meeting.{fine-pass}
 use Rattle.records.proofs.Logs.{Placed, placed}
-use Rattle.figures.specs.Reads.{showChecks, pendingIn, unsentCounts, leftNumber}
+use Rattle.state.specs.declared.Answer.{Answer}
+use Rattle.state.specs.Meets.{answerOf, SameIfRefused}
+use Rattle.figures.specs.Reads.{fateAnswer, showChecks, pendingIn, unsentCounts, leftNumber}
 
 -- ---- fate
 
@@ -56,10 +58,10 @@ unplaced e k (suc n) j z h w =
     let o : suc (k - (e - suc n)) ≡ 0 = rw (eqb·suc-zero n, lt-ltb (suc n) e (omega arith), le-leb (e - suc n) k (omega arith)) at z in
     omega (arith, o)
 
-pub fate-none : (e k n : ℕ) (es : List EditRecord) → positionOf e k n ≡ 0 → fateIn n (logOf e k es) ≡ pos 0 ∷ pos 0 ∷ []
+fate-none : (e k n : ℕ) (es : List EditRecord) → positionOf e k n ≡ 0 → fateIn n (logOf e k es) ≡ pos 0 ∷ pos 0 ∷ []
 fate-none e k n es z = fate-unlisted n 0 k _ (λ j a b. unplaced e k n j z (omega arith))
 
-pub fate-some : (e k n : ℕ) (es : List EditRecord) → k ≤ 256 → positionOf e k n ≢ 0 → let r = getD es (placeOf (positionOf e k n)) noRecord in fateIn n (logOf e k es) ≡ pos (fateNumber (fateOf (r .fate))) ∷ pos (r .place) ∷ []
+fate-some : (e k n : ℕ) (es : List EditRecord) → k ≤ 256 → positionOf e k n ≢ 0 → let r = getD es (placeOf (positionOf e k n)) noRecord in fateIn n (logOf e k es) ≡ pos (fateNumber (fateOf (r .fate))) ∷ pos (r .place) ∷ []
 fate-some e k n es most h = by (placed e k n es)
   where
     by : Placed e k n es → let r = getD es (placeOf (positionOf e k n)) noRecord in fateIn n (logOf e k es) ≡ pos (fateNumber (fateOf (r .fate))) ∷ pos (r .place) ∷ []
@@ -69,6 +71,19 @@ fate-some e k n es most h = by (placed e k n es)
         let p : placeOf (suc (q .0)) ≡ q .0 = omega (arith, q .1, most) in
         fate-listed n 0 k (q .0) (λ i. keptAt (e - (k - i)) (getD es i noRecord)) (q .1) (ap (λ i. e - (k - i)) z ∙ q .3)
         ∙ ap fateAndPlace (q .4 ∙ ap (λ i. keptAt n (getD es i noRecord)) (sym p ∙ ap placeOf (sym (q .2))))
+
+-- the answer from the record that is found
+pub fate-is : (p : State) (n : ℤ) → let i = positionOf (endIn (p .head)) (keptIn (p .head)) (natural n) in answerOf (fateAnswer i (getD (p .edits) (placeOf i) noRecord)) ≡ ok (fateIn (natural n) (view p .content .kept))
+fate-is p n =
+    let e = endIn (p .head) in
+    let k = keptIn (p .head) in
+    cases (eqb (positionOf e k (natural n)) 0)
+    (λ t. rw t (ap ok (sym (fate-none e k (natural n) (p .edits) (eqb-true (positionOf e k (natural n)) 0 t)))))
+    (λ t. rw t (ap ok (sym (fate-some e k (natural n) (p .edits) (omega arith) (eqb-false (positionOf e k (natural n)) 0 t)))))
+
+-- and it is no refusal
+pub fate-unrefused : (p : State) (i : ℕ) (e : EditRecord) {a : Answer} → a ≡ fateAnswer i e → SameIfRefused a p p
+fate-unrefused p i e h = rw h (cases (eqb i 0) (λ t. rw t tt) (λ t. rw t tt))
 
 -- ---- left
 

@@ -20,14 +20,9 @@ pub fn fate(p: State, n: i32) -> Answered
 {
     let h = p.head;
     let i = heads::position(h, exact::number(n));
-    if i == 0 {
-        let answer = Answer::Pair(0, 0);
-        return Answered { state: p, answer };
-    }
     let slot = heads::place(i);
     let e = p.edits[slot];
-    let f = e.fate;
-    let answer = Answer::Pair(records::fate_number(f), e.place);
+    let answer = figures::fate_answer(i, e);
     Answered { state: p, answer }
 }
 

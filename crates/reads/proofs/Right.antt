@@ -18,19 +18,28 @@ use Rattle.guarantee.proofs.Kept.{settled-count}
 use Rattle.rows.specs.Rows.{row}
 use Rattle.rows.proofs.Spans.{length-span}
 use Rattle.state.specs.declared.State.{State}
+use Rattle.state.specs.declared.Answer.{Answer}
+use Rattle.state.specs.declared.Answer.the-variants.{Refused, Done, Number, Pair}
 use Rattle.state.specs.View.{view}
 use Rattle.records.specs.Records.{fateOf, keptAt, noRecord}
 use Rattle.heads.specs.Heads.{endIn, keptIn}
 use Rattle.heads.specs.Heads.{positionOf, placeOf}
 use Rattle.state.specs.Meets.{answerOf}
 use Rattle.state.proofs.Meeting.{fine-pass}
-use Rattle.figures.specs.Reads.{showChecks, leftNumber}
-use Rattle.query.proofs.Readings.{fate-none, fate-some, left-by, show-checks, shown-row}
+use Rattle.figures.specs.Reads.{fateAnswer, showChecks, leftNumber}
+use Rattle.query.proofs.Readings.{fate-is, left-by, show-checks, shown-row}
 use Rattle.tally.specs.declared.Tallies.{Tallies}
 use Rattle.tally.specs.Tallies.{Counted}
 use Rattle.reads.specs.declared.Reading.{Reading}
-use Rattle.reads.specs.Readings.{readCall, alone, fateAnswer, showBy, showReading, readingOf}
+use Rattle.reads.specs.Readings.{readCall, alone, showBy, showReading, readingOf}
 use Rattle.writer.specs.Writes.{withRow}
+
+-- an answer with no values besides
+pub alone-row : (a : Answer) → withRow (answerOf a) [] ≡ answerOf a
+alone-row (Refused k) = refl
+alone-row Done = refl
+alone-row (Number n) = refl
+alone-row (Pair a b) = refl
 
 module _ (p : State) (t : Tallies) (h : Counted t (view p .content .kept)) where
   abbrev pub placeIn : ℤ → ℕ
@@ -55,9 +64,7 @@ module _ (p : State) (t : Tallies) (h : Counted t (view p .content .kept)) where
 
   fate-right : (a : ℤ) → Right (alone (fateAnswer (placeIn a) (getD (p .edits) (placeOf (placeIn a)) noRecord))) (step (fate-of a) (view p))
   unfolding step checks further gives after Right
-  fate-right a = cases (eqb (placeIn a) 0)
-      (λ e. rw e (ap ok (sym (fate-none (endIn (p .head)) (keptIn (p .head)) (natural a) (p .edits) (eqb-true (placeIn a) 0 e))), refl))
-      (λ e. rw e (ap ok (sym (fate-some (endIn (p .head)) (keptIn (p .head)) (natural a) (p .edits) (omega arith) (eqb-false (placeIn a) 0 e))), refl))
+  fate-right a = (alone-row (fateAnswer (placeIn a) (getD (p .edits) (placeOf (placeIn a)) noRecord)) ∙ fate-is p a, refl)
 
   left-right : (a : ℤ) → Right (readingIn 14 a) (step left (view p))
   unfolding step checks further gives after Right

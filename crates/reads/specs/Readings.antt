@@ -6,15 +6,14 @@ use mathlib.Core.Option.{Option, none, some}
 use lib.Dec.{eqb}
 use lib.IntN.{ℤ}
 use Rattle.protocol.specs.Lists.{natural}
-use Rattle.protocol.specs.Plan.{fateNumber, measureLimit}
+use Rattle.protocol.specs.Plan.{measureLimit}
 use Rattle.protocol.specs.Calls.{Call, show, fate-of, left, Verdict, fine, refused, first}
 use Rattle.records.specs.declared.EditRecord.{EditRecord}
 use Rattle.heads.specs.declared.Head.{Head}
 use Rattle.state.specs.declared.Answer.{Answer}
-use Rattle.state.specs.declared.Answer.the-variants.{Refused, Done, Number, Pair}
-use Rattle.records.specs.Records.{fateOf}
+use Rattle.state.specs.declared.Answer.the-variants.{Refused, Done, Number}
 use Rattle.heads.specs.Heads.{keptIn, offsetOf, measuresIn}
-use Rattle.figures.specs.Reads.{showChecks, leftNumber}
+use Rattle.figures.specs.Reads.{fateAnswer, showChecks, leftNumber}
 use Rattle.reads.specs.declared.Reading.{Reading}
 
 -- the reading calls by their number in the order of 01
@@ -23,9 +22,6 @@ readCall op a = cond (eqb op 12) (some (show a measureLimit)) (cond (eqb op 13) 
 
 abbrev pub alone : Answer → Reading
 alone a = record { answer = a; from = 0; width = 0 }
-
-abbrev pub fateAnswer : ℕ → EditRecord → Answer
-fateAnswer i e = cond (eqb i 0) (Pair 0 0) (Pair (fateNumber (fateOf (e .fate))) (e .place))
 
 abbrev pub showBy : Verdict → Head → ℕ → Reading
 showBy fine h s = record { answer = Done; from = offsetOf s; width = measuresIn h }

@@ -5,7 +5,7 @@ ghost use Rattle.heads.specs.Heads.{keptIn};
 ghost use Rattle.records.specs.Records.{keptOf};
 ghost use lib.ListN.{length};
 ghost use Rattle.tally.specs.Tallies.{Counted};
-ghost use Rattle.reads.specs.Readings.{fateAnswer, showReading, readingOf};
+ghost use Rattle.reads.specs.Readings.{showReading, readingOf};
 use heads::Head;
 use records::EditRecord;
 use records::Test;
@@ -17,17 +17,6 @@ pub struct Reading {
     pub answer: Answer,
     pub from: usize,
     pub width: usize,
-}
-
-// The fate and place of the edit found at a place from 1; place 0 is none.
-fn fate_answer(i: usize, e: EditRecord) -> Answer
-    ensures { λ r. ⌜ r ≡ fateAnswer i e ⌝ }
-{
-    if i == 0 {
-        return Answer::Pair(0, 0);
-    }
-    let f = e.fate;
-    Answer::Pair(records::fate_number(f), e.place)
 }
 
 // The side's values, where they stand. A sheet's show has room for 32.
@@ -80,7 +69,7 @@ pub fn read<'a>(
         return show_reading(h, exact::number(a));
     }
     if op == 13 {
-        let answer = fate_answer(i, e);
+        let answer = figures::fate_answer(i, e);
         return Reading {
             answer,
             from: 0,

@@ -8,13 +8,13 @@ use mathlib.Core.List.{List, [], _∷_, map}
 use borrow.Author.Tests.{eqb-true, eqb-false, eq-eqb, ne-eqb}
 use lib.Dec.{T, eqb, leb, nleb→lt}
 use lib.IntN.{ℤ, pos}
-use lib.ListN.{length, getD, set, replicate, length-set}
+use lib.ListN.{length, getD, set, length-set}
 use Rattle.protocol.specs.Lists.{bit, oneTo, natural, count, snoc}
 use Rattle.protocol.specs.Plan.{Kept, Fate, unsent, waiting, accepted, revoked, fateIs, Mode, is, whole, Plan, Content, isUnsent, isWaiting, isOpen, isSettled, lookup, unsentOf, keptLimit}
 use Rattle.protocol.specs.Calls.{Call, measure, rule, open-plan, split-side, edit, join, send, replay, stop, confirm, install, show, fate-of, left, checks, further, apart, after, sent, settled, outcome, update, replayable, nextPlace}
 use Rattle.protocol.proofs.Laws.{cases, both, is-yes, yes-is, no-is, which, range, Pass, count-map, count-snoc}
 use Rattle.guarantee.proofs.Kept.{count-settle, open-sent, unsent-sent, unsent-other, settled-count}
-use Rattle.rows.proofs.Spans.{getD-set, getD-other}
+use Rattle.rows.proofs.Spans.{getD-set, getD-other, getD-blank}
 use Rattle.heads.specs.Heads.{indexOf}
 use Rattle.state.proofs.Views.{index-other}
 use Rattle.tally.specs.declared.Tallies.{Tallies}
@@ -28,11 +28,6 @@ count-most p (x ∷ xs) = let r = count-most p xs in let b = by (p x) in omega a
     by true = omega arith
     by false = omega arith
 
-nothing : (n i : ℕ) → _≡_ {A = ℕ} (getD (replicate n 0) i 0) 0
-nothing zero i = refl
-nothing (suc n) zero = refl
-nothing (suc n) (suc i) = nothing n i
-
 length-update : (n : ℕ) (f : Kept → Kept) (ks : List Kept) → length (update n f ks) ≡ length ks
 length-update n f [] = refl
 length-update n f (k ∷ ks) = let r = length-update n f ks in cases (eqb n (k .edit .number)) (λ e. rw e) (λ e. rw e (ap suc r))
@@ -41,7 +36,7 @@ pub counted-none : Counted noTallies []
 counted-none = record { unsent = λ s a b. none (indexOf s); waiting = refl; settled = refl }
   where
     none : (i : ℕ) → getD (noTallies .unsent) i 0 ≡ 0
-    none i = nothing 8 i
+    none i = getD-blank 8 i 0
 
 -- the counts with one side's set
 module _ (t : Tallies) (s : ℕ) (u : ℕ) (long : length (t .unsent) ≡ 8) (p : 0 < s) (q : s ≤ 8) where

@@ -54,7 +54,7 @@ use Rattle.tally.specs.Tallies.{Counted, tallyAfter}
 use Rattle.tally.proofs.Counts.{tallied-long}
 use Rattle.progress.specs.Progress.{movedOp, Advanced}
 use Rattle.progress.proofs.Running.{Going, over, paused, unfit, next-line, begins, lent-rest, put-back}
-use Rattle.progress.proofs.Turning.{line-edit, line-replay, line-reads, line-send, line-moves, line-draws, settled-few, Made, meets-made, performs-made, counted-made, kept-most, text-some, fitted-put, unfitted-put}
+use Rattle.progress.proofs.Turning.{line-edit, line-replay, line-none, line-reads, line-send, line-moves, line-draws, settled-few, Made, meets-made, none-made, performs-made, counted-made, kept-most, text-some, fitted-put, unfitted-put}
 use Rattle.progress.proofs.Rows.{lent-row}
 use Rattle.progress.proofs.go.Statement.{statement}
 use Rattle.progress.proofs.go.Tie as tie
@@ -70,7 +70,6 @@ use Rattle.heads.proofs.place.Reads as place-reads
 use Rattle.heads.proofs.position.Reads as position-reads
 use Rattle.heads.proofs.unset.Reads as unset-reads
 use Rattle.progress.proofs.moved_op.Reads as moved-op-reads
-use Rattle.progress.proofs.only_reads.Reads as only-reads-reads
 use Rattle.reader.proofs.line_end.Reads as line-end-reads
 use Rattle.reader.proofs.read_line.Reads as read-line-reads
 use Rattle.reads.proofs.read.Reads as read-reads
@@ -225,22 +224,22 @@ replay-arm c =
 
 -- ---- a call that only reads
 
-read-is : (c : tie.After-read Inv-loop μ-loop) → (c .read .result) ≡ readingIn ((c .before .before .before .before .before .before .before .before .before .before .before .before .before .before .before .before .before .before .before .before .before .before .loop .p)) ((c .before .before .before .before .before .before .before .before .before .before .before .before .before .before .before .before .before .before .before .before .before .before .loop .t)) ((c .before .before .before .before .before .before .before .before .before .before .before .before .before .before .before .before .before .before .before .before .before .before .loop .inv .counted)) ((c .before .before .before .before .before .before .before .before .before .before .before .before .before .before .before .before .before .read-line .result .op)) ((c .before .before .before .before .before .before .before .before .before .before .before .before .before .before .before .before .before .read-line .result .a))
+read-is : (c : tie.After-read Inv-loop μ-loop) → (c .read .result) ≡ readingIn ((c .before .before .before .before .before .before .before .before .before .before .before .before .before .before .before .before .before .before .before .before .before .loop .p)) ((c .before .before .before .before .before .before .before .before .before .before .before .before .before .before .before .before .before .before .before .before .before .loop .t)) ((c .before .before .before .before .before .before .before .before .before .before .before .before .before .before .before .before .before .before .before .before .before .loop .inv .counted)) ((c .before .before .before .before .before .before .before .before .before .before .before .before .before .before .before .before .read-line .result .op)) ((c .before .before .before .before .before .before .before .before .before .before .before .before .before .before .before .before .read-line .result .a))
 read-is c =
-    let p = (c .before .before .before .before .before .before .before .before .before .before .before .before .before .before .before .before .before .before .before .before .before .before .loop .p) in
-    let t = (c .before .before .before .before .before .before .before .before .before .before .before .before .before .before .before .before .before .before .before .before .before .before .loop .t) in
-    let l = (c .before .before .before .before .before .before .before .before .before .before .before .before .before .before .before .before .before .read-line .result) in
-    let a = toZ-ofZ (fits32 (l .a) ((c .before .before .before .before .before .before .before .before .before .before .before .before .before .before .before .before .struct-told .given .1 .0 .1))) in
-    let position = (c .before .before .before .before .before .before .before .before .position4 .ensures .0) ∙ ap (positionOf (endIn (p .head)) (keptIn (p .head))) ((c .before .before .before .before .before .before .before .before .before .before .before .before .before .before .before .number .ensures) ∙ ap natural a) in
+    let p = (c .before .before .before .before .before .before .before .before .before .before .before .before .before .before .before .before .before .before .before .before .before .loop .p) in
+    let t = (c .before .before .before .before .before .before .before .before .before .before .before .before .before .before .before .before .before .before .before .before .before .loop .t) in
+    let l = (c .before .before .before .before .before .before .before .before .before .before .before .before .before .before .before .before .read-line .result) in
+    let a = toZ-ofZ (fits32 (l .a) ((c .before .before .before .before .before .before .before .before .before .before .before .before .before .before .before .struct-told .given .1 .0 .1))) in
+    let position = (c .before .before .before .before .before .before .before .before .position4 .ensures .0) ∙ ap (positionOf (endIn (p .head)) (keptIn (p .head))) ((c .before .before .before .before .before .before .before .before .before .before .before .before .before .before .number .ensures) ∙ ap natural a) in
     let seat = (c .before .before .before .before .before .before .before .place4 .ensures .0) ∙ ap placeOf position in
     (c .read .ensures) ∙ (λ j. readingOf (l .op) (a j) (p .head) (position j) (getD (p .edits) (seat j) noRecord) (p .arrived) (p .confirmed) (t .unsent) (t .settled))
 
-read-arm : (c : tie.After-read Inv-loop μ-loop) → let p = (c .before .before .before .before .before .before .before .before .before .before .before .before .before .before .before .before .before .before .before .before .before .before .loop .p) in let r = (c .read .result) in (Made (lineIn ((c .before .before .before .before .before .before .before .before .before .before .before .before .before .before .before .before .before .read-line .result))) p p (r .answer) (row (p .values) (r .from) (r .width))) × (r .from ≤ 224) × (r .width ≤ 32)
+read-arm : (c : tie.After-read Inv-loop μ-loop) → let p = (c .before .before .before .before .before .before .before .before .before .before .before .before .before .before .before .before .before .before .before .before .before .loop .p) in let r = (c .read .result) in (Made (lineIn ((c .before .before .before .before .before .before .before .before .before .before .before .before .before .before .before .before .read-line .result))) p p (r .answer) (row (p .values) (r .from) (r .width))) × (r .from ≤ 224) × (r .width ≤ 32)
 read-arm c =
-    let p = (c .before .before .before .before .before .before .before .before .before .before .before .before .before .before .before .before .before .before .before .before .before .before .loop .p) in
-    let l = (c .before .before .before .before .before .before .before .before .before .before .before .before .before .before .before .before .before .read-line .result) in
-    let g = reading-right p ((c .before .before .before .before .before .before .before .before .before .before .before .before .before .before .before .before .before .before .before .before .before .before .loop .t)) ((c .before .before .before .before .before .before .before .before .before .before .before .before .before .before .before .before .before .before .before .before .before .before .loop .inv .counted)) (l .op) (l .a) in
-    rw (read-is c, line-reads l (sym ((c .before .before .before .before .before .before .before .before .before .before .only-reads .ensures)) ∙ (c .before .before .before .before .before .before .before .before .before .if4 .taken))) (record { answer = g .0; plan = sym (g .1) }, reading-bounds p ((c .before .before .before .before .before .before .before .before .before .before .before .before .before .before .before .before .before .before .before .before .before .before .loop .t)) ((c .before .before .before .before .before .before .before .before .before .before .before .before .before .before .before .before .before .before .before .before .before .before .loop .inv .counted)) (l .op) (l .a) .0, reading-bounds p ((c .before .before .before .before .before .before .before .before .before .before .before .before .before .before .before .before .before .before .before .before .before .before .loop .t)) ((c .before .before .before .before .before .before .before .before .before .before .before .before .before .before .before .before .before .before .before .before .before .before .loop .inv .counted)) (l .op) (l .a) .1)
+    let p = (c .before .before .before .before .before .before .before .before .before .before .before .before .before .before .before .before .before .before .before .before .before .loop .p) in
+    let l = (c .before .before .before .before .before .before .before .before .before .before .before .before .before .before .before .before .read-line .result) in
+    let g = reading-right p ((c .before .before .before .before .before .before .before .before .before .before .before .before .before .before .before .before .before .before .before .before .before .loop .t)) ((c .before .before .before .before .before .before .before .before .before .before .before .before .before .before .before .before .before .before .before .before .before .loop .inv .counted)) (l .op) (l .a) in
+    rw (read-is c, line-reads l ((c .before .before .before .before .before .before .before .before .before .if4 .taken))) (record { answer = g .0; plan = sym (g .1) }, reading-bounds p ((c .before .before .before .before .before .before .before .before .before .before .before .before .before .before .before .before .before .before .before .before .before .loop .t)) ((c .before .before .before .before .before .before .before .before .before .before .before .before .before .before .before .before .before .before .before .before .before .loop .inv .counted)) (l .op) (l .a) .0, reading-bounds p ((c .before .before .before .before .before .before .before .before .before .before .before .before .before .before .before .before .before .before .before .before .before .loop .t)) ((c .before .before .before .before .before .before .before .before .before .before .before .before .before .before .before .before .before .before .before .before .before .loop .inv .counted)) (l .op) (l .a) .1)
 
 -- ---- a send
 
@@ -248,41 +247,41 @@ read-arm c =
 unsent-is : (p : State) (t : Tallies) → Counted t (keptOf (p .head) (p .edits)) → {i : ℕ} (s : ℕ) → i ≡ indexOf s → T (oneTo (sidesIn (p .head)) s) → getD (t .unsent) i 0 ≡ unsentOf s (keptOf (p .head) (p .edits))
 unsent-is p t h s e o = let r = range (sidesIn (p .head)) s o in ap (λ j. getD (t .unsent) j 0) e ∙ h .unsent s (r .0) (le-trans (r .1) (sides-most (p .head)))
 
-send-arm : (c : tie.After-next Inv-loop μ-loop) → let p = (c .before .before .before .before .before .before .before .before .before .before .before .before .before .before .before .before .before .before .before .before .loop .p) in let r = (c .before .send-edits .result) in
-    Made (lineIn ((c .before .before .before .before .before .before .before .before .before .before .before .before .before .before .before .read-line .result))) p (steps.stored p (p .head) (p .base) (p .draft) (p .values) (set (p .arrived) ((c .before .before .before .before .before .index .result)) (r .arrived)) (p .confirmed) (r .edits)) (r .answer) []
+send-arm : (c : tie.After-next Inv-loop μ-loop) → let p = (c .before .before .before .before .before .before .before .before .before .before .before .before .before .before .before .before .before .before .before .loop .p) in let r = (c .before .send-edits .result) in
+    Made (lineIn ((c .before .before .before .before .before .before .before .before .before .before .before .before .before .before .read-line .result))) p (steps.stored p (p .head) (p .base) (p .draft) (p .values) (set (p .arrived) ((c .before .before .before .before .before .index .result)) (r .arrived)) (p .confirmed) (r .edits)) (r .answer) []
 send-arm c =
-    let p = (c .before .before .before .before .before .before .before .before .before .before .before .before .before .before .before .before .before .before .before .before .loop .p) in
-    let t = (c .before .before .before .before .before .before .before .before .before .before .before .before .before .before .before .before .before .before .before .before .loop .t) in
-    let l = (c .before .before .before .before .before .before .before .before .before .before .before .before .before .before .before .read-line .result) in
-    let z = toZ-ofZ (fits32 (l .a) ((c .before .before .before .before .before .before .before .before .before .before .before .before .before .before .struct-told .given .1 .0 .1))) in
-    let i = (c .before .before .before .before .before .index .ensures .0) ∙ ap indexOf ((c .before .before .before .before .before .before .before .before .before .before .before .before .before .number .ensures) ∙ ap natural z) in
+    let p = (c .before .before .before .before .before .before .before .before .before .before .before .before .before .before .before .before .before .before .before .loop .p) in
+    let t = (c .before .before .before .before .before .before .before .before .before .before .before .before .before .before .before .before .before .before .before .loop .t) in
+    let l = (c .before .before .before .before .before .before .before .before .before .before .before .before .before .before .read-line .result) in
+    let z = toZ-ofZ (fits32 (l .a) ((c .before .before .before .before .before .before .before .before .before .before .before .before .before .struct-told .given .1 .0 .1))) in
+    let i = (c .before .before .before .before .before .index .ensures .0) ∙ ap indexOf ((c .before .before .before .before .before .before .before .before .before .before .before .before .number .ensures) ∙ ap natural z) in
     let m = subst (λ x. Sends x (p .head) (p .edits) (getD (p .arrived) ((c .before .before .before .before .before .index .result)) false) (getD (t .unsent) ((c .before .before .before .before .before .index .result)) 0) ((c .before .send-edits .result))) z ((c .before .send-edits .ensures)) in
     rw (line-send l ((c .before .before .before .before .before .before .if5 .taken)), i) (meets-made (send (l .a)) p _
-    (m (frameOf p) (p .arrived) (p .lower) (p .gap) (p .upper) (p .firm) ((c .before .before .before .before .before .before .before .before .before .before .before .before .before .before .before .before .before .before .before .before .loop .inv .sized .arrived)) (ap (λ j. getD (p .arrived) j false) i) (unsent-is p t ((c .before .before .before .before .before .before .before .before .before .before .before .before .before .before .before .before .before .before .before .before .loop .inv .counted)) (natural (l .a)) i)))
+    (m (frameOf p) (p .arrived) (p .lower) (p .gap) (p .upper) (p .firm) ((c .before .before .before .before .before .before .before .before .before .before .before .before .before .before .before .before .before .before .before .loop .inv .sized .arrived)) (ap (λ j. getD (p .arrived) j false) i) (unsent-is p t ((c .before .before .before .before .before .before .before .before .before .before .before .before .before .before .before .before .before .before .before .loop .inv .counted)) (natural (l .a)) i)))
 
-send-sized : (c : tie.After-next Inv-loop μ-loop) → let p = (c .before .before .before .before .before .before .before .before .before .before .before .before .before .before .before .before .before .before .before .before .loop .p) in let r = (c .before .send-edits .result) in Sized (steps.stored p (p .head) (p .base) (p .draft) (p .values) (set (p .arrived) ((c .before .before .before .before .before .index .result)) (r .arrived)) (p .confirmed) (r .edits))
+send-sized : (c : tie.After-next Inv-loop μ-loop) → let p = (c .before .before .before .before .before .before .before .before .before .before .before .before .before .before .before .before .before .before .before .loop .p) in let r = (c .before .send-edits .result) in Sized (steps.stored p (p .head) (p .base) (p .draft) (p .values) (set (p .arrived) ((c .before .before .before .before .before .index .result)) (r .arrived)) (p .confirmed) (r .edits))
 send-sized c =
-    let z = (c .before .before .before .before .before .before .before .before .before .before .before .before .before .before .before .before .before .before .before .before .loop .inv .sized) in
+    let z = (c .before .before .before .before .before .before .before .before .before .before .before .before .before .before .before .before .before .before .before .loop .inv .sized) in
     let o = (c .before .send-edits .ok) in
-    record { base = z .base; draft = z .draft; values = z .values; arrived = length-set ((c .before .before .before .before .before .before .before .before .before .before .before .before .before .before .before .before .before .before .before .before .loop .p .arrived)) ((c .before .before .before .before .before .index .result)) ((c .before .send-edits .result .arrived)) ∙ z .arrived; confirmed = z .confirmed; lower = z .lower; gap = z .gap; upper = z .upper; firm = z .firm; edits = search unmapped }
+    record { base = z .base; draft = z .draft; values = z .values; arrived = length-set ((c .before .before .before .before .before .before .before .before .before .before .before .before .before .before .before .before .before .before .before .loop .p .arrived)) ((c .before .before .before .before .before .index .result)) ((c .before .send-edits .result .arrived)) ∙ z .arrived; confirmed = z .confirmed; lower = z .lower; gap = z .gap; upper = z .upper; firm = z .firm; edits = search unmapped }
 
 -- ---- a call on the frame
 
-move-arm : (c : tie.After-confirmed Inv-loop μ-loop) → let p = (c .before .before .before .before .before .before .before .before .before .before .before .before .before .before .before .before .before .before .before .before .before .before .before .before .before .before .before .before .before .before .loop .p) in let r = (c .before .before .before .before .before .before .before .move-frame .result) in
-    Made (lineIn ((c .before .before .before .before .before .before .before .before .before .before .before .before .before .before .before .before .before .before .before .before .before .before .before .before .before .read-line .result))) p (around (r .frame) (p .lower) (p .gap) (p .upper) (p .firm) (p .edits)) (r .answer) []
+move-arm : (c : tie.After-confirmed Inv-loop μ-loop) → let p = (c .before .before .before .before .before .before .before .before .before .before .before .before .before .before .before .before .before .before .before .before .before .before .before .before .before .before .before .before .before .loop .p) in let r = (c .before .before .before .before .before .before .before .move-frame .result) in
+    Made (lineIn ((c .before .before .before .before .before .before .before .before .before .before .before .before .before .before .before .before .before .before .before .before .before .before .before .before .read-line .result))) p (around (r .frame) (p .lower) (p .gap) (p .upper) (p .firm) (p .edits)) (r .answer) []
 move-arm c =
-    let p = (c .before .before .before .before .before .before .before .before .before .before .before .before .before .before .before .before .before .before .before .before .before .before .before .before .before .before .before .before .before .before .loop .p) in
-    let t = (c .before .before .before .before .before .before .before .before .before .before .before .before .before .before .before .before .before .before .before .before .before .before .before .before .before .before .before .before .before .before .loop .t) in
-    let l = (c .before .before .before .before .before .before .before .before .before .before .before .before .before .before .before .before .before .before .before .before .before .before .before .before .before .read-line .result) in
-    let z = toZ-ofZ (fits32 (l .a) ((c .before .before .before .before .before .before .before .before .before .before .before .before .before .before .before .before .before .before .before .before .before .before .before .before .struct-told .given .1 .0 .1))) in
-    let i = (c .before .before .before .before .before .before .before .before .before .before .before .before .before .before .index2 .ensures .0) ∙ ap indexOf ((c .before .before .before .before .before .before .before .before .before .before .before .before .before .before .before .before .before .before .before .before .before .before .before .number .ensures) ∙ ap natural z) in
+    let p = (c .before .before .before .before .before .before .before .before .before .before .before .before .before .before .before .before .before .before .before .before .before .before .before .before .before .before .before .before .before .loop .p) in
+    let t = (c .before .before .before .before .before .before .before .before .before .before .before .before .before .before .before .before .before .before .before .before .before .before .before .before .before .before .before .before .before .loop .t) in
+    let l = (c .before .before .before .before .before .before .before .before .before .before .before .before .before .before .before .before .before .before .before .before .before .before .before .before .read-line .result) in
+    let z = toZ-ofZ (fits32 (l .a) ((c .before .before .before .before .before .before .before .before .before .before .before .before .before .before .before .before .before .before .before .before .before .before .before .struct-told .given .1 .0 .1))) in
+    let i = (c .before .before .before .before .before .before .before .before .before .before .before .before .before .before .index2 .ensures .0) ∙ ap indexOf ((c .before .before .before .before .before .before .before .before .before .before .before .before .before .before .before .before .before .before .before .before .before .before .number .ensures) ∙ ap natural z) in
     let m = subst (λ x. Moves (moveCall (l .op) x) (frameOf p) (Counts (frameOf p) (natural x) (getD (t .unsent) ((c .before .before .before .before .before .before .before .before .before .before .before .before .before .before .index2 .result)) 0) (t .waiting)) ((c .before .before .before .before .before .before .before .move-frame .result))) z ((c .before .before .before .before .before .before .before .move-frame .ensures)) in
-    rw (line-moves l ((c .before .before .before .before .before .before .before .before .before .before .before .before .before .before .before .before .before .before .before .before .if2 .left)) ((c .before .before .before .before .before .before .before .before .before .before .before .before .before .before .before .before .before .before .before .if3 .left)) (sym ((c .before .before .before .before .before .before .before .before .before .before .before .before .before .before .before .before .before .before .only-reads .ensures)) ∙ (c .before .before .before .before .before .before .before .before .before .before .before .before .before .before .before .before .before .if4 .left)) ((c .before .before .before .before .before .before .before .before .before .before .before .before .before .before .before .before .if5 .left)) ((c .before .before .before .before .before .before .before .before .before .before .before .before .before .before .before .if6 .taken)))
-    (meets-made (moveCall (l .op) (l .a)) p _ (m (p .lower) (p .gap) (p .upper) (p .firm) (p .edits) (unsent-is p t ((c .before .before .before .before .before .before .before .before .before .before .before .before .before .before .before .before .before .before .before .before .before .before .before .before .before .before .before .before .before .before .loop .inv .counted)) (natural (l .a)) i, (c .before .before .before .before .before .before .before .before .before .before .before .before .before .before .before .before .before .before .before .before .before .before .before .before .before .before .before .before .before .before .loop .inv .counted .waiting))))
+    rw (line-moves l ((c .before .before .before .before .before .before .before .before .before .before .before .before .before .before .before .before .before .before .before .if2 .left)) ((c .before .before .before .before .before .before .before .before .before .before .before .before .before .before .before .before .before .before .if3 .left)) ((c .before .before .before .before .before .before .before .before .before .before .before .before .before .before .before .before .before .if4 .left)) ((c .before .before .before .before .before .before .before .before .before .before .before .before .before .before .before .before .if5 .left)) ((c .before .before .before .before .before .before .before .before .before .before .before .before .before .before .before .if6 .taken)))
+    (meets-made (moveCall (l .op) (l .a)) p _ (m (p .lower) (p .gap) (p .upper) (p .firm) (p .edits) (unsent-is p t ((c .before .before .before .before .before .before .before .before .before .before .before .before .before .before .before .before .before .before .before .before .before .before .before .before .before .before .before .before .before .loop .inv .counted)) (natural (l .a)) i, (c .before .before .before .before .before .before .before .before .before .before .before .before .before .before .before .before .before .before .before .before .before .before .before .before .before .before .before .before .before .loop .inv .counted .waiting))))
 
-move-sized : (c : tie.After-confirmed Inv-loop μ-loop) → let p = (c .before .before .before .before .before .before .before .before .before .before .before .before .before .before .before .before .before .before .before .before .before .before .before .before .before .before .before .before .before .before .loop .p) in let r = (c .before .before .before .before .before .before .before .move-frame .result) in Sized (around (r .frame) (p .lower) (p .gap) (p .upper) (p .firm) (p .edits))
+move-sized : (c : tie.After-confirmed Inv-loop μ-loop) → let p = (c .before .before .before .before .before .before .before .before .before .before .before .before .before .before .before .before .before .before .before .before .before .before .before .before .before .before .before .before .before .loop .p) in let r = (c .before .before .before .before .before .before .before .move-frame .result) in Sized (around (r .frame) (p .lower) (p .gap) (p .upper) (p .firm) (p .edits))
 move-sized c =
-    let z = (c .before .before .before .before .before .before .before .before .before .before .before .before .before .before .before .before .before .before .before .before .before .before .before .before .before .before .before .before .before .before .loop .inv .sized) in
+    let z = (c .before .before .before .before .before .before .before .before .before .before .before .before .before .before .before .before .before .before .before .before .before .before .before .before .before .before .before .before .before .loop .inv .sized) in
     let t = (c .before .before .before .before .before .before .before .move-frame .ok .1 .1 .0) in
     let u = t .1 .1 in
     let b = u .1 .0 in
@@ -299,7 +298,7 @@ draw-arm c =
     let p = (c .before .before .before .before .before .before .before .before .before .before .before .before .before .before .before .before .before .before .before .before .loop .p) in
     let l = (c .before .before .before .before .before .before .before .before .before .before .before .before .before .before .before .read-line .result) in
     let t = (c .before .before .before .before .before .before .before .before .before .before .before .before .before .before .struct-told .given) in
-    let e = line-draws l (sym ((c .before .before .before .before .before .before .before .before .only-reads .ensures)) ∙ (c .before .before .before .before .before .before .before .if4 .left)) ((c .before .before .before .before .before .if6 .left)) in
+    let e = line-draws l ((c .before .before .before .before .before .if7 .taken)) ((c .before .before .before .before .before .before .if6 .left)) in
     rw e (performs-made _ p ((c .before .draw-up .result)) (rw (← toZ-ofZ (fits32 (l .a) (t .1 .0 .1)), ← toZ-ofZ (fits32 (l .b) (t .1 .1 .0 .1)), ← toZ-ofZ (fits32 (l .c) (t .1 .1 .1 .0 .1)), ← toZ-ofZ (fits32 (l .d) (t .1 .1 .1 .1 .0 .1))) ((c .before .draw-up .ensures))))
 
 draw-sized : (c : tie.After-q Inv-loop μ-loop) → Sized ((c .before .draw-up .result .state))
@@ -325,12 +324,14 @@ joined c = on ((c .if2 .came))
     (λ w. let place : tie.After-entry Inv-loop μ-loop = (record { before = record { before = record { before = record { before = record { before = record { before = record { before = record { before = record { before = record { before = record { before = record { before = record { before = record { before = record { before = record { before = record { before = record { before = record { before = record { before = record { before = record { before = record { before = record { before = record { before = record { before = record { before = record { before = record { before = (c .before); if2 = w .0 }; struct-told2 = w .1 }; number2 = w .2 }; position = w .3 }; place = w .4 }; seen = w .5 }; struct-told3 = w .6 }; number3 = w .7 }; spot = w .8 }; capped = w .9 }; old = w .10 }; standing = w .11 }; p = w .12 }; decide-edit-arg = w .13 }; decide-edit-arg2 = w .14 }; decide-edit-arg3 = w .15 }; decide-edit-arg4 = w .16 }; decide-edit-arg5 = w .17 }; decide-edit-arg6 = w .18 }; found = w .19 }; struct-told4 = w .20 }; number4 = w .21 }; struct-told5 = w .22 }; struct-told6 = w .23 }; struct-told7 = w .24 }; decide-edit = w .25 }; head = w .26 }; struct-told8 = w .27 }; entry = w .28 }) in at-rest (w .29) (w .30) (w .31) (w .32) (edit-arm place .0) (edit-arm place .1))
     (λ v. on v (λ w. let place : tie.After-entry2 Inv-loop μ-loop = (record { before = record { before = record { before = record { before = record { before = record { before = record { before = record { before = record { before = record { before = record { before = record { before = record { before = record { before = record { before = record { before = record { before = record { before = record { before = record { before = record { before = record { before = record { before = record { before = record { before = (c .before); if2 = w .0 }; if3 = w .1 }; position2 = w .2 }; place2 = w .3 }; standing2 = w .4 }; found2 = w .5 }; position3 = w .6 }; place3 = w .7 }; seen2 = w .8 }; found3 = w .9 }; p2 = w .10 }; unset-arg = w .11 }; unset = w .12 }; capped2 = w .13 }; point = w .14 }; old2 = w .15 }; p3 = w .16 }; decide-replay-arg = w .17 }; decide-replay-arg2 = w .18 }; decide-replay-arg3 = w .19 }; decide-replay-arg4 = w .20 }; decide-replay-arg5 = w .21 }; decide-replay = w .22 }; struct-told9 = w .23 }; entry2 = w .24 }) in at-rest (w .25) (w .26) (w .27) (w .28) (replay-arm place .0) (replay-arm place .1))
     (λ u. on u
-    (λ w. let place : tie.After-read Inv-loop μ-loop = (record { before = record { before = record { before = record { before = record { before = record { before = record { before = record { before = record { before = record { before = record { before = record { before = record { before = (c .before); if2 = w .0 }; if3 = w .1 }; only-reads = w .2 }; if4 = w .3 }; position4 = w .4 }; place4 = w .5 }; seen3 = w .6 }; p4 = w .7 }; read-arg = w .8 }; read-arg2 = w .9 }; t = w .10 }; read-arg3 = w .11 }; read = w .12 }) in at-reading (w .13) (w .14) (w .15) (w .16) (read-arm place .0) ((c .before .before .before .before .before .before .before .before .before .before .loop .inv .sized)) (read-arm place .1) (read-arm place .2))
+    (λ w. let place : tie.After-read Inv-loop μ-loop = (record { before = record { before = record { before = record { before = record { before = record { before = record { before = record { before = record { before = record { before = record { before = record { before = (c .before); if2 = w .0 }; if3 = w .1 }; if4 = w .2 }; position4 = w .3 }; place4 = w .4 }; seen3 = w .5 }; p4 = w .6 }; read-arg = w .7 }; read-arg2 = w .8 }; t = w .9 }; read-arg3 = w .10 }; read = w .11 }) in at-reading (w .12) (w .13) (w .14) (w .15) (read-arm place .0) ((c .before .before .before .before .before .before .before .before .before .before .loop .inv .sized)) (read-arm place .1) (read-arm place .2))
     (λ x. on x
-    (λ w. let place : tie.After-next Inv-loop μ-loop = (record { before = record { before = record { before = record { before = record { before = record { before = record { before = record { before = record { before = record { before = record { before = (c .before); if2 = w .0 }; if3 = w .1 }; only-reads = w .2 }; if4 = w .3 }; if5 = w .4 }; index = w .5 }; flag = w .6 }; unsent = w .7 }; edits = w .8 }; send-edits = w .9 }; next = w .10 }) in at-rest (w .11) (w .12) (w .13) (w .14) (send-arm place) (send-sized place))
+    (λ w. let place : tie.After-next Inv-loop μ-loop = (record { before = record { before = record { before = record { before = record { before = record { before = record { before = record { before = record { before = record { before = (c .before); if2 = w .0 }; if3 = w .1 }; if4 = w .2 }; if5 = w .3 }; index = w .4 }; flag = w .5 }; unsent = w .6 }; edits = w .7 }; send-edits = w .8 }; next = w .9 }) in at-rest (w .10) (w .11) (w .12) (w .13) (send-arm place) (send-sized place))
     (λ y. on y
-    (λ w. let place : tie.After-confirmed Inv-loop μ-loop = (record { before = record { before = record { before = record { before = record { before = record { before = record { before = record { before = record { before = record { before = record { before = record { before = record { before = record { before = record { before = record { before = record { before = record { before = record { before = record { before = record { before = (c .before); if2 = w .0 }; if3 = w .1 }; only-reads = w .2 }; if4 = w .3 }; if5 = w .4 }; if6 = w .5 }; index2 = w .6 }; unsent2 = w .7 }; old-base = w .8 }; old-draft = w .9 }; old-values = w .10 }; old-arrived = w .11 }; old-confirmed = w .12 }; move-frame = w .13 }; g = w .14 }; head2 = w .15 }; base = w .16 }; draft = w .17 }; values = w .18 }; arrived = w .19 }; confirmed = w .20 }) in at-rest (w .21) (w .22) (w .23) (w .24) (move-arm place) (move-sized place))
-    (λ w. let place : tie.After-q Inv-loop μ-loop = (record { before = record { before = record { before = record { before = record { before = record { before = record { before = record { before = record { before = record { before = record { before = (c .before); if2 = w .0 }; if3 = w .1 }; only-reads = w .2 }; if4 = w .3 }; if5 = w .4 }; if6 = w .5 }; struct-told10 = w .6 }; struct-told11 = w .7 }; struct-told12 = w .8 }; draw-up = w .9 }; q = w .10 }) in at-rest (w .11) (w .12) (w .13) (w .14) (draw-arm place) (draw-sized place))))))
+    (λ w. let place : tie.After-confirmed Inv-loop μ-loop = (record { before = record { before = record { before = record { before = record { before = record { before = record { before = record { before = record { before = record { before = record { before = record { before = record { before = record { before = record { before = record { before = record { before = record { before = record { before = record { before = (c .before); if2 = w .0 }; if3 = w .1 }; if4 = w .2 }; if5 = w .3 }; if6 = w .4 }; index2 = w .5 }; unsent2 = w .6 }; old-base = w .7 }; old-draft = w .8 }; old-values = w .9 }; old-arrived = w .10 }; old-confirmed = w .11 }; move-frame = w .12 }; g = w .13 }; head2 = w .14 }; base = w .15 }; draft = w .16 }; values = w .17 }; arrived = w .18 }; confirmed = w .19 }) in at-rest (w .20) (w .21) (w .22) (w .23) (move-arm place) (move-sized place))
+    (λ v. on v
+    (λ w. let place : tie.After-q Inv-loop μ-loop = (record { before = record { before = record { before = record { before = record { before = record { before = record { before = record { before = record { before = record { before = record { before = (c .before); if2 = w .0 }; if3 = w .1 }; if4 = w .2 }; if5 = w .3 }; if6 = w .4 }; if7 = w .5 }; struct-told10 = w .6 }; struct-told11 = w .7 }; struct-told12 = w .8 }; draw-up = w .9 }; q = w .10 }) in at-rest (w .11) (w .12) (w .13) (w .14) (draw-arm place) (draw-sized place))
+    (λ w. at-rest (w .6) (w .7) (w .8) (w .9) (rw (line-none ((c .before .before .before .before .before .read-line .result)) (w .5 .left)) (none-made ((c .before .before .before .before .before .before .before .before .before .before .loop .p)))) ((c .before .before .before .before .before .before .before .before .before .before .loop .inv .sized))))))))
 
 -- ---- its answer, put into the rest of the area
 
@@ -581,9 +582,6 @@ element-set-from-entry-2 : tie.Need-element-set-from-entry-2 Inv-loop μ-loop
 element-set-from-entry-2 c =
     (c .before .before .before .before .before .before .before .before .before .before .before .before .before .before .before .before .before .before .before .before .before .place2 .ensures .1)
 
-only-reads-requires : tie.Need-only-reads-requires Inv-loop μ-loop
-only-reads-requires c κs = search needs
-
 position-requires-4 : tie.Need-position-requires-4 Inv-loop μ-loop
 position-requires-4 c κs = search needs
 
@@ -670,18 +668,18 @@ part-put-end-2 c = le-self _
 put-requires : tie.Need-put-requires Inv-loop μ-loop
 put-requires c κs = search needs
 
-add-t174 : tie.Need-add-t174 Inv-loop μ-loop
-add-t174 c =
+add-t175 : tie.Need-add-t175 Inv-loop μ-loop
+add-t175 c =
     end-fits (c .before .before .before .before .before .before .before .before .before .before .before .before .before .before .before .before .before .before .before .before)
 
 same-length-2 : tie.Need-same-length-2 Inv-loop μ-loop
-same-length-2 c = same-after (c .before .before .before) ((c .if7 .taken))
+same-length-2 c = same-after (c .before .before .before) ((c .if8 .taken))
 
 returns-2 : tie.Need-returns-2 Inv-loop μ-loop
-returns-2 c = ending (c .before .before .before) ((c .if7 .taken))
+returns-2 c = ending (c .before .before .before) ((c .if8 .taken))
 
 add-at : tie.Need-add-at Inv-loop μ-loop
-add-at c = at-fits (c .before .before .before) ((c .if7 .left))
+add-at c = at-fits (c .before .before .before) ((c .if8 .left))
 
 add-i : tie.Need-add-i Inv-loop μ-loop
 add-i c =
@@ -692,7 +690,7 @@ loop-less c =
     nearer (c .before .before .before .before .before .before .before .before .before .before .before .before .before .before .before .before .before .before .before .before)
 
 loop-again : tie.Need-loop-again Inv-loop μ-loop
-loop-again c = going-on (c .before .before .before) ((c .if7 .left))
+loop-again c = going-on (c .before .before .before) ((c .if8 .left))
 
 same-length-3 : tie.Need-same-length-3 Inv-loop μ-loop
 same-length-3 c = (c .before .loop .inv .same)
@@ -758,7 +756,6 @@ go-spec =
     element-set-from-amount
     mul-entry-2
     element-set-from-entry-2
-    only-reads-requires
     position-requires-4
     place-requires-4
     mul-seen-3
@@ -786,7 +783,7 @@ go-spec =
     part-put-start-2
     part-put-end-2
     put-requires
-    add-t174
+    add-t175
     same-length-2
     returns-2
     add-at

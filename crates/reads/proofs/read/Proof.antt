@@ -13,7 +13,7 @@ use Rattle.reads.proofs.read.Reads as reads
 use Rattle.reads.proofs.read.Lts as lts
 use Rattle.exact.proofs.number.Reads as number-reads
 use Rattle.figures.proofs.left_number.Reads as left-number-reads
-use Rattle.reads.proofs.fate_answer.Reads as fate-answer-reads
+use Rattle.figures.proofs.fate_answer.Reads as fate-answer-reads
 use Rattle.reads.proofs.show_reading.Reads as show-reading-reads
 use Rattle.reads.proofs.unsettled.Reads as unsettled-reads
 

@@ -3,10 +3,10 @@ use borrow.Author.Tests.{eq-eqb, ne-eqb}
 use Rattle.state.specs.declared.Answer.{Answer}
 use Rattle.state.specs.declared.Answer.the-variants.{Pair}
 use borrow.Author.Needs.{needs}
-use Rattle.reads.proofs.fate_answer.Statement.{statement}
-use Rattle.reads.proofs.fate_answer.Tie as tie
-use Rattle.reads.proofs.fate_answer.Reads as reads
-use Rattle.reads.proofs.fate_answer.Lts as lts
+use Rattle.figures.proofs.fate_answer.Statement.{statement}
+use Rattle.figures.proofs.fate_answer.Tie as tie
+use Rattle.figures.proofs.fate_answer.Reads as reads
+use Rattle.figures.proofs.fate_answer.Lts as lts
 use Rattle.records.proofs.fate_number.Reads as fate-number-reads
 
 returns : tie.Need-returns
