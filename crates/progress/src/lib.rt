@@ -28,6 +28,8 @@ fn moved_op(answer: Answer, op: u32) -> u32
     }
 }
 
+// The loop, with the counts of the kept edits beside the plan. A call is known by its number in the order of 01; its arm decides, from what
+// is lent or from small parts by value, and stores in place. A line that cannot be read is left with 51.
 fn go(
     start: State,
     counts: Tallies,
@@ -64,6 +66,7 @@ fn go(
         let mut first: usize = 0;
         let mut width: usize = 0;
         if op == 5 {
+            // edit
             let named = heads::position(h, exact::number(line.c));
             let seat = heads::place(named);
             let seen = p.edits[seat];
@@ -98,6 +101,7 @@ fn go(
             p.edits[slot] = entry;
             answer = given;
         } else if op == 8 {
+            // replay
             let named = heads::position(h, side);
             let slot = heads::place(named);
             let standing = p.edits[slot];
@@ -130,6 +134,7 @@ fn go(
             p.edits[slot] = entry;
             answer = given;
         } else if 11 < op {
+            // show, fate, left
             let named = heads::position(h, side);
             let seat = heads::place(named);
             let seen = p.edits[seat];
@@ -149,6 +154,7 @@ fn go(
             first = r.from;
             width = r.width;
         } else if op == 7 {
+            // send
             let place = heads::index(side);
             let flag = p.arrived[place];
             let unsent = t.unsent[place];
@@ -161,6 +167,7 @@ fn go(
             p.arrived[place] = arrived;
             answer = given;
         } else if 3 < op {
+            // split, join, stop, confirm, install
             let place = heads::index(side);
             let unsent = t.unsent[place];
             let old_base = p.base;
@@ -193,6 +200,7 @@ fn go(
             p.confirmed = confirmed;
             answer = given;
         } else if op != 0 {
+            // measure, rule, open
             let r = dispatch::draw_up(p, op, a, line.b, line.c, line.d);
             let q = r.state;
             let given = r.answer;
