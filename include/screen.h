@@ -1,7 +1,8 @@
 /* The drawing screen's entry to Molzaken: runs a sheet of lines and puts the answers into a buffer.
  *
  * Link with libscreen.a (`rt staticlib screen` writes it to target/staticlib). The call keeps no memory, reads and writes nothing but
- * the two buffers, and may be made from several threads at once. It uses some 100 KB of stack.
+ * the two buffers, and may be made from several threads at once. It needs less than 80 KB of stack
+ * (a host with that limit ran; one with 60 KB did not).
  */
 #ifndef MOLZAKEN_SCREEN_H
 #define MOLZAKEN_SCREEN_H
