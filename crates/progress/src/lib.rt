@@ -54,8 +54,8 @@ fn go(
                 ended: false,
             };
         }
-        let end = reader::line_end(sheet, i);
-        let line = reader::read_line(&sheet[i..end]);
+        let line = reader::read_line(&sheet[i..]);
+        let end = i + line.end;
         let op = line.op;
         let a = line.a;
         let side = exact::number(a);

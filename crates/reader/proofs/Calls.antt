@@ -9,17 +9,17 @@ use mathlib.Core.Option.{Option, none, some}
 use borrow.Author.Tests.{ltb-true, ltb-false, eqb-true, eqb-false, leb-true}
 use lib.Dec.{eqb, leb, ltb}
 use lib.IntN.{ℤ, pos}
-use lib.ListN.{length, getD, set, take, drop, length-set, length-append, length-take, drop-of-length-le, List·getD-eq-default}
+use lib.ListN.{length, getD, set, take, drop, length-set, length-append, length-take, length-drop, drop-of-length-le, List·getD-eq-default}
 use lib.Seq.{drop-cons, drop-drop, take-suc-set, getD-set-other, getD-take}
 use Rattle.protocol.specs.Lists.{all}
 use Rattle.protocol.proofs.Laws.{cases}
 use Rattle.format.specs.Numbers.{number}
-use Rattle.format.specs.Lines.{Shape, given, takes, filled, Form, forms, sameBytes, shapeOf, joined, numbers, asked, callOf, lineCall}
+use Rattle.format.specs.Lines.{space, Shape, given, takes, filled, Form, forms, sameBytes, shapeOf, joined, numbers, asked, callOf, lineCall}
 use Rattle.format.proofs.Digits.{and-true}
 use Rattle.reader.specs.declared.Number.the-variants.{Value, Unreadable}
 use Rattle.reader.specs.declared.Line.{Line}
-use Rattle.reader.specs.Reads.{wordAt, numberAt, next, place, opOf, shapeNth, shapeAt, arity, arityOf, takenBy, lineFrom, lineFor, lineIn}
-use Rattle.reader.proofs.Cuts.{more, words-cut}
+use Rattle.reader.specs.Reads.{wordAt, numberAt, next, place, opOf, shapeNth, shapeAt, arity, arityOf, takenBy, lineFrom, lineFor, lineIn, Taken}
+use Rattle.reader.proofs.Cuts.{upTo-length, more, words-cut}
 
 -- ---- a call's place in the table
 
@@ -119,6 +119,13 @@ found-is line at x n e = by (number (wordAt line at)) refl
 pub found-further : (line : List ℕ) (at : ℕ) (x : ℤ) (n : ℕ) → numberAt line (at + 1) ≡ Value x n → at < n
 found-further line at x n e = let f = found-is line (at + 1) x n e .1 in omega arith
 
+pub found-within : (line : List ℕ) (at : ℕ) (x : ℤ) (n : ℕ) → at < length line → numberAt line (at + 1) ≡ Value x n → n ≤ length line
+found-within line at x n h e =
+    let f = found-is line (at + 1) x n e .1 in
+    let l = upTo-length space (drop (at + 1) line) in
+    let d = length-drop (at + 1) line in
+    omega (arith, f, l, d)
+
 found-not : (line : List ℕ) (at : ℕ) → numberAt line at ≡ Unreadable → number (wordAt line at) ≡ none
 unfolding numberAt
 found-not line at e = by (number (wordAt line at)) refl
@@ -139,12 +146,13 @@ pub line-named : (line : List ℕ) → lineCall line ≡ asked (shapeAt (opOf (w
 unfolding lineCall shapeAt opOf
 line-named line = ap callOf (words-cut line) ∙ ap (λ s. asked s (numbers (more (drop (length (wordAt line 0)) line)))) (shape-place (wordAt line 0) forms)
 
--- what is promised of a line
-abbrev pub Read : Line → List ℕ → Type 0
-Read r line = (lineIn r ≡ lineCall line) × (r ≡ lineFor (lineCall line))
+pub no-call : (r : Line) → r .op ≡ 0 → lineIn r ≡ none
+no-call r e = rw e
 
-pub unread : (r : Line) (line : List ℕ) → r ≡ lineFor none → none ≡ lineCall line → Read r line
-unread r line e f = (ap lineIn e ∙ f, e ∙ ap lineFor f)
+pub unread : (r : Line) (line : List ℕ) (end : ℕ) → r ≡ lineFor none end → none ≡ lineCall line → end ≤ length line → Taken line r
+unread r line end e f h =
+    let n = ap {B = ℕ} (λ l. l .end) e in
+    record { call = ap lineIn e ∙ f; numbers = e ∙ ap₂ lineFor f (sym n); within = rw n h; whole = λ z. absurd (z (ap (λ l. l .op) e)) }
 
 pub unnamed : (line : List ℕ) → opOf (wordAt line 0) ≡ 0 → lineCall line ≡ none
 unfolding shapeAt
@@ -166,14 +174,14 @@ pick P op n h p f = cases (eqb op (suc n)) (λ t. rw (eqb-true op (suc n) t) p) 
     less a b h e = omega arith
 
 -- the call of a line is its form, filled with as many of the six numbers as it takes, and the line is that call's
-abbrev Filled : ℕ → List ℤ → Type 0
-Filled op xs =
-    (lineIn (lineFrom op xs) ≡ asked (shapeAt op) (some (take (takenBy op) xs))) × (lineFrom op (take (takenBy op) xs) ≡ lineFor (asked (shapeAt op) (some (take (takenBy op) xs))))
+abbrev Filled : ℕ → ℕ → List ℤ → Type 0
+Filled end op xs =
+    (lineIn (lineFrom op xs end) ≡ asked (shapeAt op) (some (take (takenBy op) xs))) × (lineFrom op (take (takenBy op) xs) end ≡ lineFor (asked (shapeAt op) (some (take (takenBy op) xs))) end)
 
-filled-with : (op : ℕ) (a b c d e f : ℤ) → 0 < op → op ≤ 14 → Filled op (a ∷ b ∷ c ∷ d ∷ e ∷ f ∷ [])
+filled-with : (end op : ℕ) (a b c d e f : ℤ) → 0 < op → op ≤ 14 → Filled end op (a ∷ b ∷ c ∷ d ∷ e ∷ f ∷ [])
 unfolding shapeAt takenBy
-filled-with op a b c d e f p =
-    let P : ℕ → Type 0 = λ k. Filled k (a ∷ b ∷ c ∷ d ∷ e ∷ f ∷ []) in
+filled-with end op a b c d e f p =
+    let P : ℕ → Type 0 = λ k. Filled end k (a ∷ b ∷ c ∷ d ∷ e ∷ f ∷ []) in
     λ q. pick P op 13 q (refl, refl) (λ q. pick P op 12 q (refl, refl) (λ q. pick P op 11 q (refl, refl) (λ q. pick P op 10 q (refl, refl) (λ q. pick P op 9 q (refl, refl) (λ q. pick P op 8 q (refl, refl) (λ q. pick P op 7 q (refl, refl) (λ q. pick P op 6 q (refl, refl) (λ q. pick P op 5 q (refl, refl) (λ q. pick P op 4 q (refl, refl) (λ q. pick P op 3 q (refl, refl) (λ q. pick P op 2 q (refl, refl) (λ q. pick P op 1 q (refl, refl) (λ q. pick P op 0 q (refl, refl) (λ z. absurd (omega arith)))))))))))))))
 
 six : (xs : List ℤ) → length xs ≡ 6 → xs ≡ getD xs 0 (pos 0) ∷ getD xs 1 (pos 0) ∷ getD xs 2 (pos 0) ∷ getD xs 3 (pos 0) ∷ getD xs 4 (pos 0) ∷ getD xs 5 (pos 0) ∷ []
@@ -186,9 +194,9 @@ six (a ∷ b ∷ c ∷ d ∷ e ∷ []) l = absurd (omega arith)
 six (a ∷ b ∷ c ∷ d ∷ e ∷ f ∷ []) l = refl
 six (a ∷ b ∷ c ∷ d ∷ e ∷ f ∷ g ∷ gs) l = absurd (omega arith)
 
-line-filled : (op : ℕ) (xs : List ℤ) → length xs ≡ 6 → 0 < op → op ≤ 14 → Filled op xs
-line-filled op xs l p q =
-    subst (Filled op) (sym (six xs l)) (filled-with op (getD xs 0 (pos 0)) (getD xs 1 (pos 0)) (getD xs 2 (pos 0)) (getD xs 3 (pos 0)) (getD xs 4 (pos 0)) (getD xs 5 (pos 0)) p q)
+line-filled : (end op : ℕ) (xs : List ℤ) → length xs ≡ 6 → 0 < op → op ≤ 14 → Filled end op xs
+line-filled end op xs l p q =
+    subst (Filled end op) (sym (six xs l)) (filled-with end op (getD xs 0 (pos 0)) (getD xs 1 (pos 0)) (getD xs 2 (pos 0)) (getD xs 3 (pos 0)) (getD xs 4 (pos 0)) (getD xs 5 (pos 0)) p q)
 
 padded-next : (k : ℕ) (xs : List ℤ) (x : ℤ) → Padded k xs → Padded (k + 1) (set xs k x)
 padded-next k xs x p j h = getD-set-other xs k j x (pos 0) (λ e. omega arith) ∙ p j (omega arith)
@@ -198,14 +206,14 @@ getD-front k xs p j = cases (ltb j k)
     (λ t. sym (getD-take k xs j (pos 0) (ltb-true j k t)))
     (λ t. let h = ltb-false j k t in let l = length-take k xs in p j h ∙ sym (List·getD-eq-default (take k xs) (pos 0) {n = j} (omega arith)))
 
-pub line-from : (op : ℕ) (xs : List ℤ) (a b c d e f : ℤ) → a ≡ getD xs 0 (pos 0) → b ≡ getD xs 1 (pos 0) → c ≡ getD xs 2 (pos 0) → d ≡ getD xs 3 (pos 0) → e ≡ getD xs 4 (pos 0) → f ≡ getD xs 5 (pos 0)
-    → _≡_ {A = Line} (record { op = op; a = a; b = b; c = c; d = d; e = e; f = f }) (lineFrom op xs)
-line-from op xs a b c d e f p q r s t u = rw (p, q, r, s, t, u)
+pub line-from : (end op : ℕ) (xs : List ℤ) (a b c d e f : ℤ) → a ≡ getD xs 0 (pos 0) → b ≡ getD xs 1 (pos 0) → c ≡ getD xs 2 (pos 0) → d ≡ getD xs 3 (pos 0) → e ≡ getD xs 4 (pos 0) → f ≡ getD xs 5 (pos 0)
+    → _≡_ {A = Line} (record { op = op; a = a; b = b; c = c; d = d; e = e; f = f; end = end }) (lineFrom op xs end)
+line-from end op xs a b c d e f p q r s t u = rw (p, q, r, s, t, u)
 
-line-front : (op k : ℕ) (xs : List ℤ) → Padded k xs → lineFrom op xs ≡ lineFrom op (take k xs)
-line-front op k xs p =
+line-front : (end op k : ℕ) (xs : List ℤ) → Padded k xs → lineFrom op xs end ≡ lineFrom op (take k xs) end
+line-front end op k xs p =
     let g = getD-front k xs p in
-    line-from op (take k xs) (getD xs 0 (pos 0)) (getD xs 1 (pos 0)) (getD xs 2 (pos 0)) (getD xs 3 (pos 0)) (getD xs 4 (pos 0)) (getD xs 5 (pos 0)) (g 0) (g 1) (g 2) (g 3) (g 4) (g 5)
+    line-from end op (take k xs) (getD xs 0 (pos 0)) (getD xs 1 (pos 0)) (getD xs 2 (pos 0)) (getD xs 3 (pos 0)) (getD xs 4 (pos 0)) (getD xs 5 (pos 0)) (g 0) (g 1) (g 2) (g 3) (g 4) (g 5)
 
 module _ (line : List ℕ) (op k : ℕ) (xs : List ℤ) (at : ℕ) (r : Listing line op k xs at) where
   -- a word that is no number
@@ -252,8 +260,13 @@ module _ (line : List ℕ) (op k : ℕ) (xs : List ℤ) (at : ℕ) (r : Listing 
   listing-few h ne = sym (over h ∙ not-called op (take k xs) (λ q. ne (sym taken ∙ q)))
 
   -- as many as the call takes
-  pub listing-all : length line ≤ at → k ≡ takenBy op → 0 < op → op ≤ 14 → Read (lineFrom op xs) line
+  pub listing-all : at ≡ length line → k ≡ takenBy op → 0 < op → op ≤ 14 → Taken line (lineFrom op xs at)
   listing-all h e p q =
-      let f = line-filled op xs (r .0) p q in
-      let c : asked (shapeAt op) (some (take (takenBy op) xs)) ≡ lineCall line = sym (over h ∙ ap (λ n. asked (shapeAt op) (some (take n xs))) e) in
-      (f .0 ∙ c, line-front op k xs (r .3) ∙ ap (λ n. lineFrom op (take n xs)) e ∙ f .1 ∙ ap lineFor c)
+      let f = line-filled at op xs (r .0) p q in
+      let c : asked (shapeAt op) (some (take (takenBy op) xs)) ≡ lineCall line = sym (over (omega (arith, h)) ∙ ap (λ n. asked (shapeAt op) (some (take n xs))) e) in
+      record {
+        call = f .0 ∙ c;
+        numbers = line-front at op k xs (r .3) ∙ ap (λ n. lineFrom op (take n xs) at) e ∙ f .1 ∙ ap (λ o. lineFor o at) c;
+        within = omega (arith, h);
+        whole = λ z. h;
+      }

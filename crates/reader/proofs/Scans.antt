@@ -4,7 +4,7 @@ use native.Mathlib.Omega.{arith}
 use native.Mathlib.Numerals.{add-one}
 use native.Mathlib.Nat.{pow-le-pow-right, zero-add}
 use mathlib.Core.Bool.{true, false, cond, _&&_, and-false}
-use mathlib.Core.Path.{_≡_, refl, sym, ap, _∙_}
+use mathlib.Core.Path.{_≡_, refl, sym, ap, _∙_, subst}
 use mathlib.Core.Logic.{_⊎_, inl, inr}
 use mathlib.Core.List.{List, [], _∷_}
 use mathlib.Core.Option.{none, some}
@@ -17,14 +17,15 @@ use mir.Val.{SFits, toZ, ofZ}
 use mir.Facts.{toZ-pos, toZ-ofZ}
 use Rattle.protocol.specs.Lists.{all, neg}
 use Rattle.protocol.proofs.Laws.{cases}
-use Rattle.format.specs.Lines.{space}
+use Rattle.format.specs.Lines.{space, lineFeed}
 use Rattle.format.specs.Numbers.{minus, nought, isDigit, decimal, isMagnitude, number}
 use Rattle.format.proofs.Digits.{digit-range}
 use Rattle.format.proofs.Inverse.{magnitude, magnitude-below, decimal-first}
 use Rattle.reader.specs.declared.Number.the-variants.{Value, Unreadable}
 use Rattle.reader.specs.declared.Magnitude.the-variants.{Of, Nothing}
-use Rattle.reader.specs.Reads.{wordAt, numberAt, magnitudeAt, followed}
-use Rattle.reader.proofs.Cuts.{upTo-over, upTo-stop, upTo-next}
+use Rattle.reader.specs.Cut.{firstLine}
+use Rattle.reader.specs.Reads.{wordAt, numberAt, magnitudeAt, followed, isEnd, ending}
+use Rattle.reader.proofs.Cuts.{upTo-over, upTo-stop, upTo-next, line-over, line-here, word-ends, word-goes}
 
 -- ---- the word at a place
 
@@ -106,6 +107,34 @@ module _ (line : List ℕ) (from first n i : ℕ) (r : Reading line from first n
 
   pub reading-small : i - from < 8 → n < 100000000
   reading-small l = let m = pow-le-pow-right {n = 10} (omega arith) {i = i - from + 1} {j = 8} (omega arith) in omega (arith, r .3)
+
+-- the same on the sheet, whose first line is read: the byte at hand is a line feed past its end
+module _ (bs : List ℕ) (from first n i : ℕ) (r : Reading (firstLine bs) from first n i) where
+  ended-is : (isEnd (getD bs i lineFeed) ≡ false → Nothing ≡ followed 0 first from (wordAt (firstLine bs) from)) → ending (getD bs i lineFeed) n i ≡ followed 0 first from (wordAt (firstLine bs) from)
+  ended-is f = cases (isEnd (getD bs i lineFeed))
+      (λ t. ap (λ c. cond c (Of n i) Nothing) t ∙ reading-stop (firstLine bs) from first n i r (word-ends bs i (r .1) t))
+      (λ t. ap (λ c. cond c (Of n i) Nothing) t ∙ f t)
+
+  -- a byte below the digits
+  pub stop-low : getD bs i lineFeed < 48 → ending (getD bs i lineFeed) n i ≡ followed 0 first from (wordAt (firstLine bs) from)
+  stop-low p = ended-is (λ t. let g = word-goes bs i (r .1) t in reading-low (firstLine bs) from first n i r (g .0) (g .2) (omega (arith, g .1)))
+
+  -- behind nine digits
+  pub stop-long : 8 ≤ i - from → ending (getD bs i lineFeed) n i ≡ followed 0 first from (wordAt (firstLine bs) from)
+  stop-long p = ended-is (λ t. let g = word-goes bs i (r .1) t in reading-long (firstLine bs) from first n i r (g .0) (g .2) p)
+
+  module _ (p : 48 ≤ getD bs i lineFeed) where
+    abbrev goes : (i < length (firstLine bs)) × (getD (firstLine bs) i 0 ≡ getD bs i lineFeed)
+    goes = line-here bs i (r .1) (λ e. omega arith)
+
+    apart : getD (firstLine bs) i 0 ≡ 32 → ⊥
+    apart e = omega (arith, goes .1)
+
+    pub stop-high : 57 < getD bs i lineFeed → Nothing ≡ followed 0 first from (wordAt (firstLine bs) from)
+    stop-high q = reading-high (firstLine bs) from first n i r (goes .0) apart (omega (arith, goes .1))
+
+    pub goes-on : getD bs i lineFeed ≤ 57 → i - from < 8 → Reading (firstLine bs) from first (10 * n + (getD bs i lineFeed - 48)) (i + 1)
+    goes-on q l = subst (λ b. Reading (firstLine bs) from first (10 * n + (b - 48)) (i + 1)) (goes .1) (reading-next (firstLine bs) from first n i r (goes .0) apart (omega (arith, goes .1)) (omega (arith, goes .1)) l)
 
 -- ---- a magnitude
 
@@ -201,6 +230,58 @@ module _ (line : List ℕ) (at : ℕ) where
   pub number-positive : (n next : ℕ) → at < length line → (getD line at 0 ≡ 48 → ⊥) → (getD line at 0 ≡ 45 → ⊥) → magnitudeAt line at ≡ Of n next → numberAt line at ≡ Value (pos n) next
   unfolding numberAt
   number-positive n next h p q f = let m = magnitude-is line at n next f in rw (plain h p q, m .0, m .1, m .2)
+
+-- the same on the sheet
+module _ (bs : List ℕ) (at : ℕ) (h : at ≤ length (firstLine bs)) where
+  abbrev b : ℕ
+  b = getD bs at lineFeed
+
+  -- the line ends here, or has this byte
+  byte : (P : Type 0) → (length (firstLine bs) ≤ at → P) → (at < length (firstLine bs) → getD (firstLine bs) at 0 ≡ b → P) → P
+  byte P f g = cases (eqb b lineFeed) (λ t. f (line-over bs at (eqb-true b lineFeed t))) (λ t. let l = line-here bs at h (eqb-false b lineFeed t) in g (l .0) (l .1))
+
+  pub no-digits : (48 < b → b ≤ 57 → ⊥) → Nothing ≡ magnitudeAt (firstLine bs) at
+  no-digits f = sym (byte (magnitudeAt (firstLine bs) at ≡ Nothing) (magnitude-over (firstLine bs) at) (λ l e. magnitude-bad (firstLine bs) at l (subst (λ x. 48 < x → x ≤ 57 → ⊥) (sym e) f)))
+
+  pub first-digit : 48 < b → b ≤ 57 → (at + 1 ≤ length (firstLine bs)) × (followed 0 (b - 48) (at + 1) (wordAt (firstLine bs) (at + 1)) ≡ magnitudeAt (firstLine bs) at)
+  first-digit p q =
+      let l = line-here bs at h (λ e. omega arith) in
+      (omega (arith, l .0), ap (λ x. followed 0 (x - 48) (at + 1) (wordAt (firstLine bs) (at + 1))) (sym (l .1)) ∙ sym (magnitude-first (firstLine bs) at (l .0) (omega (arith, l .1)) (omega (arith, l .1))))
+
+  -- a nought
+  module _ (e : b ≡ 48) where
+    abbrev there : (at < length (firstLine bs)) × (getD (firstLine bs) at 0 ≡ 48)
+    there = let l = line-here bs at h (λ z. omega arith) in (l .0, l .1 ∙ e)
+
+    pub nought-alone : isEnd (getD bs (at + 1) lineFeed) ≡ true → Value (pos 0) (at + 1) ≡ numberAt (firstLine bs) at
+    nought-alone t = sym (number-nought (firstLine bs) at (there .0) (there .1) (word-ends bs (at + 1) (omega (arith, there .0)) t))
+
+    pub nought-more : isEnd (getD bs (at + 1) lineFeed) ≡ false → Unreadable ≡ numberAt (firstLine bs) at
+    nought-more t = let g = word-goes bs (at + 1) (omega (arith, there .0)) t in sym (number-noughts (firstLine bs) at (there .0) (there .1) (g .0) (g .2))
+
+  -- a minus and digits
+  module _ (e : b ≡ 45) where
+    abbrev signed : (at < length (firstLine bs)) × (getD (firstLine bs) at 0 ≡ 45)
+    signed = let l = line-here bs at h (λ z. omega arith) in (l .0, l .1 ∙ e)
+
+    pub minus-room : at + 1 ≤ length (firstLine bs)
+    minus-room = omega (arith, signed .0)
+
+    pub minus-not : magnitudeAt (firstLine bs) (at + 1) ≡ Nothing → Unreadable ≡ numberAt (firstLine bs) at
+    minus-not f = sym (number-minus (firstLine bs) at (signed .0) (signed .1) f)
+
+    pub minus-of : (n next : ℕ) → magnitudeAt (firstLine bs) (at + 1) ≡ Of n next → Value (neg n) next ≡ numberAt (firstLine bs) at
+    minus-of n next f = sym (number-negative (firstLine bs) at n next (signed .0) (signed .1) f)
+
+  -- digits alone
+  module _ (p : b ≡ 48 → ⊥) (q : b ≡ 45 → ⊥) where
+    pub plain-not : magnitudeAt (firstLine bs) at ≡ Nothing → Unreadable ≡ numberAt (firstLine bs) at
+    plain-not f = sym (byte (numberAt (firstLine bs) at ≡ Unreadable) (number-over (firstLine bs) at) (λ l e. number-not (firstLine bs) at l (λ z. p (sym e ∙ z)) (λ z. q (sym e ∙ z)) f))
+
+    pub plain-of : (n next : ℕ) → magnitudeAt (firstLine bs) at ≡ Of n next → Value (pos n) next ≡ numberAt (firstLine bs) at
+    plain-of n next f = sym (byte (numberAt (firstLine bs) at ≡ Value (pos n) next)
+        (λ l. let z : Nothing ≡ Of n next = sym (magnitude-over (firstLine bs) at l) ∙ f in cc)
+        (λ l e. number-positive (firstLine bs) at n next l (λ z. p (sym e ∙ z)) (λ z. q (sym e ∙ z)) f))
 
 -- a magnitude is below 1,000,000,000
 pub magnitude-small : (line : List ℕ) (at n next : ℕ) → magnitudeAt line at ≡ Of n next → n < 1000000000

@@ -1,6 +1,6 @@
 -- What the reader answers, in the terms of the sheet. Assumes nothing.
-use Prim.Native.Nat.{ℕ, zero, suc, _+_, _*_}
-use mathlib.Core.Bool.{cond, _&&_}
+use Prim.Native.Nat.{ℕ, zero, suc, _+_, _*_, _≤_}
+use mathlib.Core.Bool.{Bool, cond, _&&_, _||_}
 use mathlib.Core.List.{List, [], _∷_}
 use mathlib.Core.Option.{Option, none, some}
 use mathlib.Core.Path.{_≡_}
@@ -11,7 +11,7 @@ use Rattle.protocol.specs.Lists.{all}
 use Rattle.protocol.specs.Plan.{measureLimit}
 use Rattle.protocol.specs.Calls.{Call, measure, rule, open-plan, split-side, edit, join, send, replay, stop, confirm, install, show, fate-of, left}
 use Rattle.format.specs.Numbers.{isDigit, decimal, isMagnitude, number}
-use Rattle.format.specs.Lines.{space, Shape, given, takes, Form, forms, sameBytes}
+use Rattle.format.specs.Lines.{space, lineFeed, Shape, given, takes, Form, forms, sameBytes, lineCall}
 use Rattle.reader.specs.declared.Number.{Number}
 use Rattle.reader.specs.declared.Number.the-variants.{Value, Unreadable}
 use Rattle.reader.specs.declared.Magnitude.{Magnitude}
@@ -41,6 +41,14 @@ magnitudeAt line at = cond (isMagnitude (wordAt line at)) (Of (decimal 0 (wordAt
 -- a magnitude whose digits write n so far, k of them behind the first: the digits of bs follow, which begins at a place
 unfoldable pub followed : ℕ → ℕ → ℕ → List ℕ → Magnitude
 followed k n at bs = cond (all isDigit bs && leb (k + length bs) 8) (Of (decimal n bs) (at + length bs)) Nothing
+
+-- whether a word ends before the byte
+abbrev pub isEnd : ℕ → Bool
+isEnd b = eqb b space || eqb b lineFeed
+
+-- digits that write n end before the byte, or do not
+abbrev pub ending : ℕ → ℕ → ℕ → Magnitude
+ending b n at = cond (isEnd b) (Of n at) Nothing
 
 -- ---- a name
 
@@ -98,29 +106,30 @@ pub record Named (line : List ℕ) (r : Name) : Type 0 where
   pub op : r .op ≡ opOf (wordAt line 0)
   pub count : r .count ≡ takenBy (r .op)
   pub end : (r .op ≡ 0 → ⊥) → r .end ≡ length (wordAt line 0)
+  pub within : r .end ≤ length line
 
 -- ---- a line
 
--- a line from the numbers of a call; those that it does not take are 0
-abbrev pub lineFrom : ℕ → List ℤ → Line
-lineFrom op xs = record { op = op; a = getD xs 0 (pos 0); b = getD xs 1 (pos 0); c = getD xs 2 (pos 0); d = getD xs 3 (pos 0); e = getD xs 4 (pos 0); f = getD xs 5 (pos 0) }
+-- a line of some length from the numbers of a call; those that it does not take are 0
+abbrev pub lineFrom : ℕ → List ℤ → ℕ → Line
+lineFrom op xs end = record { op = op; a = getD xs 0 (pos 0); b = getD xs 1 (pos 0); c = getD xs 2 (pos 0); d = getD xs 3 (pos 0); e = getD xs 4 (pos 0); f = getD xs 5 (pos 0); end = end }
 
-abbrev pub lineFor : Option Call → Line
-lineFor none = lineFrom 0 []
-lineFor (some (measure v)) = lineFrom 1 (v ∷ [])
-lineFor (some (rule a c b f)) = lineFrom 2 (a ∷ c ∷ b ∷ f ∷ [])
-lineFor (some open-plan) = lineFrom 3 []
-lineFor (some (split-side s)) = lineFrom 4 (s ∷ [])
-lineFor (some (edit s client n m kind k)) = lineFrom 5 (s ∷ client ∷ n ∷ m ∷ kind ∷ k ∷ [])
-lineFor (some join) = lineFrom 6 []
-lineFor (some (send s)) = lineFrom 7 (s ∷ [])
-lineFor (some (replay n)) = lineFrom 8 (n ∷ [])
-lineFor (some stop) = lineFrom 9 []
-lineFor (some (confirm s)) = lineFrom 10 (s ∷ [])
-lineFor (some install) = lineFrom 11 []
-lineFor (some (show s room)) = lineFrom 12 (s ∷ [])
-lineFor (some (fate-of n)) = lineFrom 13 (n ∷ [])
-lineFor (some left) = lineFrom 14 []
+abbrev pub lineFor : Option Call → ℕ → Line
+lineFor none end = lineFrom 0 [] end
+lineFor (some (measure v)) end = lineFrom 1 (v ∷ []) end
+lineFor (some (rule a c b f)) end = lineFrom 2 (a ∷ c ∷ b ∷ f ∷ []) end
+lineFor (some open-plan) end = lineFrom 3 [] end
+lineFor (some (split-side s)) end = lineFrom 4 (s ∷ []) end
+lineFor (some (edit s client n m kind k)) end = lineFrom 5 (s ∷ client ∷ n ∷ m ∷ kind ∷ k ∷ []) end
+lineFor (some join) end = lineFrom 6 [] end
+lineFor (some (send s)) end = lineFrom 7 (s ∷ []) end
+lineFor (some (replay n)) end = lineFrom 8 (n ∷ []) end
+lineFor (some stop) end = lineFrom 9 [] end
+lineFor (some (confirm s)) end = lineFrom 10 (s ∷ []) end
+lineFor (some install) end = lineFrom 11 [] end
+lineFor (some (show s room)) end = lineFrom 12 (s ∷ []) end
+lineFor (some (fate-of n)) end = lineFrom 13 (n ∷ []) end
+lineFor (some left) end = lineFrom 14 [] end
 
 -- the call of a line that was read; none: it cannot be read
 abbrev pub lineIn : Line → Option Call
@@ -140,3 +149,10 @@ lineIn l =
     (cond (eqb (l .op) 13) (some (fate-of (l .a)))
     (cond (eqb (l .op) 14) (some left)
     none)))))))))))))
+
+-- a line was read to its end, or up to a place at which it is no call's
+pub record Taken (line : List ℕ) (r : Line) : Type 0 where
+  pub call : lineIn r ≡ lineCall line
+  pub numbers : r ≡ lineFor (lineCall line) (r .end)
+  pub within : r .end ≤ length line
+  pub whole : (r .op ≡ 0 → ⊥) → r .end ≡ length line

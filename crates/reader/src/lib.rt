@@ -1,11 +1,13 @@
-// Reads one line of a sheet (01, "The sheet program"): a call's name and its numbers, with one space between.
+// Reads the first line of a sheet's rest (01, "The sheet program"): a call's name and its numbers, with one space between. One pass: the line feed is
+// met where a word ends.
 ghost use mathlib.Core.Path.{_≡_};
 ghost use Prim.Native.Nat.{_+_, _<_, _≤_, min};
 ghost use mathlib.Core.Option.{none};
-ghost use lib.ListN.{length, drop};
+ghost use lib.ListN.{length, drop, getD};
+ghost use Rattle.protocol.specs.Lists.{bit};
 ghost use Rattle.format.specs.Lines.{lineFeed, lineCall};
-ghost use Rattle.reader.specs.Cut.{upTo};
-ghost use Rattle.reader.specs.Reads.{wordAt, numberAt, magnitudeAt, followed, callOfCode, Named, lineFrom, lineFor, lineIn};
+ghost use Rattle.reader.specs.Cut.{upTo, firstLine};
+ghost use Rattle.reader.specs.Reads.{wordAt, numberAt, magnitudeAt, followed, isEnd, ending, callOfCode, Named, lineFrom, lineFor, lineIn, Taken};
 
 // A number with the place behind it, or a word that is none.
 pub enum Number {
@@ -32,7 +34,7 @@ struct Name {
     end: usize,
 }
 
-// A call and its numbers. op is 0 for a line that cannot be read, else the call's place in document 01's list, from 1.
+// A call and its numbers, and the line's length. op is 0 for a line that cannot be read, else the call's place in document 01's list, from 1.
 // Numbers that the call does not take are 0.
 pub struct Line {
     pub op: u32,
@@ -42,10 +44,33 @@ pub struct Line {
     pub d: i32,
     pub e: i32,
     pub f: i32,
+    pub end: usize,
+}
+
+// ---- bytes
+
+// The byte at a place. A sheet ends as if by a line feed.
+fn byte_at(sheet: &[u8], at: usize) -> u8
+    ensures { λ r. ⌜ r ≡ getD (now (sheet .entry)) at lineFeed ⌝ }
+{
+    if at < sheet.len() {
+        return sheet[at];
+    }
+    10
+}
+
+// Whether a word ends at the byte.
+fn ends(b: u8) -> bool
+    ensures { λ t. ⌜ t ≡ isEnd b ⌝ }
+{
+    if b == 32 {
+        return true;
+    }
+    b == 10
 }
 
 // The place of the first line feed from a place on, or the sheet's length.
-pub fn line_end(sheet: &[u8], at: usize) -> usize
+fn line_end(sheet: &[u8], at: usize) -> usize
     ensures { λ r. ⌜ r ≡ min at (length (now (sheet .entry))) + length (upTo lineFeed (drop at (now (sheet .entry)))) ⌝ }
 {
     if sheet.len() <= at {
@@ -63,78 +88,83 @@ pub fn line_end(sheet: &[u8], at: usize) -> usize
 
 // ---- numbers
 
+// A number's digits end before a byte, or go on with something else.
+fn ended(b: u8, n: u32, at: usize) -> Magnitude
+    ensures { λ r. ⌜ r ≡ ending b n at ⌝ }
+{
+    if ends(b) {
+        return Magnitude::Of(n, at);
+    }
+    Magnitude::Nothing
+}
+
 // The digits that follow a first one, from a place on: at most 8.
-fn further(line: &[u8], from: usize, first: u32) -> Magnitude
-    requires { ⌜ (first < 10) × (from ≤ length (now line)) ⌝ }
-    ensures { λ r. ⌜ r ≡ followed 0 first from (wordAt (now (line .entry)) from) ⌝ }
+fn further(sheet: &[u8], from: usize, first: u32) -> Magnitude
+    requires { ⌜ (first < 10) × (from ≤ length (firstLine (now sheet))) ⌝ }
+    ensures { λ r. ⌜ r ≡ followed 0 first from (wordAt (firstLine (now (sheet .entry))) from) ⌝ }
 {
     let mut n = first;
     let mut i = from;
-    while i < line.len() {
-        let b = line[i];
-        if b == 32 {
-            return Magnitude::Of(n, i);
-        }
+    while i - from < 8 {
+        let b = byte_at(sheet, i);
         if b < 48 {
-            return Magnitude::Nothing;
+            return ended(b, n, i);
         }
         if 57 < b {
-            return Magnitude::Nothing;
-        }
-        if 8 <= i - from {
             return Magnitude::Nothing;
         }
         n = 10 * n + (b - 48) as u32;
         i += 1;
     }
-    Magnitude::Of(n, i)
+    ended(byte_at(sheet, i), n, i)
 }
 
 // 1 to 9 digits of which the first is not 0.
-fn read_digits(line: &[u8], at: usize) -> Magnitude
-    ensures { λ r. ⌜ r ≡ magnitudeAt (now (line .entry)) at ⌝ }
+fn read_digits(sheet: &[u8], at: usize) -> Magnitude
+    requires { ⌜ at ≤ length (firstLine (now sheet)) ⌝ }
+    ensures { λ r. ⌜ r ≡ magnitudeAt (firstLine (now (sheet .entry))) at ⌝ }
 {
-    if line.len() <= at {
-        return Magnitude::Nothing;
-    }
-    let b = line[at];
+    let b = byte_at(sheet, at);
     if b < 49 {
         return Magnitude::Nothing;
     }
     if 57 < b {
         return Magnitude::Nothing;
     }
-    further(line, at + 1, (b - 48) as u32)
+    further(sheet, at + 1, (b - 48) as u32)
+}
+
+// Where the digits begin, behind a minus or at once.
+fn digits_from(at: usize, minus: bool) -> usize
+    requires { ⌜ at < 9223372036854775808 ⌝ }
+    ensures { λ r. ⌜ r ≡ at + bit minus ⌝ }
+{
+    if minus {
+        return at + 1;
+    }
+    at
 }
 
 // The number written by the word that begins at a place.
-pub fn read_number(line: &[u8], at: usize) -> Number
-    ensures { λ r. ⌜ r ≡ numberAt (now (line .entry)) at ⌝ }
+fn read_number(sheet: &[u8], at: usize) -> Number
+    requires { ⌜ at ≤ length (firstLine (now sheet)) ⌝ }
+    ensures { λ r. ⌜ r ≡ numberAt (firstLine (now (sheet .entry))) at ⌝ }
 {
-    if line.len() <= at {
-        return Number::Unreadable;
-    }
-    let b = line[at];
+    let b = byte_at(sheet, at);
     if b == 48 {
-        if line.len() <= at + 1 {
-            return Number::Value(0, at + 1);
-        }
-        if line[at + 1] == 32 {
+        if ends(byte_at(sheet, at + 1)) {
             return Number::Value(0, at + 1);
         }
         return Number::Unreadable;
     }
-    if b == 45 {
-        let size = read_digits(line, at + 1);
-        let Magnitude::Of(n, next) = size else {
-            return Number::Unreadable;
-        };
-        return Number::Value(-(n as i32), next);
-    }
-    let size = read_digits(line, at);
+    let minus = b == 45;
+    let size = read_digits(sheet, digits_from(at, minus));
     let Magnitude::Of(n, next) = size else {
         return Number::Unreadable;
     };
+    if minus {
+        return Number::Value(-(n as i32), next);
+    }
     Number::Value(n as i32, next)
 }
 
@@ -163,44 +193,45 @@ fn call_of(code: u64) -> Call
     }
 }
 
-// The call of a line's first word. A word longer than any name is not read on.
-fn read_name(line: &[u8]) -> Name
-    ensures { λ r. ⌜ Named (now (line .entry)) r ⌝ }
+fn named(code: u64, end: usize) -> Name
+    ensures { λ r. ⌜ (r .op ≡ callOfCode code .op) × (r .count ≡ callOfCode code .count) × (r .end ≡ end) ⌝ }
 {
-    let mut code: u64 = 1;
-    let mut i: usize = 0;
-    while i < line.len() {
-        let b = line[i];
-        if b == 32 {
-            let call = call_of(code);
-            return Name {
-                op: call.op,
-                count: call.count,
-                end: i,
-            };
-        }
-        if 7 <= i {
-            return Name {
-                op: 0,
-                count: 0,
-                end: i,
-            };
-        }
-        code = code * 256 + b as u64;
-        i += 1;
-    }
     let call = call_of(code);
     Name {
         op: call.op,
         count: call.count,
+        end,
+    }
+}
+
+// The call of a line's first word. A word longer than any name is not read on.
+fn read_name(sheet: &[u8]) -> Name
+    ensures { λ r. ⌜ Named (firstLine (now (sheet .entry))) r ⌝ }
+{
+    let mut code: u64 = 1;
+    let mut i: usize = 0;
+    while i < 7 {
+        let b = byte_at(sheet, i);
+        if ends(b) {
+            return named(code, i);
+        }
+        code = code * 256 + b as u64;
+        i += 1;
+    }
+    if ends(byte_at(sheet, i)) {
+        return named(code, i);
+    }
+    Name {
+        op: 0,
+        count: 0,
         end: i,
     }
 }
 
 // ---- lines
 
-fn unreadable() -> Line
-    ensures { λ r. ⌜ r ≡ lineFor none ⌝ }
+fn unreadable(end: usize) -> Line
+    ensures { λ r. ⌜ r ≡ lineFor none end ⌝ }
 {
     Line {
         op: 0,
@@ -210,11 +241,12 @@ fn unreadable() -> Line
         d: 0,
         e: 0,
         f: 0,
+        end,
     }
 }
 
-fn line_of(op: u32, xs: [i32; 6]) -> Line
-    ensures { λ r. ⌜ r ≡ lineFrom op xs ⌝ }
+fn line_of(op: u32, xs: [i32; 6], end: usize) -> Line
+    ensures { λ r. ⌜ r ≡ lineFrom op xs end ⌝ }
 {
     let a = xs[0];
     let b = xs[1];
@@ -230,36 +262,49 @@ fn line_of(op: u32, xs: [i32; 6]) -> Line
         d,
         e,
         f,
+        end,
     }
 }
 
-// The call that a line asks for. A word that is no number ends it at once (01: "ends its line at once with 51"), and so does a number too many.
-pub fn read_line(line: &[u8]) -> Line
-    ensures { λ r. ⌜ (lineIn r ≡ lineCall (now (line .entry))) × (r ≡ lineFor (lineCall (now (line .entry)))) ⌝ }
+// The call of the first line, with the line's length; or no call, and a place of the line. A word that is no number ends it at once
+// (01: "ends its line at once with 51"), and so does a number too many.
+fn read_call(sheet: &[u8]) -> Line
+    ensures { λ r. ⌜ Taken (firstLine (now (sheet .entry))) r ⌝ }
 {
-    let name = read_name(line);
+    let name = read_name(sheet);
     let op = name.op;
     if op == 0 {
-        return unreadable();
+        return unreadable(name.end);
     }
     let count = name.count;
     let mut xs = [0i32; 6];
     let mut k: usize = 0;
     let mut at = name.end;
-    while at < line.len() {
-        let n = read_number(line, at + 1);
+    while byte_at(sheet, at) != 10 {
+        let n = read_number(sheet, at + 1);
         let Number::Value(x, next) = n else {
-            return unreadable();
+            return unreadable(at);
         };
         if k == count {
-            return unreadable();
+            return unreadable(at);
         }
         xs[k] = x;
         k += 1;
         at = next;
     }
     if k != count {
-        return unreadable();
+        return unreadable(at);
     }
-    line_of(op, xs)
+    line_of(op, xs, at)
+}
+
+// The call that the first line asks for, and the line's length.
+pub fn read_line(sheet: &[u8]) -> Line
+    ensures { λ r. ⌜ (lineIn r ≡ lineCall (firstLine (now (sheet .entry)))) × (r ≡ lineFor (lineCall (firstLine (now (sheet .entry)))) (length (firstLine (now (sheet .entry))))) ⌝ }
+{
+    let r = read_call(sheet);
+    if r.op == 0 {
+        return unreadable(line_end(sheet, r.end));
+    }
+    r
 }

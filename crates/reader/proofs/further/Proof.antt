@@ -1,69 +1,79 @@
+use borrow.Author.Needs.{needs}
+use mathlib.Core.Path.{_≡_, sym, ap, _∙_, subst}
 use native.Mathlib.Omega.{arith}
-use Prim.Native.Nat.{_-_}
+use Prim.Native.Nat.{_-_, _+_, _*_}
 use lib.ListN.{length}
-use Rattle.format.specs.Lines.{space}
-use Rattle.reader.proofs.Cuts.{upTo-over, upTo-stop}
-use Rattle.reader.proofs.Scans.{Reading, reading-begin, reading-stop, reading-low, reading-high, reading-long, reading-next, reading-small}
+use Rattle.reader.specs.Cut.{firstLine}
+use Rattle.reader.specs.Reads.{ending}
+use Rattle.reader.proofs.Cuts.{upTo-length}
+use Rattle.reader.proofs.Scans.{Reading, reading-begin, reading-small, stop-low, stop-long, stop-high, goes-on}
+use Rattle.format.specs.Lines.{lineFeed}
 use Rattle.reader.proofs.further.Statement.{statement}
 use Rattle.reader.proofs.further.Tie as tie
 use Rattle.reader.proofs.further.Reads as reads
 use Rattle.reader.proofs.further.Lts as lts
+use Rattle.reader.proofs.byte_at.Reads as byte-at-reads
+use Rattle.reader.proofs.ended.Reads as ended-reads
 
 abbrev Inv-loop : tie.InvT-loop
-Inv-loop line from first n₀ i₀ n i = Reading line from first n i
+Inv-loop sheet from first n₀ i₀ n i = Reading (firstLine sheet) from first n i
 
 abbrev μ-loop : tie.MeasureT-loop
-μ-loop line from first n₀ i₀ n i = length line - i
+μ-loop sheet from first n₀ i₀ n i = 8 - (i - from)
 
 loop-holds : tie.Need-loop-holds Inv-loop μ-loop
-loop-holds c = reading-begin (c .args .line .now) (c .args .from) (c .args .first) (c .pre .0) (c .pre .1)
+loop-holds c =
+    reading-begin (firstLine ((c .before .args .sheet .now))) ((c .before .args .from)) ((c .before .args .first)) ((c .before .pre .0)) ((c .before .pre .1))
 
-shared-slice-read-b : tie.Need-shared-slice-read-b Inv-loop μ-loop
-shared-slice-read-b c = omega arith
+sub-loop : tie.Need-sub-loop Inv-loop μ-loop
+sub-loop c = ((c .loop .inv .0))
+
+byte-at-requires : tie.Need-byte-at-requires Inv-loop μ-loop
+byte-at-requires c κs = search needs
+
+ended-requires : tie.Need-ended-requires Inv-loop μ-loop
+ended-requires c κs = search needs
 
 returns : tie.Need-returns Inv-loop μ-loop
 returns c =
-    reading-stop _ _ _ _ _ (c .before .before .before .loop .inv) (upTo-stop space (c .before .before .before .before .args .line .now) (c .before .before .before .loop .i) (omega arith) (c .if1 .taken))
+    ((c .ended .ensures)) ∙ ap (λ b. ending b ((c .before .before .before .before .loop .n)) ((c .before .before .before .before .loop .i))) ((c .before .before .byte-at .ensures)) ∙ stop-low ((c .before .before .before .before .before .before .args .sheet .now)) ((c .before .before .before .before .before .before .args .from)) ((c .before .before .before .before .before .before .args .first)) ((c .before .before .before .before .loop .n)) ((c .before .before .before .before .loop .i)) ((c .before .before .before .before .loop .inv)) (omega (arith, ((c .before .before .byte-at .ensures)), ((c .before .if1 .taken))))
 
 returns-2 : tie.Need-returns-2 Inv-loop μ-loop
 returns-2 c =
-    reading-low _ _ _ _ _ (c .before .before .before .before .loop .inv) (omega arith) (c .before .if1 .left) (omega arith)
-
-returns-3 : tie.Need-returns-3 Inv-loop μ-loop
-returns-3 c =
-    reading-high _ _ _ _ _ (c .before .before .before .before .before .loop .inv) (omega arith) (c .before .before .if1 .left) (omega arith)
-
-sub-if4 : tie.Need-sub-if4 Inv-loop μ-loop
-sub-if4 c = omega arith
-
-returns-4 : tie.Need-returns-4 Inv-loop μ-loop
-returns-4 c =
-    reading-long _ _ _ _ _ (c .before .before .before .before .before .before .loop .inv) (omega arith) (c .before .before .before .if1 .left) (omega arith)
+    stop-high ((c .before .before .before .before .before .before .args .sheet .now)) ((c .before .before .before .before .before .before .args .from)) ((c .before .before .before .before .before .before .args .first)) ((c .before .before .before .before .loop .n)) ((c .before .before .before .before .loop .i)) ((c .before .before .before .before .loop .inv)) (omega (arith, ((c .before .before .byte-at .ensures)), ((c .before .if1 .left)))) (omega (arith, ((c .before .before .byte-at .ensures)), ((c .if2 .taken))))
 
 mul-n : tie.Need-mul-n Inv-loop μ-loop
 mul-n c =
-    let s = reading-small _ _ _ _ _ (c .before .before .before .before .before .before .loop .inv) (omega arith) in omega arith
+    let s = reading-small (firstLine ((c .before .before .before .before .before .before .args .sheet .now))) ((c .before .before .before .before .before .before .args .from)) ((c .before .before .before .before .before .before .args .first)) ((c .before .before .before .before .loop .n)) ((c .before .before .before .before .loop .i)) ((c .before .before .before .before .loop .inv)) (omega (arith, ((c .before .before .before .loop-test .taken)))) in omega (arith, s)
 
 cast-n : tie.Need-cast-n Inv-loop μ-loop
 cast-n c = omega arith
 
 add-n : tie.Need-add-n Inv-loop μ-loop
 add-n c =
-    let s = reading-small _ _ _ _ _ (c .before .before .before .before .before .before .loop .inv) (omega arith) in omega arith
+    let s = reading-small (firstLine ((c .before .before .before .before .before .before .args .sheet .now))) ((c .before .before .before .before .before .before .args .from)) ((c .before .before .before .before .before .before .args .first)) ((c .before .before .before .before .loop .n)) ((c .before .before .before .before .loop .i)) ((c .before .before .before .before .loop .inv)) (omega (arith, ((c .before .before .before .loop-test .taken)))) in omega (arith, s, ((c .if2 .left)))
 
 add-i : tie.Need-add-i Inv-loop μ-loop
-add-i c = omega arith
+add-i c =
+    let l = upTo-length lineFeed ((c .before .before .before .before .before .before .args .sheet .now)) in omega (arith, l, ((c .before .before .before .before .loop .inv .1)))
 
 loop-less : tie.Need-loop-less Inv-loop μ-loop
-loop-less c = omega arith
+loop-less c =
+    omega (arith, ((c .before .before .before .loop-test .taken)), ((c .before .before .before .before .loop .inv .0)))
 
 loop-again : tie.Need-loop-again Inv-loop μ-loop
 loop-again c =
-    reading-next _ _ _ _ _ (c .before .before .before .before .before .before .loop .inv) (omega arith) (c .before .before .before .if1 .left) (omega arith) (omega arith) (omega arith)
+    subst (λ b. Reading (firstLine ((c .before .before .before .before .before .before .args .sheet .now))) ((c .before .before .before .before .before .before .args .from)) ((c .before .before .before .before .before .before .args .first)) (10 * ((c .before .before .before .before .loop .n)) + (b - 48)) (((c .before .before .before .before .loop .i)) + 1)) (sym ((c .before .before .byte-at .ensures))) (goes-on ((c .before .before .before .before .before .before .args .sheet .now)) ((c .before .before .before .before .before .before .args .from)) ((c .before .before .before .before .before .before .args .first)) ((c .before .before .before .before .loop .n)) ((c .before .before .before .before .loop .i)) ((c .before .before .before .before .loop .inv)) (omega (arith, ((c .before .before .byte-at .ensures)), ((c .before .if1 .left)))) (omega (arith, ((c .before .before .byte-at .ensures)), ((c .if2 .left)))) (omega (arith, ((c .before .before .before .loop-test .taken)))))
 
-returns-5 : tie.Need-returns-5 Inv-loop μ-loop
-returns-5 c =
-    reading-stop _ _ _ _ _ (c .before .loop .inv) (upTo-over space (c .before .before .args .line .now) (c .before .loop .i) (omega arith))
+byte-at-requires-2 : tie.Need-byte-at-requires-2 Inv-loop μ-loop
+byte-at-requires-2 c κs = search needs
+
+ended-requires-2 : tie.Need-ended-requires-2 Inv-loop μ-loop
+ended-requires-2 c κs = search needs
+
+returns-3 : tie.Need-returns-3 Inv-loop μ-loop
+returns-3 c =
+    ((c .ended2 .ensures)) ∙ ap (λ b. ending b ((c .before .before .before .loop .n)) ((c .before .before .before .loop .i))) ((c .before .byte-at2 .ensures)) ∙ stop-long ((c .before .before .before .before .before .args .sheet .now)) ((c .before .before .before .before .before .args .from)) ((c .before .before .before .before .before .args .first)) ((c .before .before .before .loop .n)) ((c .before .before .before .loop .i)) ((c .before .before .before .loop .inv)) (omega (arith, ((c .before .before .loop-test .left))))
 
 pub further-spec : {M : Type 1} → statement M
 further-spec =
@@ -72,16 +82,17 @@ further-spec =
     Inv-loop
     μ-loop
     loop-holds
-    shared-slice-read-b
+    sub-loop
+    byte-at-requires
+    ended-requires
     returns
     returns-2
-    returns-3
-    sub-if4
-    returns-4
     mul-n
     cast-n
     add-n
     add-i
     loop-less
     loop-again
-    returns-5)
+    byte-at-requires-2
+    ended-requires-2
+    returns-3)

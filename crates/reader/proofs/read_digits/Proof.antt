@@ -1,29 +1,33 @@
 use native.Mathlib.Omega.{arith}
-use mathlib.Core.Path.{sym, _∙_}
-use Rattle.reader.proofs.Scans.{magnitude-over, magnitude-bad, magnitude-first}
+use Prim.Native.Nat.{_-_, _+_}
+use mathlib.Core.Path.{_≡_, sym, ap, _∙_}
+use Rattle.format.specs.Lines.{lineFeed}
+use Rattle.reader.specs.Cut.{firstLine}
+use Rattle.reader.specs.Reads.{followed, wordAt}
+use Rattle.reader.proofs.Cuts.{upTo-length}
+use Rattle.reader.proofs.Scans.{no-digits, first-digit}
 use borrow.Author.Needs.{needs}
 use Rattle.reader.proofs.read_digits.Statement.{statement}
 use Rattle.reader.proofs.read_digits.Tie as tie
 use Rattle.reader.proofs.read_digits.Reads as reads
 use Rattle.reader.proofs.read_digits.Lts as lts
+use Rattle.reader.proofs.byte_at.Reads as byte-at-reads
 use Rattle.reader.proofs.further.Reads as further-reads
 
-returns : tie.Need-returns
-returns c = sym (magnitude-over (c .before .before .args .line .now) (c .before .before .args .at) (omega arith))
+byte-at-requires : tie.Need-byte-at-requires
+byte-at-requires c κs = search needs
 
-shared-slice-read-b : tie.Need-shared-slice-read-b
-shared-slice-read-b c = search needs
+returns : tie.Need-returns
+returns c =
+    no-digits ((c .before .before .before .args .sheet .now)) ((c .before .before .before .args .at)) ((c .before .before .before .pre)) (λ p q. omega (arith, ((c .before .byte-at .ensures)), ((c .if1 .taken))))
 
 returns-2 : tie.Need-returns-2
 returns-2 c =
-    sym (magnitude-bad (c .before .before .before .before .args .line .now) (c .before .before .before .before .args .at) (omega arith) (λ p q. omega arith))
-
-returns-3 : tie.Need-returns-3
-returns-3 c =
-    sym (magnitude-bad (c .before .before .before .before .before .args .line .now) (c .before .before .before .before .before .args .at) (omega arith) (λ p q. omega arith))
+    no-digits ((c .before .before .before .before .args .sheet .now)) ((c .before .before .before .before .args .at)) ((c .before .before .before .before .pre)) (λ p q. omega (arith, ((c .before .before .byte-at .ensures)), ((c .if2 .taken))))
 
 add-further : tie.Need-add-further
-add-further c = search needs
+add-further c =
+    let l = upTo-length lineFeed ((c .before .before .before .before .args .sheet .now)) in omega (arith, l, ((c .before .before .before .before .pre)))
 
 sub-further : tie.Need-sub-further
 sub-further c = search needs
@@ -32,22 +36,23 @@ cast-further : tie.Need-cast-further
 cast-further c = search needs
 
 further-requires : tie.Need-further-requires
-further-requires c κs = search needs
+further-requires c κs =
+    (omega (arith, ((c .if2 .left))), first-digit ((c .before .before .before .before .args .sheet .now)) ((c .before .before .before .before .args .at)) ((c .before .before .before .before .pre)) (omega (arith, ((c .before .before .byte-at .ensures)), ((c .before .if1 .left)))) (omega (arith, ((c .before .before .byte-at .ensures)), ((c .if2 .left)))) .0)
 
-returns-4 : tie.Need-returns-4
-returns-4 c =
-    c .further .ensures ∙ sym (magnitude-first (c .before .before .before .before .before .before .args .line .now) (c .before .before .before .before .before .before .args .at) (omega arith) (omega arith) (omega arith))
+returns-3 : tie.Need-returns-3
+returns-3 c =
+    ((c .further .ensures)) ∙ ap (λ b. followed 0 (b - 48) (((c .before .before .before .before .before .args .at)) + 1) (wordAt (firstLine ((c .before .before .before .before .before .args .sheet .now))) (((c .before .before .before .before .before .args .at)) + 1))) ((c .before .before .before .byte-at .ensures))
+    ∙ first-digit ((c .before .before .before .before .before .args .sheet .now)) ((c .before .before .before .before .before .args .at)) ((c .before .before .before .before .before .pre)) (omega (arith, ((c .before .before .before .byte-at .ensures)), ((c .before .before .if1 .left)))) (omega (arith, ((c .before .before .before .byte-at .ensures)), ((c .before .if2 .left)))) .1
 
 pub read-digits-spec : {M : Type 1} → statement M
 read-digits-spec =
     tie.close
     (tie.spec
+    byte-at-requires
     returns
-    shared-slice-read-b
     returns-2
-    returns-3
     add-further
     sub-further
     cast-further
     further-requires
-    returns-4)
+    returns-3)

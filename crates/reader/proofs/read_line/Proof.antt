@@ -1,153 +1,40 @@
-use borrow.Author.Tests.{ltb-true, ltb-false}
-use lib.Dec.{ltb}
-use lib.ListN.{getD-replicate, List·getD-eq-default, replicate, length}
-use Rattle.protocol.proofs.Laws.{cases}
-use Rattle.reader.proofs.Calls.{Padded, unread, op-most, found-further, Listing, listing-begin, listing-unread, listing-next, listing-many, listing-few, listing-all, unnamed, taken-most}
-use Prim.Native.Nat.{_-_, _<_, _≤_}
-use Rattle.reader.specs.Reads.{lineIn, wordAt, takenBy}
-use mir.Syntax.{w32}
-use mir.Val.{SFits}
-use mir.Facts.{toZ-ofZ}
-use lib.IntN.{ℤ, pos}
-use lib.Signed.{mag}
+use mathlib.Core.Path.{_≡_, sym, ap, ap₂, _∙_}
+use mathlib.Core.Option.{none}
+use Rattle.format.specs.Lines.{lineCall}
+use Rattle.reader.specs.Cut.{firstLine}
+use Rattle.reader.specs.Reads.{lineFor, lineIn}
+use Rattle.reader.proofs.Cuts.{line-rest}
+use Rattle.reader.proofs.Calls.{no-call}
 use borrow.Author.Needs.{needs}
-use native.Mathlib.Omega.{arith}
-use mathlib.Core.Path.{_≡_, refl, sym, ap, _∙_}
 use Rattle.reader.proofs.read_line.Statement.{statement}
 use Rattle.reader.proofs.read_line.Tie as tie
 use Rattle.reader.proofs.read_line.Reads as reads
 use Rattle.reader.proofs.read_line.Lts as lts
-use Rattle.reader.proofs.line_of.Reads as line-of-reads
-use Rattle.reader.proofs.read_name.Reads as read-name-reads
-use Rattle.reader.proofs.read_number.Reads as read-number-reads
+use Rattle.reader.proofs.line_end.Reads as line-end-reads
+use Rattle.reader.proofs.read_call.Reads as read-call-reads
 use Rattle.reader.proofs.unreadable.Reads as unreadable-reads
 
-fits : (z : ℤ) → mag z < 2147483648 → SFits w32 z
-fits z h = record { sfits = h }
+read-call-requires : tie.Need-read-call-requires
+read-call-requires c κs = search needs
 
--- the numbers are 0 at first
-nought : Padded 0 (replicate 6 (pos 0))
-nought j h = cases (ltb j 6)
-    (λ t. getD-replicate 6 j (pos 0) (pos 0) (ltb-true j 6 t))
-    (λ t. List·getD-eq-default (replicate 6 (pos 0)) (pos 0) {n = j} (ltb-false j 6 t))
+line-end-requires : tie.Need-line-end-requires
+line-end-requires c κs = search needs
 
-abbrev Inv-loop : tie.InvT-loop
-Inv-loop line op count xs₀ k₀ at₀ xs k at = (op ≤ 14) × (0 < op) × (count ≡ takenBy op) × Listing line op k xs at
-
-abbrev μ-loop : tie.MeasureT-loop
-μ-loop line op count xs₀ k₀ at₀ xs k at = length line - at
-
-read-name-requires : tie.Need-read-name-requires Inv-loop μ-loop
-read-name-requires c κs = search needs
-
-unreadable-requires : tie.Need-unreadable-requires Inv-loop μ-loop
+unreadable-requires : tie.Need-unreadable-requires
 unreadable-requires c κs = search needs
 
-returns : tie.Need-returns Inv-loop μ-loop
+returns : tie.Need-returns
 returns c =
-    unread _ _ (c .unreadable .ensures) (sym (unnamed (c .before .before .before .before .args .line .now) (sym (c .before .before .read-name .ensures .op) ∙ (c .before .if1 .taken))))
+    let t = ((c .before .before .before .before .read-call .ensures)) in
+    let o : none ≡ lineCall (firstLine ((c .before .before .before .before .before .before .args .sheet .now))) = sym (no-call ((c .before .before .before .before .read-call .result)) ((c .before .before .if1 .taken))) ∙ t .call in
+    let n = ((c .before .line-end .ensures)) ∙ line-rest ((c .before .before .before .before .before .before .args .sheet .now)) ((c .before .before .before .before .read-call .result .end)) (t .within) in
+    (ap lineIn ((c .unreadable .ensures)) ∙ o, ((c .unreadable .ensures)) ∙ ap₂ lineFor o n)
 
-loop-holds : tie.Need-loop-holds Inv-loop μ-loop
-loop-holds c =
-    let n = (c .before .read-name .ensures) in
-    let op = (c .before .read-name .result .op) in
-    let m = op-most (wordAt (c .before .before .before .args .line .now) 0) in
-    let p : 0 < op = omega (arith, (c .if1 .left)) in
-    (omega (arith, n .op), p, n .count, listing-begin (c .before .before .before .args .line .now) op (c .before .read-name .result .end) (replicate 6 (pos 0)) refl nought (n .op) (n .end (c .if1 .left)))
-
-add-read-number : tie.Need-add-read-number Inv-loop μ-loop
-add-read-number c = omega arith
-
-read-number-requires : tie.Need-read-number-requires Inv-loop μ-loop
-read-number-requires c κs = search needs
-
-enum-known-n : tie.Need-enum-known-n Inv-loop μ-loop
-enum-known-n c = search needs
-
-enum-told : tie.Need-enum-told Inv-loop μ-loop
-enum-told c = search needs
-
-unreadable-requires-2 : tie.Need-unreadable-requires-2 Inv-loop μ-loop
-unreadable-requires-2 c κs = search needs
-
-returns-2 : tie.Need-returns-2 Inv-loop μ-loop
+returns-2 : tie.Need-returns-2
 returns-2 c =
-    unread _ _ (c .unreadable2 .ensures) (listing-unread _ _ _ _ _ (c .before .before .before .before .before .loop .inv .3) (omega arith) (sym (c .before .before .before .read-number .ensures) ∙ (c .before .enum-told .given .1)))
-
-unreadable-requires-3 : tie.Need-unreadable-requires-3 Inv-loop μ-loop
-unreadable-requires-3 c κs = search needs
-
-returns-3 : tie.Need-returns-3 Inv-loop μ-loop
-returns-3 c =
-    unread _ _ (c .unreadable3 .ensures) (listing-many _ _ _ _ _ (c .before .before .before .before .before .before .before .loop .inv .3) _ _ (omega arith) (sym (c .before .before .before .before .before .read-number .ensures) ∙ (c .before .before .before .n .given .1)) ((c .before .if2 .taken) ∙ (c .before .before .before .before .before .before .before .loop .inv .2)))
-
-mul-xs : tie.Need-mul-xs Inv-loop μ-loop
-mul-xs c =
-    omega (arith, taken-most (c .before .before .before .before .before .before .before .before .read-name .result .op), (c .before .before .before .before .before .before .loop .inv .3 .1))
-
-array-set-from-xs : tie.Need-array-set-from-xs Inv-loop μ-loop
-array-set-from-xs c =
-    let m = taken-most (c .before .before .before .before .before .before .before .before .read-name .result .op) in
-    let k = (c .before .before .before .before .before .before .loop .k) in
-    let count = (c .before .before .before .before .before .before .before .before .read-name .result .count) in
-    let ne : k ≡ count → ⊥ = (c .if2 .left) in
-    let e : count ≡ takenBy (c .before .before .before .before .before .before .before .before .read-name .result .op) = (c .before .before .before .before .before .before .loop .inv .2) in
-    let le : k ≤ takenBy (c .before .before .before .before .before .before .before .before .read-name .result .op) = (c .before .before .before .before .before .before .loop .inv .3 .1) in
-    let l : k < 6 = omega (arith, m, e, le, ne) in
-    l
-
-add-k : tie.Need-add-k Inv-loop μ-loop
-add-k c = omega arith
-
-loop-less : tie.Need-loop-less Inv-loop μ-loop
-loop-less c =
-    let f = found-further _ _ _ _ (sym (c .before .before .before .before .read-number .ensures) ∙ (c .before .before .n .given .1)) in omega (arith, f, (c .before .before .before .before .before .loop-test))
-
-loop-again : tie.Need-loop-again Inv-loop μ-loop
-loop-again c =
-    let l = (c .before .before .before .before .before .before .loop) in
-    (l .inv .0, l .inv .1, l .inv .2, rw (toZ-ofZ (fits _ (c .before .known-told .given .0 .1))) (listing-next _ _ _ _ _ (l .inv .3) _ _ (omega arith) (sym (c .before .before .before .before .read-number .ensures) ∙ (c .before .before .n .given .1)) (λ e. (c .if2 .left) (e ∙ sym (l .inv .2)))))
-
-unreadable-requires-4 : tie.Need-unreadable-requires-4 Inv-loop μ-loop
-unreadable-requires-4 c κs = search needs
-
-returns-4 : tie.Need-returns-4 Inv-loop μ-loop
-returns-4 c =
-    unread _ _ (c .unreadable4 .ensures) (listing-few (c .before .before .before .before .before .before .before .args .line .now) _ _ _ (c .before .before .before .loop .at) (c .before .before .before .loop .inv .3) (omega arith) (λ e. (c .before .if3 .taken) (e ∙ sym (c .before .before .before .loop .inv .2))))
-
-line-of-requires : tie.Need-line-of-requires Inv-loop μ-loop
-line-of-requires c κs = search needs
-
-returns-5 : tie.Need-returns-5 Inv-loop μ-loop
-returns-5 c =
-    let l = c .before .before .before .loop in
-    let r = listing-all (c .before .before .before .before .before .before .before .args .line .now) _ _ _ (l .at) (l .inv .3) (omega arith) (c .before .if3 .left ∙ l .inv .2) (l .inv .1) (l .inv .0) in
-    (ap lineIn (c .line-of .ensures) ∙ r .0, c .line-of .ensures ∙ r .1)
+    let t = ((c .before .before .read-call .ensures)) in
+    (t .call, t .numbers ∙ ap (lineFor (lineCall (firstLine ((c .before .before .before .before .args .sheet .now))))) (t .whole ((c .if1 .left))))
 
 pub read-line-spec : {M : Type 1} → statement M
 read-line-spec =
-    tie.close
-    (tie.spec
-    Inv-loop
-    μ-loop
-    read-name-requires
-    unreadable-requires
-    returns
-    loop-holds
-    add-read-number
-    read-number-requires
-    enum-known-n
-    enum-told
-    unreadable-requires-2
-    returns-2
-    unreadable-requires-3
-    returns-3
-    mul-xs
-    array-set-from-xs
-    add-k
-    loop-less
-    loop-again
-    unreadable-requires-4
-    returns-4
-    line-of-requires
-    returns-5)
+    tie.close (tie.spec read-call-requires line-end-requires unreadable-requires returns returns-2)

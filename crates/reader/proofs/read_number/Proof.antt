@@ -1,55 +1,73 @@
-use mathlib.Core.Path.{ap, sym, _∙_}
-use Prim.Native.Nat.{_+_}
-use Rattle.reader.specs.declared.Number.the-variants.{Value}
-use Rattle.reader.proofs.Scans.{small-signed, below-nought, neg-fits, negated, number-over, number-nought, number-noughts, number-minus, number-negative, number-not, number-positive, magnitude-small}
 use native.Mathlib.Omega.{arith}
-use Rattle.format.specs.Lines.{space}
-use Rattle.reader.proofs.Cuts.{upTo-over, upTo-stop}
+use Prim.Native.Nat.{ℕ, _+_, _≤_}
+use mathlib.Core.Path.{_≡_, refl, sym, ap, _∙_}
+use mathlib.Core.Bool.{Bool, true, false}
+use mathlib.Core.List.{List}
+use borrow.Author.Tests.{eqb-true, eqb-false, ne-eqb}
+use lib.Dec.{eqb}
+use lib.ListN.{length, getD}
+use Rattle.protocol.specs.Lists.{bit}
+use Rattle.protocol.proofs.Laws.{cases}
+use Rattle.format.specs.Lines.{lineFeed}
+use Rattle.reader.specs.declared.Number.the-variants.{Value}
+use Rattle.reader.specs.declared.Magnitude.{Magnitude}
+use Rattle.reader.specs.Cut.{firstLine}
+use Rattle.reader.specs.Reads.{magnitudeAt, isEnd}
+use Rattle.reader.proofs.Cuts.{upTo-length}
+use Rattle.reader.proofs.Scans.{small-signed, below-nought, neg-fits, negated, magnitude-small, nought-alone, nought-more, minus-room, minus-not, minus-of, plain-not, plain-of}
 use borrow.Author.Needs.{needs}
 use Rattle.reader.proofs.read_number.Statement.{statement}
 use Rattle.reader.proofs.read_number.Tie as tie
 use Rattle.reader.proofs.read_number.Reads as reads
 use Rattle.reader.proofs.read_number.Lts as lts
+use Rattle.reader.proofs.byte_at.Reads as byte-at-reads
+use Rattle.reader.proofs.digits_from.Reads as digits-from-reads
+use Rattle.reader.proofs.ends.Reads as ends-reads
 use Rattle.reader.proofs.read_digits.Reads as read-digits-reads
 
+-- the digits, where they were read from
+digits-at : (bs : List ℕ) (at from : ℕ) (m r : Magnitude) (t u : Bool) → from ≡ at + bit t → t ≡ u → r ≡ magnitudeAt (firstLine bs) from → r ≡ m → magnitudeAt (firstLine bs) (at + bit u) ≡ m
+digits-at bs at from m r t u e f g h = ap (magnitudeAt (firstLine bs)) (sym (e ∙ ap (λ x. at + bit x) f)) ∙ sym g ∙ h
+
+plain-place : (at : ℕ) → at + bit false ≡ at
+plain-place at = omega arith
+
+byte-at-requires : tie.Need-byte-at-requires
+byte-at-requires c κs = search needs
+
+add-byte-at : tie.Need-add-byte-at
+add-byte-at c =
+    let l = upTo-length lineFeed ((c .before .before .before .args .sheet .now)) in omega (arith, l, ((c .before .before .before .pre)))
+
+byte-at-requires-2 : tie.Need-byte-at-requires-2
+byte-at-requires-2 c κs = search needs
+
+ends-requires : tie.Need-ends-requires
+ends-requires c κs = search needs
+
+add-t12 : tie.Need-add-t12
+add-t12 c =
+    let l = upTo-length lineFeed ((c .before .before .before .before .before .before .args .sheet .now)) in omega (arith, l, ((c .before .before .before .before .before .before .pre)))
+
 returns : tie.Need-returns
-returns c = sym (number-over (c .before .before .args .line .now) (c .before .before .args .at) (omega arith))
-
-shared-slice-read-b : tie.Need-shared-slice-read-b
-shared-slice-read-b c = search needs
-
-add-if3 : tie.Need-add-if3
-add-if3 c = search needs
-
-add-t17 : tie.Need-add-t17
-add-t17 c = search needs
+returns c =
+    nought-alone ((c .before .before .before .before .before .before .args .sheet .now)) ((c .before .before .before .before .before .before .args .at)) ((c .before .before .before .before .before .before .pre)) (sym ((c .before .before .before .before .byte-at .ensures)) ∙ ((c .before .before .before .if1 .taken))) (ap isEnd (sym ((c .before .before .byte-at2 .ensures))) ∙ sym ((c .before .ends .ensures)) ∙ ((c .if2 .taken)))
 
 returns-2 : tie.Need-returns-2
 returns-2 c =
-    sym (number-nought (c .before .before .before .before .before .args .line .now) (c .before .before .before .before .before .args .at) (omega arith) (c .before .if2 .taken) (upTo-over space (c .before .before .before .before .before .args .line .now) ((c .before .before .before .before .before .args .at) + 1) (omega arith)))
+    nought-more ((c .before .before .before .before .before .before .args .sheet .now)) ((c .before .before .before .before .before .before .args .at)) ((c .before .before .before .before .before .before .pre)) (sym ((c .before .before .before .before .byte-at .ensures)) ∙ ((c .before .before .before .if1 .taken))) (ap isEnd (sym ((c .before .before .byte-at2 .ensures))) ∙ sym ((c .before .ends .ensures)) ∙ ((c .if2 .left)))
 
-add-if4 : tie.Need-add-if4
-add-if4 c = search needs
-
-shared-slice-read-if4 : tie.Need-shared-slice-read-if4
-shared-slice-read-if4 c = search needs
-
-add-t20 : tie.Need-add-t20
-add-t20 c = search needs
-
-returns-3 : tie.Need-returns-3
-returns-3 c =
-    sym (number-nought (c .before .before .before .before .before .before .before .args .line .now) (c .before .before .before .before .before .before .before .args .at) (omega arith) (c .before .before .before .if2 .taken) (upTo-stop space (c .before .before .before .before .before .before .before .args .line .now) _ (omega arith) (c .if4 .taken)))
-
-returns-4 : tie.Need-returns-4
-returns-4 c =
-    sym (number-noughts (c .before .before .before .before .before .before .before .args .line .now) (c .before .before .before .before .before .before .before .args .at) (omega arith) (c .before .before .before .if2 .taken) (omega arith) (c .if4 .left))
-
-add-read-digits : tie.Need-add-read-digits
-add-read-digits c = search needs
+digits-from-requires : tie.Need-digits-from-requires
+digits-from-requires c κs =
+    let l = upTo-length lineFeed ((c .before .before .before .args .sheet .now)) in omega (arith, l, ((c .before .before .before .pre)))
 
 read-digits-requires : tie.Need-read-digits-requires
-read-digits-requires c κs = search needs
+read-digits-requires c κs =
+    let e = ((c .before .before .byte-at .ensures)) in
+    let d = ((c .digits-from .ensures)) in
+    cases (eqb ((c .before .before .byte-at .result)) 45)
+    (λ t. let m = minus-room ((c .before .before .before .before .args .sheet .now)) ((c .before .before .before .before .args .at)) ((c .before .before .before .before .pre)) (sym e ∙ eqb-true ((c .before .before .byte-at .result)) 45 t) in let b = ap bit t in omega (arith, d, m, b))
+    (λ t. let b = ap bit t in omega (arith, d, ((c .before .before .before .before .pre)), b))
 
 enum-known-size : tie.Need-enum-known-size
 enum-known-size c = search needs
@@ -57,76 +75,61 @@ enum-known-size c = search needs
 enum-told : tie.Need-enum-told
 enum-told c = search needs
 
-returns-5 : tie.Need-returns-5
-returns-5 c =
-    sym (number-minus (c .before .before .before .before .before .before .before .before .args .line .now) (c .before .before .before .before .before .before .before .before .args .at) (omega arith) (c .before .before .before .if5 .taken) (sym (c .before .before .read-digits .ensures) ∙ (c .enum-told .given .1)))
+returns-3 : tie.Need-returns-3
+returns-3 c =
+    let e = ((c .before .before .before .before .before .byte-at .ensures)) in
+    cases (eqb ((c .before .before .before .before .before .byte-at .result)) 45)
+    (λ t. minus-not ((c .before .before .before .before .before .before .before .args .sheet .now)) ((c .before .before .before .before .before .before .before .args .at)) ((c .before .before .before .before .before .before .before .pre)) (sym e ∙ eqb-true ((c .before .before .before .before .before .byte-at .result)) 45 t) (digits-at ((c .before .before .before .before .before .before .before .args .sheet .now)) ((c .before .before .before .before .before .before .before .args .at)) ((c .before .before .before .digits-from .result)) _ ((c .before .before .read-digits .result)) (eqb ((c .before .before .before .before .before .byte-at .result)) 45) true ((c .before .before .before .digits-from .ensures)) t ((c .before .before .read-digits .ensures)) ((c .enum-told .given .1))))
+    (λ t. plain-not ((c .before .before .before .before .before .before .before .args .sheet .now)) ((c .before .before .before .before .before .before .before .args .at)) ((c .before .before .before .before .before .before .before .pre)) (λ z. ((c .before .before .before .before .if1 .left)) (e ∙ z)) (λ z. eqb-false ((c .before .before .before .before .before .byte-at .result)) 45 t (e ∙ z)) (ap (magnitudeAt (firstLine ((c .before .before .before .before .before .before .before .args .sheet .now)))) (sym (plain-place ((c .before .before .before .before .before .before .before .args .at)))) ∙ digits-at ((c .before .before .before .before .before .before .before .args .sheet .now)) ((c .before .before .before .before .before .before .before .args .at)) ((c .before .before .before .digits-from .result)) _ ((c .before .before .read-digits .result)) (eqb ((c .before .before .before .before .before .byte-at .result)) 45) false ((c .before .before .before .digits-from .ensures)) t ((c .before .before .read-digits .ensures)) ((c .enum-told .given .1))))
 
-cast-t22 : tie.Need-cast-t22
-cast-t22 c =
-    let m = magnitude-small _ _ _ _ (sym (c .before .before .before .read-digits .ensures) ∙ (c .before .size .given .1)) in omega arith
+cast-t14 : tie.Need-cast-t14
+cast-t14 c =
+    let m = magnitude-small _ _ _ _ (sym ((c .before .before .before .before .read-digits .ensures)) ∙ ((c .before .before .size .given .1))) in omega (arith, m)
 
-sub-t23 : tie.Need-sub-t23
-sub-t23 c =
-    let m = magnitude-small _ _ _ _ (sym (c .before .before .before .read-digits .ensures) ∙ (c .before .size .given .1)) in
-    let n = (c .before .size .given .0 .0) in
+sub-t15 : tie.Need-sub-t15
+sub-t15 c =
+    let m = magnitude-small _ _ _ _ (sym ((c .before .before .before .before .read-digits .ensures)) ∙ ((c .before .before .size .given .1))) in
+    let n = ((c .before .before .size .given .0 .0)) in
     rw (small-signed n m, below-nought n) (neg-fits n m)
 
-returns-6 : tie.Need-returns-6
-returns-6 c =
-    let e = sym (c .before .before .before .read-digits .ensures) ∙ (c .before .size .given .1) in
-    let n = (c .before .size .given .0 .0) in
-    ap (λ x. Value x (c .before .size .given .0 .1 .0)) (negated n (magnitude-small _ _ _ _ e))
-    ∙ sym (number-negative (c .before .before .before .before .before .before .before .before .before .args .line .now) (c .before .before .before .before .before .before .before .before .before .args .at) n (c .before .size .given .0 .1 .0) (omega arith) (c .before .before .before .before .if5 .taken) e)
+returns-4 : tie.Need-returns-4
+returns-4 c =
+    let m = magnitude-small _ _ _ _ (sym ((c .before .before .before .before .read-digits .ensures)) ∙ ((c .before .before .size .given .1))) in
+    let n = ((c .before .before .size .given .0 .0)) in
+    ap (λ x. Value x ((c .before .before .size .given .0 .1 .0))) (negated n m)
+    ∙ minus-of ((c .before .before .before .before .before .before .before .before .before .args .sheet .now)) ((c .before .before .before .before .before .before .before .before .before .args .at)) ((c .before .before .before .before .before .before .before .before .before .pre)) (sym ((c .before .before .before .before .before .before .before .byte-at .ensures)) ∙ eqb-true ((c .before .before .before .before .before .before .before .byte-at .result)) 45 ((c .if3 .taken))) n ((c .before .before .size .given .0 .1 .0)) (digits-at ((c .before .before .before .before .before .before .before .before .before .args .sheet .now)) ((c .before .before .before .before .before .before .before .before .before .args .at)) ((c .before .before .before .before .before .digits-from .result)) _ ((c .before .before .before .before .read-digits .result)) (eqb ((c .before .before .before .before .before .before .before .byte-at .result)) 45) true ((c .before .before .before .before .before .digits-from .ensures)) ((c .if3 .taken)) ((c .before .before .before .before .read-digits .ensures)) ((c .before .before .size .given .1)))
 
-read-digits-requires-2 : tie.Need-read-digits-requires-2
-read-digits-requires-2 c κs = search needs
+cast-t16 : tie.Need-cast-t16
+cast-t16 c =
+    let m = magnitude-small _ _ _ _ (sym ((c .before .before .before .before .read-digits .ensures)) ∙ ((c .before .before .size .given .1))) in omega (arith, m)
 
-enum-known-size-2 : tie.Need-enum-known-size-2
-enum-known-size-2 c = search needs
-
-enum-told-2 : tie.Need-enum-told-2
-enum-told-2 c = search needs
-
-returns-7 : tie.Need-returns-7
-returns-7 c =
-    sym (number-not (c .before .before .before .before .before .before .before .before .args .line .now) (c .before .before .before .before .before .before .before .before .args .at) (omega arith) (c .before .before .before .before .if2 .left) (c .before .before .before .if5 .left) (sym (c .before .before .read-digits2 .ensures) ∙ (c .enum-told2 .given .1)))
-
-cast-t24 : tie.Need-cast-t24
-cast-t24 c =
-    let m = magnitude-small _ _ _ _ (sym (c .before .before .before .read-digits2 .ensures) ∙ (c .before .size2 .given .1)) in omega arith
-
-returns-8 : tie.Need-returns-8
-returns-8 c =
-    let e = sym (c .before .before .before .read-digits2 .ensures) ∙ (c .before .size2 .given .1) in
-    let n = (c .before .size2 .given .0 .0) in
-    ap (λ x. Value x (c .before .size2 .given .0 .1 .0)) (small-signed n (magnitude-small _ _ _ _ e))
-    ∙ sym (number-positive (c .before .before .before .before .before .before .before .before .before .args .line .now) (c .before .before .before .before .before .before .before .before .before .args .at) n (c .before .size2 .given .0 .1 .0) (omega arith) (c .before .before .before .before .before .if2 .left) (c .before .before .before .before .if5 .left) e)
+returns-5 : tie.Need-returns-5
+returns-5 c =
+    let e = ((c .before .before .before .before .before .before .before .byte-at .ensures)) in
+    let m = magnitude-small _ _ _ _ (sym ((c .before .before .before .before .read-digits .ensures)) ∙ ((c .before .before .size .given .1))) in
+    let n = ((c .before .before .size .given .0 .0)) in
+    ap (λ x. Value x ((c .before .before .size .given .0 .1 .0))) (small-signed n m)
+    ∙ plain-of ((c .before .before .before .before .before .before .before .before .before .args .sheet .now)) ((c .before .before .before .before .before .before .before .before .before .args .at)) ((c .before .before .before .before .before .before .before .before .before .pre)) (λ z. ((c .before .before .before .before .before .before .if1 .left)) (e ∙ z)) (λ z. eqb-false ((c .before .before .before .before .before .before .before .byte-at .result)) 45 ((c .if3 .left)) (e ∙ z)) n ((c .before .before .size .given .0 .1 .0))
+    (ap (magnitudeAt (firstLine ((c .before .before .before .before .before .before .before .before .before .args .sheet .now)))) (sym (plain-place ((c .before .before .before .before .before .before .before .before .before .args .at)))) ∙ digits-at ((c .before .before .before .before .before .before .before .before .before .args .sheet .now)) ((c .before .before .before .before .before .before .before .before .before .args .at)) ((c .before .before .before .before .before .digits-from .result)) _ ((c .before .before .before .before .read-digits .result)) (eqb ((c .before .before .before .before .before .before .before .byte-at .result)) 45) false ((c .before .before .before .before .before .digits-from .ensures)) ((c .if3 .left)) ((c .before .before .before .before .read-digits .ensures)) ((c .before .before .size .given .1)))
 
 pub read-number-spec : {M : Type 1} → statement M
 read-number-spec =
     tie.close
     (tie.spec
+    byte-at-requires
+    add-byte-at
+    byte-at-requires-2
+    ends-requires
+    add-t12
     returns
-    shared-slice-read-b
-    add-if3
-    add-t17
     returns-2
-    add-if4
-    shared-slice-read-if4
-    add-t20
-    returns-3
-    returns-4
-    add-read-digits
+    digits-from-requires
     read-digits-requires
     enum-known-size
     enum-told
-    returns-5
-    cast-t22
-    sub-t23
-    returns-6
-    read-digits-requires-2
-    enum-known-size-2
-    enum-told-2
-    returns-7
-    cast-t24
-    returns-8)
+    returns-3
+    cast-t14
+    sub-t15
+    returns-4
+    cast-t16
+    returns-5)
