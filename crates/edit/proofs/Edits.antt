@@ -34,6 +34,8 @@ use Rattle.state.specs.Meets.{answerOf, SameIfRefused, Meets}
 use Rattle.state.proofs.Views.{Sized, plan-same, sides-most, sides-length, side-at, sides-modify, lookup-named}
 use Rattle.records.proofs.Logs.{log-snoc}
 use Rattle.ruling.specs.declared.Decision.{Decision}
+use Rattle.ruling.specs.declared.Ruling.{Ruling}
+use Rattle.ruling.specs.declared.Ruling.the-variants.{Refused as Denied, Granted}
 use Rattle.ruling.specs.Edits.{editChecks, ruled, changeOf, changeIn, editRuling, editHead, editRecord, editDecision, spotOf, slotOf, editIn, stored}
 use Rattle.ruling.proofs.Rulings.{made-change}
 
@@ -48,6 +50,20 @@ single-apart : (h : Head) → T (apart (modeOf (h .mode))) → single h ≡ fals
 single-apart h t = which (is split (modeOf (h .mode))) (is joining (modeOf (h .mode))) t
     (λ u. rw (eqb→eq (modeNumber (modeOf (h .mode))) 2 u))
     (λ u. rw (eqb→eq (modeNumber (modeOf (h .mode))) 3 u))
+
+-- a whole plan keeps no edit: what stands at the place of a new record stays
+whole-entry : (h : Head) (r : Ruling) (old : ℤ) (standing : EditRecord) (s client earlier m : ℕ) → is whole (modeOf (h .mode)) ≡ true → editDecision h r old standing s client earlier m .entry ≡ standing
+whole-entry h (Denied k) old standing s client earlier m w = refl
+whole-entry h (Granted c x) old standing s client earlier m w = rw w
+
+pub whole-edit : (p : State) (s : ℕ) (client n : ℤ) (m kind : ℕ) (k : ℤ) → is whole (modeOf (p .head .mode)) ≡ true → editIn p s client n m kind k .entry ≡ getD (p .edits) (slotOf (p .head)) noRecord
+whole-edit p s client n m kind k w =
+    whole-entry (p .head) (editRuling (p .head) (p .lower) (p .gap) (p .upper) (p .firm) (p .values) (namedIn p (natural n)) s client n m kind k) (getD (p .values) (spotOf s m) (pos 0)) (getD (p .edits) (slotOf (p .head)) noRecord) s (natural client) (natural n) m w
+
+pub whole-stored : (p : State) (spot slot : ℕ) (d : Decision) → d .entry ≡ getD (p .edits) slot noRecord → _≡_ {A = State} (record { head = d .head; base = p .base; draft = p .draft; values = set (p .values) spot (d .value); arrived = p .arrived; confirmed = p .confirmed; lower = p .lower; gap = p .gap; upper = p .upper; firm = p .firm; edits = p .edits }) (stored p spot slot d)
+whole-stored p spot slot d e =
+    ap {B = State} (λ es. record { head = d .head; base = p .base; draft = p .draft; values = set (p .values) spot (d .value); arrived = p .arrived; confirmed = p .confirmed; lower = p .lower; gap = p .gap; upper = p .upper; firm = p .firm; edits = es })
+    (sym (ap (set (p .edits) slot) e ∙ set-getD (p .edits) slot noRecord))
 
 module _ (p : State) (z : Sized p) (s client n m kind k : ℤ) where
   abbrev h : Head

@@ -98,8 +98,10 @@ fn go(
             let given = d.answer;
             p.head = head;
             p.values[spot] = value;
-            p.edits[slot] = entry;
             answer = given;
+            if !whole {
+                p.edits[slot] = entry;
+            }
         } else if op == 8 {
             // replay
             let named = heads::position(h, side);

@@ -12,6 +12,7 @@ use lib.IntN.{ℤ, pos}
 use lib.ListN.{length, getD, set, take, drop, length-set, length-append, length-take, length-drop, drop-of-length-le, List·getD-eq-default}
 use lib.Seq.{drop-cons, drop-drop, take-suc-set, getD-set-other, getD-take}
 use Rattle.protocol.specs.Lists.{all}
+use Rattle.protocol.specs.Calls.{Call, measure, rule, open-plan, split-side, edit, join, send, replay, stop, confirm, install, show, fate-of, left}
 use Rattle.protocol.proofs.Laws.{cases}
 use Rattle.format.specs.Numbers.{number}
 use Rattle.format.specs.Lines.{space, Shape, given, takes, filled, Form, forms, sameBytes, shapeOf, joined, numbers, asked, callOf, lineCall}
@@ -145,6 +146,23 @@ Listing line op k xs at = (length xs ≡ 6) × (k ≤ takenBy op) × (lineCall l
 pub line-named : (line : List ℕ) → lineCall line ≡ asked (shapeAt (opOf (wordAt line 0))) (numbers (more (drop (length (wordAt line 0)) line)))
 unfolding lineCall shapeAt opOf
 line-named line = ap callOf (words-cut line) ∙ ap (λ s. asked s (numbers (more (drop (length (wordAt line 0)) line)))) (shape-place (wordAt line 0) forms)
+
+pub line-length : (o : Option Call) (end : ℕ) → lineFor o end .end ≡ end
+line-length none end = refl
+line-length (some (measure v)) end = refl
+line-length (some (rule a c b f)) end = refl
+line-length (some open-plan) end = refl
+line-length (some (split-side s)) end = refl
+line-length (some (edit s client n m kind k)) end = refl
+line-length (some join) end = refl
+line-length (some (send s)) end = refl
+line-length (some (replay n)) end = refl
+line-length (some stop) end = refl
+line-length (some (confirm s)) end = refl
+line-length (some install) end = refl
+line-length (some (show s room)) end = refl
+line-length (some (fate-of n)) end = refl
+line-length (some left) end = refl
 
 pub no-call : (r : Line) → r .op ≡ 0 → lineIn r ≡ none
 no-call r e = rw e

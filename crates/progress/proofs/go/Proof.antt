@@ -2,7 +2,7 @@ use Prim.Native.Nat.{ℕ, _+_, _*_, _-_, _<_, _≤_, min}
 use native.Mathlib.Omega.{arith}
 use mathlib.Core.Path.{_≡_, refl, sym, ap, ap₂, _∙_, subst}
 use mathlib.Core.Logic.{_⊎_, inl, inr}
-use mathlib.Core.Bool.{Bool, true, false, cond}
+use mathlib.Core.Bool.{Bool, true, false, not, cond}
 use mathlib.Core.List.{List, [], _∷_, _++_}
 use mathlib.Core.Option.{Option, none, some}
 use borrow.Author.Needs.{needs}
@@ -39,7 +39,7 @@ use Rattle.reconcile.specs.Sends.{Sends}
 use Rattle.dispatch.specs.Rare.{moveCall, Counts}
 use Rattle.ruling.specs.declared.Decision.{Decision}
 use Rattle.ruling.specs.Edits.{editRuling, editDecision, spotOf, slotOf, editIn, stored}
-use Rattle.edit.proofs.Edits.{edit-meets}
+use Rattle.edit.proofs.Edits.{whole-edit, whole-stored, edit-meets}
 use Rattle.settling.specs.Replays.{replayOutcome, replayDecision, pointOf, slotIn, replayIn}
 use Rattle.settling.specs.Replays as replaying
 use Rattle.settling.specs.declared.Decision as replaying-decision
@@ -48,7 +48,8 @@ use Rattle.reads.specs.Readings.{readCall, readingOf}
 use Rattle.reads.proofs.Right.{readingIn, placeIn, reading-right, reading-bounds}
 use Rattle.reader.specs.Cut.{upTo}
 use Rattle.reader.specs.Reads.{lineIn}
-use Rattle.reader.proofs.Cuts.{take-upTo, upTo-length}
+use Rattle.reader.proofs.Cuts.{upTo-length}
+use Rattle.reader.proofs.Calls.{line-length}
 use Rattle.tally.specs.declared.Tallies.{Tallies}
 use Rattle.tally.specs.Tallies.{Counted, tallyAfter}
 use Rattle.tally.proofs.Counts.{tallied-long}
@@ -70,7 +71,6 @@ use Rattle.heads.proofs.place.Reads as place-reads
 use Rattle.heads.proofs.position.Reads as position-reads
 use Rattle.heads.proofs.unset.Reads as unset-reads
 use Rattle.progress.proofs.moved_op.Reads as moved-op-reads
-use Rattle.reader.proofs.line_end.Reads as line-end-reads
 use Rattle.reader.proofs.read_line.Reads as read-line-reads
 use Rattle.reads.proofs.read.Reads as read-reads
 use Rattle.reconcile.proofs.send_edits.Reads as send-edits-reads
@@ -87,6 +87,10 @@ Inv-loop reserve sheet from area₀ p₀ t₀ at₀ i₀ area p t at i = Going r
 
 abbrev μ-loop : tie.MeasureT-loop
 μ-loop reserve sheet from area₀ p₀ t₀ at₀ i₀ area p t at i = length sheet - i
+
+unless : (b : Bool) → not b ≡ false → b ≡ true
+unless true e = refl
+unless false e = sym e
 
 le-trans : {a b c : ℕ} → a ≤ b → b ≤ c → a ≤ c
 le-trans h k = omega (arith, h, k)
@@ -137,39 +141,41 @@ lent-fits : (c : tie.After-slice-known Inv-loop μ-loop) → Fits w64 (length ((
 lent-fits c = search needs
 
 -- the line at hand
-abbrev line : tie.After-line-end Inv-loop μ-loop → List ℕ
-line c = upTo lineFeed (drop ((c .before .before .before .loop .i)) ((c .before .before .before .before .before .before .args .sheet .now)))
+abbrev line : tie.After-read-line Inv-loop μ-loop → List ℕ
+line c = upTo lineFeed (drop ((c .before .before .before .before .loop .i)) ((c .before .before .before .before .before .before .before .args .sheet .now)))
 
-end-is : (c : tie.After-line-end Inv-loop μ-loop) → (c .line-end .result) ≡ (c .before .before .before .loop .i) + length (line c)
-end-is c = (c .line-end .ensures) ∙ (let h = (c .before .before .loop-test .taken) in let e : min ((c .before .before .before .loop .i)) (length ((c .before .before .before .before .before .before .args .sheet .now))) ≡ (c .before .before .before .loop .i) = omega (arith, h) in ap (λ n. n + length (line c)) e)
+-- what was read is the line's call, and its length
+read-is-line : (c : tie.After-read-line Inv-loop μ-loop) → (lineIn ((c .read-line .result)) ≡ lineCall (line c)) × ((c .read-line .result .end) ≡ length (line c))
+read-is-line c =
+    let i = (c .before .before .before .before .loop .i) in
+    let sheet = (c .before .before .before .before .before .before .before .args .sheet .now) in
+    let given = take (length sheet - i) (drop i sheet) in
+    let e : given ≡ drop i sheet = lent-rest i sheet in
+    ((c .read-line .ensures .0) ∙ ap (λ bs. lineCall (upTo lineFeed bs)) e, ap (λ l. l .end) ((c .read-line .ensures .1)) ∙ line-length (lineCall (upTo lineFeed given)) (length (upTo lineFeed given)) ∙ ap (λ bs. length (upTo lineFeed bs)) e)
 
-end-most : (c : tie.After-line-end Inv-loop μ-loop) → (c .line-end .result) ≤ length ((c .before .before .before .before .before .before .args .sheet .now))
-end-most c = let e = end-is c in let h = (c .before .before .loop-test .taken) in let u = upTo-length lineFeed (drop ((c .before .before .before .loop .i)) ((c .before .before .before .before .before .before .args .sheet .now))) in let d = length-drop ((c .before .before .before .loop .i)) ((c .before .before .before .before .before .before .args .sheet .now)) in omega (arith, e, h, u, d)
+end-is : (c : tie.After-read-line Inv-loop μ-loop) → (c .before .before .before .before .loop .i) + (c .read-line .result .end) ≡ (c .before .before .before .before .loop .i) + length (line c)
+end-is c = ap (λ n. (c .before .before .before .before .loop .i) + n) (read-is-line c .1)
 
-i-end : (c : tie.After-line-end Inv-loop μ-loop) → (c .before .before .before .loop .i) ≤ (c .line-end .result)
-i-end c = let e = end-is c in omega (arith, e)
+end-most : (c : tie.After-read-line Inv-loop μ-loop) → (c .before .before .before .before .loop .i) + (c .read-line .result .end) ≤ length ((c .before .before .before .before .before .before .before .args .sheet .now))
+end-most c = let e = end-is c in let h = (c .before .before .before .loop-test .taken) in let u = upTo-length lineFeed (drop ((c .before .before .before .before .loop .i)) ((c .before .before .before .before .before .before .before .args .sheet .now))) in let d = length-drop ((c .before .before .before .before .loop .i)) ((c .before .before .before .before .before .before .before .args .sheet .now)) in omega (arith, e, h, u, d)
 
-end-fits : (c : tie.After-line-end Inv-loop μ-loop) → Fits w64 ((c .line-end .result) + 1)
+end-fits : (c : tie.After-read-line Inv-loop μ-loop) → Fits w64 ((c .before .before .before .before .loop .i) + (c .read-line .result .end) + 1)
 end-fits c = let e = end-most c in omega arith
 
-nearer : (c : tie.After-line-end Inv-loop μ-loop) → length ((c .before .before .before .before .before .before .args .sheet .now)) - ((c .line-end .result) + 1) < length ((c .before .before .before .before .before .before .args .sheet .now)) - (c .before .before .before .loop .i)
-nearer c = let e = end-is c in let h = (c .before .before .loop-test .taken) in omega (arith, e, h)
+nearer : (c : tie.After-read-line Inv-loop μ-loop) → length ((c .before .before .before .before .before .before .before .args .sheet .now)) - ((c .before .before .before .before .loop .i) + (c .read-line .result .end) + 1) < length ((c .before .before .before .before .before .before .before .args .sheet .now)) - (c .before .before .before .before .loop .i)
+nearer c = let h = (c .before .before .before .loop-test .taken) in omega (arith, h)
 
-call-is : (c : tie.After-struct-told Inv-loop μ-loop) → lineIn ((c .before .read-line .result)) ≡ lineCall (line (c .before .before .before))
-call-is c =
-    let i = (c .before .before .before .before .before .before .loop .i) in
-    let bs = (c .before .before .before .before .before .before .before .before .before .args .sheet .now) in
-    let n : (c .before .before .before .line-end .result) - i ≡ length (line (c .before .before .before)) = (let e = end-is (c .before .before .before) in omega (arith, e)) in
-    (c .before .read-line .ensures .0) ∙ ap lineCall (ap (λ k. take k (drop i bs)) n ∙ take-upTo lineFeed (drop i bs))
+call-is : (c : tie.After-struct-told Inv-loop μ-loop) → lineIn ((c .before .before .read-line .result)) ≡ lineCall (line (c .before .before))
+call-is c = read-is-line (c .before .before) .0
 
 -- ---- an edit
 
-edit-arm : (c : tie.After-entry Inv-loop μ-loop) → let p = (c .before .before .before .before .before .before .before .before .before .before .before .before .before .before .before .before .before .before .before .before .before .before .before .before .before .before .before .before .before .before .before .before .before .before .before .before .before .before .loop .p) in let d = (c .before .before .before .decide-edit .result) in
-    let q = stored p ((c .before .before .before .before .before .before .before .before .before .before .before .before .before .before .before .before .before .before .before .before .spot .result)) ((c .before .before .before .before .before .before .before .before .before .before .before .before .before .before .before .before .before .before .before .capped .result)) (record { head = d .head; value = toZ w32 (ofZ w32 (d .value)); entry = d .entry; answer = d .answer }) in
-    Made (lineIn ((c .before .before .before .before .before .before .before .before .before .before .before .before .before .before .before .before .before .before .before .before .before .before .before .before .before .before .before .before .before .before .before .before .before .read-line .result))) p q (d .answer) [] × Sized q
-edit-arm c =
+-- what was decided is the edit's decision in this state, and the places are those of its stores
+edit-is : (c : tie.After-entry Inv-loop μ-loop) → let p = (c .before .before .before .before .before .before .before .before .before .before .before .before .before .before .before .before .before .before .before .before .before .before .before .before .before .before .before .before .before .before .before .before .before .before .before .before .before .before .loop .p) in let l = (c .before .before .before .before .before .before .before .before .before .before .before .before .before .before .before .before .before .before .before .before .before .before .before .before .before .before .before .before .before .before .before .before .before .before .read-line .result) in
+    ((c .before .before .before .decide-edit .result) ≡ editIn p (natural (l .a)) (l .b) (l .c) (natural (l .d)) (natural (l .e)) (l .f)) × ((c .before .before .before .before .before .before .before .before .before .before .before .before .before .before .before .before .before .before .before .before .spot .result) ≡ spotOf (natural (l .a)) (natural (l .d))) × ((c .before .before .before .before .before .before .before .before .before .before .before .before .before .before .before .before .before .before .before .capped .result) ≡ slotOf (p .head))
+edit-is c =
     let p = (c .before .before .before .before .before .before .before .before .before .before .before .before .before .before .before .before .before .before .before .before .before .before .before .before .before .before .before .before .before .before .before .before .before .before .before .before .before .before .loop .p) in
-    let l = (c .before .before .before .before .before .before .before .before .before .before .before .before .before .before .before .before .before .before .before .before .before .before .before .before .before .before .before .before .before .before .before .before .before .read-line .result) in
+    let l = (c .before .before .before .before .before .before .before .before .before .before .before .before .before .before .before .before .before .before .before .before .before .before .before .before .before .before .before .before .before .before .before .before .before .before .read-line .result) in
     let t = (c .before .before .before .before .before .before .before .before .before .before .before .before .before .before .before .before .before .before .before .before .before .before .before .before .before .before .before .before .before .before .before .before .struct-told .given) in
     let a = toZ-ofZ (fits32 (l .a) (t .1 .0 .1)) in
     let client = toZ-ofZ (fits32 (l .b) (t .1 .1 .0 .1)) in
@@ -191,17 +197,39 @@ edit-arm c =
     (c .before .before .before .decide-edit .ensures)
     ∙ (λ j. editDecision (p .head) (editRuling (p .head) (p .lower) (p .gap) (p .upper) (p .firm) (p .values) (named j) (side j) (client j) (after j) (measure j) (kind j) (constant j)) (old j) (standing j) (side j) (natural (client j)) (natural (after j)) (measure j))
     in
+    (e, spot, slot)
+
+edit-arm : (c : tie.After-entry Inv-loop μ-loop) → let p = (c .before .before .before .before .before .before .before .before .before .before .before .before .before .before .before .before .before .before .before .before .before .before .before .before .before .before .before .before .before .before .before .before .before .before .before .before .before .before .loop .p) in let d = (c .before .before .before .decide-edit .result) in
+    let q = stored p ((c .before .before .before .before .before .before .before .before .before .before .before .before .before .before .before .before .before .before .before .before .spot .result)) ((c .before .before .before .before .before .before .before .before .before .before .before .before .before .before .before .before .before .before .before .capped .result)) (record { head = d .head; value = toZ w32 (ofZ w32 (d .value)); entry = d .entry; answer = d .answer }) in
+    Made (lineIn ((c .before .before .before .before .before .before .before .before .before .before .before .before .before .before .before .before .before .before .before .before .before .before .before .before .before .before .before .before .before .before .before .before .before .before .read-line .result))) p q (d .answer) [] × Sized q
+edit-arm c =
+    let p = (c .before .before .before .before .before .before .before .before .before .before .before .before .before .before .before .before .before .before .before .before .before .before .before .before .before .before .before .before .before .before .before .before .before .before .before .before .before .before .loop .p) in
+    let l = (c .before .before .before .before .before .before .before .before .before .before .before .before .before .before .before .before .before .before .before .before .before .before .before .before .before .before .before .before .before .before .before .before .before .before .read-line .result) in
+    let d = (c .before .before .before .decide-edit .result) in
+    let g = edit-is c in
     let value = toZ-ofZ (fits32 (d .value) ((c .before .struct-told8 .given .1 .0 .1))) in
-    (rw (line-edit l ((c .before .before .before .before .before .before .before .before .before .before .before .before .before .before .before .before .before .before .before .before .before .before .before .before .before .before .before .before .if2 .taken))) (meets-made _ p _ (rw (value, spot, slot, e) (edit-meets p ((c .before .before .before .before .before .before .before .before .before .before .before .before .before .before .before .before .before .before .before .before .before .before .before .before .before .before .before .before .before .before .before .before .before .before .before .before .before .before .loop .inv .sized)) (l .a) (l .b) (l .c) (l .d) (l .e) (l .f)))), edit-sized p ((c .before .before .before .before .before .before .before .before .before .before .before .before .before .before .before .before .before .before .before .before .spot .result)) ((c .before .before .before .before .before .before .before .before .before .before .before .before .before .before .before .before .before .before .before .capped .result)) (record { head = d .head; value = toZ w32 (ofZ w32 (d .value)); entry = d .entry; answer = d .answer }) ((c .before .before .before .before .before .before .before .before .before .before .before .before .before .before .before .before .before .before .before .before .before .before .before .before .before .before .before .before .before .before .before .before .before .before .before .before .before .before .loop .inv .sized)))
+    (rw (line-edit l ((c .before .before .before .before .before .before .before .before .before .before .before .before .before .before .before .before .before .before .before .before .before .before .before .before .before .before .before .before .if2 .taken))) (meets-made _ p _ (rw (value, g .1, g .2, g .0) (edit-meets p ((c .before .before .before .before .before .before .before .before .before .before .before .before .before .before .before .before .before .before .before .before .before .before .before .before .before .before .before .before .before .before .before .before .before .before .before .before .before .before .loop .inv .sized)) (l .a) (l .b) (l .c) (l .d) (l .e) (l .f)))), edit-sized p ((c .before .before .before .before .before .before .before .before .before .before .before .before .before .before .before .before .before .before .before .before .spot .result)) ((c .before .before .before .before .before .before .before .before .before .before .before .before .before .before .before .before .before .before .before .capped .result)) (record { head = d .head; value = toZ w32 (ofZ w32 (d .value)); entry = d .entry; answer = d .answer }) ((c .before .before .before .before .before .before .before .before .before .before .before .before .before .before .before .before .before .before .before .before .before .before .before .before .before .before .before .before .before .before .before .before .before .before .before .before .before .before .loop .inv .sized)))
+
+-- a whole plan's records stay as they are
+whole-arm : (c : tie.After-entry Inv-loop μ-loop) → eqb ((c .before .before .before .before .before .before .before .before .before .before .before .before .before .before .before .before .before .before .before .before .before .before .before .before .before .before .before .before .before .mode-number .result)) 1 ≡ true → let p = (c .before .before .before .before .before .before .before .before .before .before .before .before .before .before .before .before .before .before .before .before .before .before .before .before .before .before .before .before .before .before .before .before .before .before .before .before .before .before .loop .p) in let d = (c .before .before .before .decide-edit .result) in
+    _≡_ {A = State} (record { head = d .head; base = p .base; draft = p .draft; values = set (p .values) ((c .before .before .before .before .before .before .before .before .before .before .before .before .before .before .before .before .before .before .before .before .spot .result)) (toZ w32 (ofZ w32 (d .value))); arrived = p .arrived; confirmed = p .confirmed; lower = p .lower; gap = p .gap; upper = p .upper; firm = p .firm; edits = p .edits })
+    (stored p ((c .before .before .before .before .before .before .before .before .before .before .before .before .before .before .before .before .before .before .before .before .spot .result)) ((c .before .before .before .before .before .before .before .before .before .before .before .before .before .before .before .before .before .before .before .capped .result)) (record { head = d .head; value = toZ w32 (ofZ w32 (d .value)); entry = d .entry; answer = d .answer }))
+whole-arm c w =
+    let p = (c .before .before .before .before .before .before .before .before .before .before .before .before .before .before .before .before .before .before .before .before .before .before .before .before .before .before .before .before .before .before .before .before .before .before .before .before .before .before .loop .p) in
+    let d = (c .before .before .before .decide-edit .result) in
+    let l = (c .before .before .before .before .before .before .before .before .before .before .before .before .before .before .before .before .before .before .before .before .before .before .before .before .before .before .before .before .before .before .before .before .before .before .read-line .result) in
+    let g = edit-is c in
+    let e = ap (λ x. x .entry) (g .0) ∙ whole-edit p (natural (l .a)) (l .b) (l .c) (natural (l .d)) (natural (l .e)) (l .f) (ap (λ n. eqb n 1) (sym ((c .before .before .before .before .before .before .before .before .before .before .before .before .before .before .before .before .before .before .before .before .before .before .before .before .before .before .before .before .before .mode-number) .ensures)) ∙ w) ∙ ap (λ j. getD (p .edits) j noRecord) (sym (g .2)) in
+    whole-stored p ((c .before .before .before .before .before .before .before .before .before .before .before .before .before .before .before .before .before .before .before .before .spot .result)) ((c .before .before .before .before .before .before .before .before .before .before .before .before .before .before .before .before .before .before .before .capped .result)) (record { head = d .head; value = toZ w32 (ofZ w32 (d .value)); entry = d .entry; answer = d .answer }) e
 
 -- ---- a replay
 
 replay-arm : (c : tie.After-entry2 Inv-loop μ-loop) → let p = (c .before .before .before .before .before .before .before .before .before .before .before .before .before .before .before .before .before .before .before .before .before .before .before .before .before .before .before .before .before .before .before .before .before .before .loop .p) in let d = (c .before .before .decide-replay .result) in
     let q = replaying.stored p ((c .before .before .before .before .before .before .before .before .before .before .point .result)) ((c .before .before .before .before .before .before .before .before .before .before .before .before .before .before .before .before .before .before .before .before .before .place2 .result)) (record { amount = toZ w32 (ofZ w32 (d .amount)); entry = d .entry; answer = d .answer }) in
-    Made (lineIn ((c .before .before .before .before .before .before .before .before .before .before .before .before .before .before .before .before .before .before .before .before .before .before .before .before .before .before .before .before .before .read-line .result))) p q (d .answer) [] × Sized q
+    Made (lineIn ((c .before .before .before .before .before .before .before .before .before .before .before .before .before .before .before .before .before .before .before .before .before .before .before .before .before .before .before .before .before .before .read-line .result))) p q (d .answer) [] × Sized q
 replay-arm c =
     let p = (c .before .before .before .before .before .before .before .before .before .before .before .before .before .before .before .before .before .before .before .before .before .before .before .before .before .before .before .before .before .before .before .before .before .before .loop .p) in
-    let l = (c .before .before .before .before .before .before .before .before .before .before .before .before .before .before .before .before .before .before .before .before .before .before .before .before .before .before .before .before .before .read-line .result) in
+    let l = (c .before .before .before .before .before .before .before .before .before .before .before .before .before .before .before .before .before .before .before .before .before .before .before .before .before .before .before .before .before .before .read-line .result) in
     let number = (c .before .before .before .before .before .before .before .before .before .before .before .before .before .before .before .before .before .before .before .before .before .before .before .before .before .before .before .number .ensures) ∙ ap natural (toZ-ofZ (fits32 (l .a) ((c .before .before .before .before .before .before .before .before .before .before .before .before .before .before .before .before .before .before .before .before .before .before .before .before .before .before .before .before .struct-told .given .1 .0 .1)))) in
     let position = (c .before .before .before .before .before .before .before .before .before .before .before .before .before .before .before .before .before .before .before .before .before .before .position2 .ensures .0) ∙ ap (positionOf (endIn (p .head)) (keptIn (p .head))) number in
     let slot = (c .before .before .before .before .before .before .before .before .before .before .before .before .before .before .before .before .before .before .before .before .before .place2 .ensures .0) ∙ ap placeOf position in
@@ -220,26 +248,26 @@ replay-arm c =
     ∙ (λ j. replayDecision (replayOutcome (p .head) (p .lower) (p .gap) (p .upper) (p .draft) (missing j) (e j) (earlier j) (old j)) (getD (p .edits) (slot j) noRecord) (old j) (place j))
     in
     let amount = toZ-ofZ (fits32 (d .amount) ((c .before .struct-told9 .given .0 .1))) in
-    (rw (line-replay l ((c .before .before .before .before .before .before .before .before .before .before .before .before .before .before .before .before .before .before .before .before .before .before .before .if3 .taken))) (meets-made _ p _ (rw (amount, point, slot, same) (replay-meets p ((c .before .before .before .before .before .before .before .before .before .before .before .before .before .before .before .before .before .before .before .before .before .before .before .before .before .before .before .before .before .before .before .before .before .before .loop .inv .sized)) (l .a)))), replay-sized p ((c .before .before .before .before .before .before .before .before .before .before .point .result)) ((c .before .before .before .before .before .before .before .before .before .before .before .before .before .before .before .before .before .before .before .before .before .place2 .result)) (record { amount = toZ w32 (ofZ w32 (d .amount)); entry = d .entry; answer = d .answer }) ((c .before .before .before .before .before .before .before .before .before .before .before .before .before .before .before .before .before .before .before .before .before .before .before .before .before .before .before .before .before .before .before .before .before .before .loop .inv .sized)))
+    (rw (line-replay l ((c .before .before .before .before .before .before .before .before .before .before .before .before .before .before .before .before .before .before .before .before .before .before .before .if4 .taken))) (meets-made _ p _ (rw (amount, point, slot, same) (replay-meets p ((c .before .before .before .before .before .before .before .before .before .before .before .before .before .before .before .before .before .before .before .before .before .before .before .before .before .before .before .before .before .before .before .before .before .before .loop .inv .sized)) (l .a)))), replay-sized p ((c .before .before .before .before .before .before .before .before .before .before .point .result)) ((c .before .before .before .before .before .before .before .before .before .before .before .before .before .before .before .before .before .before .before .before .before .place2 .result)) (record { amount = toZ w32 (ofZ w32 (d .amount)); entry = d .entry; answer = d .answer }) ((c .before .before .before .before .before .before .before .before .before .before .before .before .before .before .before .before .before .before .before .before .before .before .before .before .before .before .before .before .before .before .before .before .before .before .loop .inv .sized)))
 
 -- ---- a call that only reads
 
-read-is : (c : tie.After-read Inv-loop μ-loop) → (c .read .result) ≡ readingIn ((c .before .before .before .before .before .before .before .before .before .before .before .before .before .before .before .before .before .before .before .before .before .loop .p)) ((c .before .before .before .before .before .before .before .before .before .before .before .before .before .before .before .before .before .before .before .before .before .loop .t)) ((c .before .before .before .before .before .before .before .before .before .before .before .before .before .before .before .before .before .before .before .before .before .loop .inv .counted)) ((c .before .before .before .before .before .before .before .before .before .before .before .before .before .before .before .before .read-line .result .op)) ((c .before .before .before .before .before .before .before .before .before .before .before .before .before .before .before .before .read-line .result .a))
+read-is : (c : tie.After-read Inv-loop μ-loop) → (c .read .result) ≡ readingIn ((c .before .before .before .before .before .before .before .before .before .before .before .before .before .before .before .before .before .before .before .before .before .loop .p)) ((c .before .before .before .before .before .before .before .before .before .before .before .before .before .before .before .before .before .before .before .before .before .loop .t)) ((c .before .before .before .before .before .before .before .before .before .before .before .before .before .before .before .before .before .before .before .before .before .loop .inv .counted)) ((c .before .before .before .before .before .before .before .before .before .before .before .before .before .before .before .before .before .read-line .result .op)) ((c .before .before .before .before .before .before .before .before .before .before .before .before .before .before .before .before .before .read-line .result .a))
 read-is c =
     let p = (c .before .before .before .before .before .before .before .before .before .before .before .before .before .before .before .before .before .before .before .before .before .loop .p) in
     let t = (c .before .before .before .before .before .before .before .before .before .before .before .before .before .before .before .before .before .before .before .before .before .loop .t) in
-    let l = (c .before .before .before .before .before .before .before .before .before .before .before .before .before .before .before .before .read-line .result) in
+    let l = (c .before .before .before .before .before .before .before .before .before .before .before .before .before .before .before .before .before .read-line .result) in
     let a = toZ-ofZ (fits32 (l .a) ((c .before .before .before .before .before .before .before .before .before .before .before .before .before .before .before .struct-told .given .1 .0 .1))) in
     let position = (c .before .before .before .before .before .before .before .before .position4 .ensures .0) ∙ ap (positionOf (endIn (p .head)) (keptIn (p .head))) ((c .before .before .before .before .before .before .before .before .before .before .before .before .before .before .number .ensures) ∙ ap natural a) in
     let seat = (c .before .before .before .before .before .before .before .place4 .ensures .0) ∙ ap placeOf position in
     (c .read .ensures) ∙ (λ j. readingOf (l .op) (a j) (p .head) (position j) (getD (p .edits) (seat j) noRecord) (p .arrived) (p .confirmed) (t .unsent) (t .settled))
 
-read-arm : (c : tie.After-read Inv-loop μ-loop) → let p = (c .before .before .before .before .before .before .before .before .before .before .before .before .before .before .before .before .before .before .before .before .before .loop .p) in let r = (c .read .result) in (Made (lineIn ((c .before .before .before .before .before .before .before .before .before .before .before .before .before .before .before .before .read-line .result))) p p (r .answer) (row (p .values) (r .from) (r .width))) × (r .from ≤ 224) × (r .width ≤ 32)
+read-arm : (c : tie.After-read Inv-loop μ-loop) → let p = (c .before .before .before .before .before .before .before .before .before .before .before .before .before .before .before .before .before .before .before .before .before .loop .p) in let r = (c .read .result) in (Made (lineIn ((c .before .before .before .before .before .before .before .before .before .before .before .before .before .before .before .before .before .read-line .result))) p p (r .answer) (row (p .values) (r .from) (r .width))) × (r .from ≤ 224) × (r .width ≤ 32)
 read-arm c =
     let p = (c .before .before .before .before .before .before .before .before .before .before .before .before .before .before .before .before .before .before .before .before .before .loop .p) in
-    let l = (c .before .before .before .before .before .before .before .before .before .before .before .before .before .before .before .before .read-line .result) in
+    let l = (c .before .before .before .before .before .before .before .before .before .before .before .before .before .before .before .before .before .read-line .result) in
     let g = reading-right p ((c .before .before .before .before .before .before .before .before .before .before .before .before .before .before .before .before .before .before .before .before .before .loop .t)) ((c .before .before .before .before .before .before .before .before .before .before .before .before .before .before .before .before .before .before .before .before .before .loop .inv .counted)) (l .op) (l .a) in
-    rw (read-is c, line-reads l ((c .before .before .before .before .before .before .before .before .before .if4 .taken))) (record { answer = g .0; plan = sym (g .1) }, reading-bounds p ((c .before .before .before .before .before .before .before .before .before .before .before .before .before .before .before .before .before .before .before .before .before .loop .t)) ((c .before .before .before .before .before .before .before .before .before .before .before .before .before .before .before .before .before .before .before .before .before .loop .inv .counted)) (l .op) (l .a) .0, reading-bounds p ((c .before .before .before .before .before .before .before .before .before .before .before .before .before .before .before .before .before .before .before .before .before .loop .t)) ((c .before .before .before .before .before .before .before .before .before .before .before .before .before .before .before .before .before .before .before .before .before .loop .inv .counted)) (l .op) (l .a) .1)
+    rw (read-is c, line-reads l ((c .before .before .before .before .before .before .before .before .before .if5 .taken))) (record { answer = g .0; plan = sym (g .1) }, reading-bounds p ((c .before .before .before .before .before .before .before .before .before .before .before .before .before .before .before .before .before .before .before .before .before .loop .t)) ((c .before .before .before .before .before .before .before .before .before .before .before .before .before .before .before .before .before .before .before .before .before .loop .inv .counted)) (l .op) (l .a) .0, reading-bounds p ((c .before .before .before .before .before .before .before .before .before .before .before .before .before .before .before .before .before .before .before .before .before .loop .t)) ((c .before .before .before .before .before .before .before .before .before .before .before .before .before .before .before .before .before .before .before .before .before .loop .inv .counted)) (l .op) (l .a) .1)
 
 -- ---- a send
 
@@ -248,15 +276,15 @@ unsent-is : (p : State) (t : Tallies) → Counted t (keptOf (p .head) (p .edits)
 unsent-is p t h s e o = let r = range (sidesIn (p .head)) s o in ap (λ j. getD (t .unsent) j 0) e ∙ h .unsent s (r .0) (le-trans (r .1) (sides-most (p .head)))
 
 send-arm : (c : tie.After-next Inv-loop μ-loop) → let p = (c .before .before .before .before .before .before .before .before .before .before .before .before .before .before .before .before .before .before .before .loop .p) in let r = (c .before .send-edits .result) in
-    Made (lineIn ((c .before .before .before .before .before .before .before .before .before .before .before .before .before .before .read-line .result))) p (steps.stored p (p .head) (p .base) (p .draft) (p .values) (set (p .arrived) ((c .before .before .before .before .before .index .result)) (r .arrived)) (p .confirmed) (r .edits)) (r .answer) []
+    Made (lineIn ((c .before .before .before .before .before .before .before .before .before .before .before .before .before .before .before .read-line .result))) p (steps.stored p (p .head) (p .base) (p .draft) (p .values) (set (p .arrived) ((c .before .before .before .before .before .index .result)) (r .arrived)) (p .confirmed) (r .edits)) (r .answer) []
 send-arm c =
     let p = (c .before .before .before .before .before .before .before .before .before .before .before .before .before .before .before .before .before .before .before .loop .p) in
     let t = (c .before .before .before .before .before .before .before .before .before .before .before .before .before .before .before .before .before .before .before .loop .t) in
-    let l = (c .before .before .before .before .before .before .before .before .before .before .before .before .before .before .read-line .result) in
+    let l = (c .before .before .before .before .before .before .before .before .before .before .before .before .before .before .before .read-line .result) in
     let z = toZ-ofZ (fits32 (l .a) ((c .before .before .before .before .before .before .before .before .before .before .before .before .before .struct-told .given .1 .0 .1))) in
     let i = (c .before .before .before .before .before .index .ensures .0) ∙ ap indexOf ((c .before .before .before .before .before .before .before .before .before .before .before .before .number .ensures) ∙ ap natural z) in
     let m = subst (λ x. Sends x (p .head) (p .edits) (getD (p .arrived) ((c .before .before .before .before .before .index .result)) false) (getD (t .unsent) ((c .before .before .before .before .before .index .result)) 0) ((c .before .send-edits .result))) z ((c .before .send-edits .ensures)) in
-    rw (line-send l ((c .before .before .before .before .before .before .if5 .taken)), i) (meets-made (send (l .a)) p _
+    rw (line-send l ((c .before .before .before .before .before .before .if6 .taken)), i) (meets-made (send (l .a)) p _
     (m (frameOf p) (p .arrived) (p .lower) (p .gap) (p .upper) (p .firm) ((c .before .before .before .before .before .before .before .before .before .before .before .before .before .before .before .before .before .before .before .loop .inv .sized .arrived)) (ap (λ j. getD (p .arrived) j false) i) (unsent-is p t ((c .before .before .before .before .before .before .before .before .before .before .before .before .before .before .before .before .before .before .before .loop .inv .counted)) (natural (l .a)) i)))
 
 send-sized : (c : tie.After-next Inv-loop μ-loop) → let p = (c .before .before .before .before .before .before .before .before .before .before .before .before .before .before .before .before .before .before .before .loop .p) in let r = (c .before .send-edits .result) in Sized (steps.stored p (p .head) (p .base) (p .draft) (p .values) (set (p .arrived) ((c .before .before .before .before .before .index .result)) (r .arrived)) (p .confirmed) (r .edits))
@@ -268,15 +296,15 @@ send-sized c =
 -- ---- a call on the frame
 
 move-arm : (c : tie.After-confirmed Inv-loop μ-loop) → let p = (c .before .before .before .before .before .before .before .before .before .before .before .before .before .before .before .before .before .before .before .before .before .before .before .before .before .before .before .before .before .loop .p) in let r = (c .before .before .before .before .before .before .before .move-frame .result) in
-    Made (lineIn ((c .before .before .before .before .before .before .before .before .before .before .before .before .before .before .before .before .before .before .before .before .before .before .before .before .read-line .result))) p (around (r .frame) (p .lower) (p .gap) (p .upper) (p .firm) (p .edits)) (r .answer) []
+    Made (lineIn ((c .before .before .before .before .before .before .before .before .before .before .before .before .before .before .before .before .before .before .before .before .before .before .before .before .before .read-line .result))) p (around (r .frame) (p .lower) (p .gap) (p .upper) (p .firm) (p .edits)) (r .answer) []
 move-arm c =
     let p = (c .before .before .before .before .before .before .before .before .before .before .before .before .before .before .before .before .before .before .before .before .before .before .before .before .before .before .before .before .before .loop .p) in
     let t = (c .before .before .before .before .before .before .before .before .before .before .before .before .before .before .before .before .before .before .before .before .before .before .before .before .before .before .before .before .before .loop .t) in
-    let l = (c .before .before .before .before .before .before .before .before .before .before .before .before .before .before .before .before .before .before .before .before .before .before .before .before .read-line .result) in
+    let l = (c .before .before .before .before .before .before .before .before .before .before .before .before .before .before .before .before .before .before .before .before .before .before .before .before .before .read-line .result) in
     let z = toZ-ofZ (fits32 (l .a) ((c .before .before .before .before .before .before .before .before .before .before .before .before .before .before .before .before .before .before .before .before .before .before .before .struct-told .given .1 .0 .1))) in
     let i = (c .before .before .before .before .before .before .before .before .before .before .before .before .before .before .index2 .ensures .0) ∙ ap indexOf ((c .before .before .before .before .before .before .before .before .before .before .before .before .before .before .before .before .before .before .before .before .before .before .number .ensures) ∙ ap natural z) in
     let m = subst (λ x. Moves (moveCall (l .op) x) (frameOf p) (Counts (frameOf p) (natural x) (getD (t .unsent) ((c .before .before .before .before .before .before .before .before .before .before .before .before .before .before .index2 .result)) 0) (t .waiting)) ((c .before .before .before .before .before .before .before .move-frame .result))) z ((c .before .before .before .before .before .before .before .move-frame .ensures)) in
-    rw (line-moves l ((c .before .before .before .before .before .before .before .before .before .before .before .before .before .before .before .before .before .before .before .if2 .left)) ((c .before .before .before .before .before .before .before .before .before .before .before .before .before .before .before .before .before .before .if3 .left)) ((c .before .before .before .before .before .before .before .before .before .before .before .before .before .before .before .before .before .if4 .left)) ((c .before .before .before .before .before .before .before .before .before .before .before .before .before .before .before .before .if5 .left)) ((c .before .before .before .before .before .before .before .before .before .before .before .before .before .before .before .if6 .taken)))
+    rw (line-moves l ((c .before .before .before .before .before .before .before .before .before .before .before .before .before .before .before .before .before .before .before .if2 .left)) ((c .before .before .before .before .before .before .before .before .before .before .before .before .before .before .before .before .before .before .if4 .left)) ((c .before .before .before .before .before .before .before .before .before .before .before .before .before .before .before .before .before .if5 .left)) ((c .before .before .before .before .before .before .before .before .before .before .before .before .before .before .before .before .if6 .left)) ((c .before .before .before .before .before .before .before .before .before .before .before .before .before .before .before .if7 .taken)))
     (meets-made (moveCall (l .op) (l .a)) p _ (m (p .lower) (p .gap) (p .upper) (p .firm) (p .edits) (unsent-is p t ((c .before .before .before .before .before .before .before .before .before .before .before .before .before .before .before .before .before .before .before .before .before .before .before .before .before .before .before .before .before .loop .inv .counted)) (natural (l .a)) i, (c .before .before .before .before .before .before .before .before .before .before .before .before .before .before .before .before .before .before .before .before .before .before .before .before .before .before .before .before .before .loop .inv .counted .waiting))))
 
 move-sized : (c : tie.After-confirmed Inv-loop μ-loop) → let p = (c .before .before .before .before .before .before .before .before .before .before .before .before .before .before .before .before .before .before .before .before .before .before .before .before .before .before .before .before .before .loop .p) in let r = (c .before .before .before .before .before .before .before .move-frame .result) in Sized (around (r .frame) (p .lower) (p .gap) (p .upper) (p .firm) (p .edits))
@@ -293,12 +321,12 @@ move-sized c =
 
 -- ---- a call that draws up the plan
 
-draw-arm : (c : tie.After-q Inv-loop μ-loop) → let r = (c .before .draw-up .result) in Made (lineIn ((c .before .before .before .before .before .before .before .before .before .before .before .before .before .before .before .read-line .result))) ((c .before .before .before .before .before .before .before .before .before .before .before .before .before .before .before .before .before .before .before .before .loop .p)) (r .state) (r .answer) []
+draw-arm : (c : tie.After-q Inv-loop μ-loop) → let r = (c .before .draw-up .result) in Made (lineIn ((c .before .before .before .before .before .before .before .before .before .before .before .before .before .before .before .before .read-line .result))) ((c .before .before .before .before .before .before .before .before .before .before .before .before .before .before .before .before .before .before .before .before .loop .p)) (r .state) (r .answer) []
 draw-arm c =
     let p = (c .before .before .before .before .before .before .before .before .before .before .before .before .before .before .before .before .before .before .before .before .loop .p) in
-    let l = (c .before .before .before .before .before .before .before .before .before .before .before .before .before .before .before .read-line .result) in
+    let l = (c .before .before .before .before .before .before .before .before .before .before .before .before .before .before .before .before .read-line .result) in
     let t = (c .before .before .before .before .before .before .before .before .before .before .before .before .before .before .struct-told .given) in
-    let e = line-draws l ((c .before .before .before .before .before .if7 .taken)) ((c .before .before .before .before .before .before .if6 .left)) in
+    let e = line-draws l ((c .before .before .before .before .before .if8 .taken)) ((c .before .before .before .before .before .before .if7 .left)) in
     rw e (performs-made _ p ((c .before .draw-up .result)) (rw (← toZ-ofZ (fits32 (l .a) (t .1 .0 .1)), ← toZ-ofZ (fits32 (l .b) (t .1 .1 .0 .1)), ← toZ-ofZ (fits32 (l .c) (t .1 .1 .1 .0 .1)), ← toZ-ofZ (fits32 (l .d) (t .1 .1 .1 .1 .0 .1))) ((c .before .draw-up .ensures))))
 
 draw-sized : (c : tie.After-q Inv-loop μ-loop) → Sized ((c .before .draw-up .result .state))
@@ -319,33 +347,34 @@ draw-sized c =
 
 -- ---- any line
 
-joined : (c : tie.Joined2 Inv-loop μ-loop) → let q = (c .if2 .p) in (Made (lineIn ((c .before .before .before .before .before .read-line .result))) ((c .before .before .before .before .before .before .before .before .before .before .loop .p)) q ((c .if2 .answer)) (row (q .values) ((c .if2 .first)) ((c .if2 .width)))) × Sized q × ((c .if2 .first) ≤ 224) × ((c .if2 .width) ≤ 32)
+joined : (c : tie.Joined2 Inv-loop μ-loop) → let q = (c .if2 .p) in (Made (lineIn ((c .before .before .before .before .before .before .read-line .result))) ((c .before .before .before .before .before .before .before .before .before .before .loop .p)) q ((c .if2 .answer)) (row (q .values) ((c .if2 .first)) ((c .if2 .width)))) × Sized q × ((c .if2 .first) ≤ 224) × ((c .if2 .width) ≤ 32)
 joined c = on ((c .if2 .came))
-    (λ w. let place : tie.After-entry Inv-loop μ-loop = (record { before = record { before = record { before = record { before = record { before = record { before = record { before = record { before = record { before = record { before = record { before = record { before = record { before = record { before = record { before = record { before = record { before = record { before = record { before = record { before = record { before = record { before = record { before = record { before = record { before = record { before = record { before = record { before = record { before = (c .before); if2 = w .0 }; struct-told2 = w .1 }; number2 = w .2 }; position = w .3 }; place = w .4 }; seen = w .5 }; struct-told3 = w .6 }; number3 = w .7 }; spot = w .8 }; capped = w .9 }; old = w .10 }; standing = w .11 }; p = w .12 }; decide-edit-arg = w .13 }; decide-edit-arg2 = w .14 }; decide-edit-arg3 = w .15 }; decide-edit-arg4 = w .16 }; decide-edit-arg5 = w .17 }; decide-edit-arg6 = w .18 }; found = w .19 }; struct-told4 = w .20 }; number4 = w .21 }; struct-told5 = w .22 }; struct-told6 = w .23 }; struct-told7 = w .24 }; decide-edit = w .25 }; head = w .26 }; struct-told8 = w .27 }; entry = w .28 }) in at-rest (w .29) (w .30) (w .31) (w .32) (edit-arm place .0) (edit-arm place .1))
-    (λ v. on v (λ w. let place : tie.After-entry2 Inv-loop μ-loop = (record { before = record { before = record { before = record { before = record { before = record { before = record { before = record { before = record { before = record { before = record { before = record { before = record { before = record { before = record { before = record { before = record { before = record { before = record { before = record { before = record { before = record { before = record { before = record { before = record { before = (c .before); if2 = w .0 }; if3 = w .1 }; position2 = w .2 }; place2 = w .3 }; standing2 = w .4 }; found2 = w .5 }; position3 = w .6 }; place3 = w .7 }; seen2 = w .8 }; found3 = w .9 }; p2 = w .10 }; unset-arg = w .11 }; unset = w .12 }; capped2 = w .13 }; point = w .14 }; old2 = w .15 }; p3 = w .16 }; decide-replay-arg = w .17 }; decide-replay-arg2 = w .18 }; decide-replay-arg3 = w .19 }; decide-replay-arg4 = w .20 }; decide-replay-arg5 = w .21 }; decide-replay = w .22 }; struct-told9 = w .23 }; entry2 = w .24 }) in at-rest (w .25) (w .26) (w .27) (w .28) (replay-arm place .0) (replay-arm place .1))
+    (λ w. let place : tie.After-entry Inv-loop μ-loop = (record { before = record { before = record { before = record { before = record { before = record { before = record { before = record { before = record { before = record { before = record { before = record { before = record { before = record { before = record { before = record { before = record { before = record { before = record { before = record { before = record { before = record { before = record { before = record { before = record { before = record { before = record { before = record { before = record { before = (c .before); if2 = w .0 }; struct-told2 = w .1 }; number2 = w .2 }; position = w .3 }; place = w .4 }; seen = w .5 }; struct-told3 = w .6 }; number3 = w .7 }; spot = w .8 }; capped = w .9 }; old = w .10 }; standing = w .11 }; p = w .12 }; decide-edit-arg = w .13 }; decide-edit-arg2 = w .14 }; decide-edit-arg3 = w .15 }; decide-edit-arg4 = w .16 }; decide-edit-arg5 = w .17 }; decide-edit-arg6 = w .18 }; found = w .19 }; struct-told4 = w .20 }; number4 = w .21 }; struct-told5 = w .22 }; struct-told6 = w .23 }; struct-told7 = w .24 }; decide-edit = w .25 }; head = w .26 }; struct-told8 = w .27 }; entry = w .28 }) in at-rest (w .30) (w .31) (w .32) (w .33) (edit-arm place .0) (edit-arm place .1))
+    (λ z. on z (λ w. let place : tie.After-entry Inv-loop μ-loop = (record { before = record { before = record { before = record { before = record { before = record { before = record { before = record { before = record { before = record { before = record { before = record { before = record { before = record { before = record { before = record { before = record { before = record { before = record { before = record { before = record { before = record { before = record { before = record { before = record { before = record { before = record { before = record { before = record { before = (c .before); if2 = w .0 }; struct-told2 = w .1 }; number2 = w .2 }; position = w .3 }; place = w .4 }; seen = w .5 }; struct-told3 = w .6 }; number3 = w .7 }; spot = w .8 }; capped = w .9 }; old = w .10 }; standing = w .11 }; p = w .12 }; decide-edit-arg = w .13 }; decide-edit-arg2 = w .14 }; decide-edit-arg3 = w .15 }; decide-edit-arg4 = w .16 }; decide-edit-arg5 = w .17 }; decide-edit-arg6 = w .18 }; found = w .19 }; struct-told4 = w .20 }; number4 = w .21 }; struct-told5 = w .22 }; struct-told6 = w .23 }; struct-told7 = w .24 }; decide-edit = w .25 }; head = w .26 }; struct-told8 = w .27 }; entry = w .28 }) in at-rest (w .30 ∙ whole-arm place (unless _ (w .29 .left))) (w .31) (w .32) (w .33) (edit-arm place .0) (edit-arm place .1))
+    (λ v. on v (λ w. let place : tie.After-entry2 Inv-loop μ-loop = (record { before = record { before = record { before = record { before = record { before = record { before = record { before = record { before = record { before = record { before = record { before = record { before = record { before = record { before = record { before = record { before = record { before = record { before = record { before = record { before = record { before = record { before = record { before = record { before = record { before = (c .before); if2 = w .0 }; if4 = w .1 }; position2 = w .2 }; place2 = w .3 }; standing2 = w .4 }; found2 = w .5 }; position3 = w .6 }; place3 = w .7 }; seen2 = w .8 }; found3 = w .9 }; p2 = w .10 }; unset-arg = w .11 }; unset = w .12 }; capped2 = w .13 }; point = w .14 }; old2 = w .15 }; p3 = w .16 }; decide-replay-arg = w .17 }; decide-replay-arg2 = w .18 }; decide-replay-arg3 = w .19 }; decide-replay-arg4 = w .20 }; decide-replay-arg5 = w .21 }; decide-replay = w .22 }; struct-told9 = w .23 }; entry2 = w .24 }) in at-rest (w .25) (w .26) (w .27) (w .28) (replay-arm place .0) (replay-arm place .1))
     (λ u. on u
-    (λ w. let place : tie.After-read Inv-loop μ-loop = (record { before = record { before = record { before = record { before = record { before = record { before = record { before = record { before = record { before = record { before = record { before = record { before = (c .before); if2 = w .0 }; if3 = w .1 }; if4 = w .2 }; position4 = w .3 }; place4 = w .4 }; seen3 = w .5 }; p4 = w .6 }; read-arg = w .7 }; read-arg2 = w .8 }; t = w .9 }; read-arg3 = w .10 }; read = w .11 }) in at-reading (w .12) (w .13) (w .14) (w .15) (read-arm place .0) ((c .before .before .before .before .before .before .before .before .before .before .loop .inv .sized)) (read-arm place .1) (read-arm place .2))
+    (λ w. let place : tie.After-read Inv-loop μ-loop = (record { before = record { before = record { before = record { before = record { before = record { before = record { before = record { before = record { before = record { before = record { before = record { before = (c .before); if2 = w .0 }; if4 = w .1 }; if5 = w .2 }; position4 = w .3 }; place4 = w .4 }; seen3 = w .5 }; p4 = w .6 }; read-arg = w .7 }; read-arg2 = w .8 }; t = w .9 }; read-arg3 = w .10 }; read = w .11 }) in at-reading (w .12) (w .13) (w .14) (w .15) (read-arm place .0) ((c .before .before .before .before .before .before .before .before .before .before .loop .inv .sized)) (read-arm place .1) (read-arm place .2))
     (λ x. on x
-    (λ w. let place : tie.After-next Inv-loop μ-loop = (record { before = record { before = record { before = record { before = record { before = record { before = record { before = record { before = record { before = record { before = (c .before); if2 = w .0 }; if3 = w .1 }; if4 = w .2 }; if5 = w .3 }; index = w .4 }; flag = w .5 }; unsent = w .6 }; edits = w .7 }; send-edits = w .8 }; next = w .9 }) in at-rest (w .10) (w .11) (w .12) (w .13) (send-arm place) (send-sized place))
+    (λ w. let place : tie.After-next Inv-loop μ-loop = (record { before = record { before = record { before = record { before = record { before = record { before = record { before = record { before = record { before = record { before = (c .before); if2 = w .0 }; if4 = w .1 }; if5 = w .2 }; if6 = w .3 }; index = w .4 }; flag = w .5 }; unsent = w .6 }; edits = w .7 }; send-edits = w .8 }; next = w .9 }) in at-rest (w .10) (w .11) (w .12) (w .13) (send-arm place) (send-sized place))
     (λ y. on y
-    (λ w. let place : tie.After-confirmed Inv-loop μ-loop = (record { before = record { before = record { before = record { before = record { before = record { before = record { before = record { before = record { before = record { before = record { before = record { before = record { before = record { before = record { before = record { before = record { before = record { before = record { before = record { before = (c .before); if2 = w .0 }; if3 = w .1 }; if4 = w .2 }; if5 = w .3 }; if6 = w .4 }; index2 = w .5 }; unsent2 = w .6 }; old-base = w .7 }; old-draft = w .8 }; old-values = w .9 }; old-arrived = w .10 }; old-confirmed = w .11 }; move-frame = w .12 }; g = w .13 }; head2 = w .14 }; base = w .15 }; draft = w .16 }; values = w .17 }; arrived = w .18 }; confirmed = w .19 }) in at-rest (w .20) (w .21) (w .22) (w .23) (move-arm place) (move-sized place))
+    (λ w. let place : tie.After-confirmed Inv-loop μ-loop = (record { before = record { before = record { before = record { before = record { before = record { before = record { before = record { before = record { before = record { before = record { before = record { before = record { before = record { before = record { before = record { before = record { before = record { before = record { before = record { before = (c .before); if2 = w .0 }; if4 = w .1 }; if5 = w .2 }; if6 = w .3 }; if7 = w .4 }; index2 = w .5 }; unsent2 = w .6 }; old-base = w .7 }; old-draft = w .8 }; old-values = w .9 }; old-arrived = w .10 }; old-confirmed = w .11 }; move-frame = w .12 }; g = w .13 }; head2 = w .14 }; base = w .15 }; draft = w .16 }; values = w .17 }; arrived = w .18 }; confirmed = w .19 }) in at-rest (w .20) (w .21) (w .22) (w .23) (move-arm place) (move-sized place))
     (λ v. on v
-    (λ w. let place : tie.After-q Inv-loop μ-loop = (record { before = record { before = record { before = record { before = record { before = record { before = record { before = record { before = record { before = record { before = record { before = (c .before); if2 = w .0 }; if3 = w .1 }; if4 = w .2 }; if5 = w .3 }; if6 = w .4 }; if7 = w .5 }; struct-told10 = w .6 }; struct-told11 = w .7 }; struct-told12 = w .8 }; draw-up = w .9 }; q = w .10 }) in at-rest (w .11) (w .12) (w .13) (w .14) (draw-arm place) (draw-sized place))
-    (λ w. at-rest (w .6) (w .7) (w .8) (w .9) (rw (line-none ((c .before .before .before .before .before .read-line .result)) (w .5 .left)) (none-made ((c .before .before .before .before .before .before .before .before .before .before .loop .p)))) ((c .before .before .before .before .before .before .before .before .before .before .loop .inv .sized))))))))
+    (λ w. let place : tie.After-q Inv-loop μ-loop = (record { before = record { before = record { before = record { before = record { before = record { before = record { before = record { before = record { before = record { before = record { before = (c .before); if2 = w .0 }; if4 = w .1 }; if5 = w .2 }; if6 = w .3 }; if7 = w .4 }; if8 = w .5 }; struct-told10 = w .6 }; struct-told11 = w .7 }; struct-told12 = w .8 }; draw-up = w .9 }; q = w .10 }) in at-rest (w .11) (w .12) (w .13) (w .14) (draw-arm place) (draw-sized place))
+    (λ w. at-rest (w .6) (w .7) (w .8) (w .9) (rw (line-none ((c .before .before .before .before .before .before .read-line .result)) (w .5 .left)) (none-made ((c .before .before .before .before .before .before .before .before .before .before .loop .p)))) ((c .before .before .before .before .before .before .before .before .before .before .loop .inv .sized)))))))))
 
 -- ---- its answer, put into the rest of the area
 
 abbrev told : tie.After-put Inv-loop μ-loop → List ℕ
 told c = lineOf ((c .before .before .before .before .before .before .before .before .before .before .if2 .answer)) (take ((c .before .before .before .before .before .before .before .before .before .before .if2 .first) + (c .before .before .before .before .before .before .before .before .before .before .if2 .width) - (c .before .before .before .before .before .before .before .before .before .before .if2 .first)) (drop ((c .before .before .before .before .before .before .before .before .before .before .if2 .first)) ((c .before .before .before .before .before .before .before .before .before .before .if2 .p .values))))
 
-told-is : (c : tie.After-put Inv-loop μ-loop) → told c ≡ text (turn (line (c .before .before .before .before .before .before .before .before .before .before .before .before .before .before .before .before .before)) (view ((c .before .before .before .before .before .before .before .before .before .before .before .before .before .before .before .before .before .before .before .before .loop .p))) .answer)
+told-is : (c : tie.After-put Inv-loop μ-loop) → told c ≡ text (turn (line (c .before .before .before .before .before .before .before .before .before .before .before .before .before .before .before .before)) (view ((c .before .before .before .before .before .before .before .before .before .before .before .before .before .before .before .before .before .before .before .before .loop .p))) .answer)
 unfolding lineOf turn
 told-is c =
     let j = joined (c .before .before .before .before .before .before .before .before .before .before) in
     ap (λ vs. text (withRow (answerOf ((c .before .before .before .before .before .before .before .before .before .before .if2 .answer))) vs)) (lent-row ((c .before .before .before .before .before .before .before .before .before .before .if2 .p .values)) ((c .before .before .before .before .before .before .before .before .before .before .if2 .first)) ((c .before .before .before .before .before .before .before .before .before .before .if2 .width)) (le-same (le-sum (j .2) (j .3)) (j .1 .values)))
     ∙ ap text (j .0 .answer ∙ ap (λ o. stepOf o (view ((c .before .before .before .before .before .before .before .before .before .before .before .before .before .before .before .before .before .before .before .before .loop .p))) .answer) (call-is (c .before .before .before .before .before .before .before .before .before .before .before .before .before .before)))
 
-left-is : (c : tie.After-put Inv-loop μ-loop) → view ((c .before .before .before .before .before .before .before .before .before .before .if2 .p)) ≡ turn (line (c .before .before .before .before .before .before .before .before .before .before .before .before .before .before .before .before .before)) (view ((c .before .before .before .before .before .before .before .before .before .before .before .before .before .before .before .before .before .before .before .before .loop .p))) .plan
+left-is : (c : tie.After-put Inv-loop μ-loop) → view ((c .before .before .before .before .before .before .before .before .before .before .if2 .p)) ≡ turn (line (c .before .before .before .before .before .before .before .before .before .before .before .before .before .before .before .before)) (view ((c .before .before .before .before .before .before .before .before .before .before .before .before .before .before .before .before .before .before .before .before .loop .p))) .plan
 unfolding turn
 left-is c = (joined (c .before .before .before .before .before .before .before .before .before .before)) .0 .plan ∙ ap (λ o. stepOf o (view ((c .before .before .before .before .before .before .before .before .before .before .before .before .before .before .before .before .before .before .before .before .loop .p))) .plan) (call-is (c .before .before .before .before .before .before .before .before .before .before .before .before .before .before))
 
@@ -353,30 +382,30 @@ enough : (c : tie.After-put Inv-loop μ-loop) → (c .before .before .before .be
 enough c = subst (λ n. (c .before .before .before .before .before .before .before .before .before .before .before .before .before .before .before .before .before .before .before .before .before .before .before .args .reserve) ≤ n - (c .before .before .before .before .before .before .before .before .before .before .before .before .before .before .before .before .before .before .before .before .loop .at)) ((c .before .before .before .before .before .before .before .before .before .before .before .before .before .before .before .before .before .before .before .before .loop .inv .same)) ((c .before .before .before .before .before .before .before .before .before .before .before .before .before .before .before .before .before .before .if1 .left))
 
 -- the counts after the line
-tallies-are : (c : tie.After-put Inv-loop μ-loop) → let l = (c .before .before .before .before .before .before .before .before .before .before .before .before .before .before .before .read-line .result) in (c .before .before .before .before .before .before .before .before .tallied .result) ≡ tallyAfter (movedOp ((c .before .before .before .before .before .before .before .before .before .before .if2 .answer)) (l .op)) (natural (l .a)) (is whole (modeOf ((c .before .before .before .before .before .before .before .before .before .before .before .before .before .before .before .before .before .before .before .before .loop .p .head .mode)))) ((c .before .before .before .before .before .before .before .before .before .before .before .before .before .before .before .before .before .before .before .before .loop .t))
+tallies-are : (c : tie.After-put Inv-loop μ-loop) → let l = (c .before .before .before .before .before .before .before .before .before .before .before .before .before .before .before .before .read-line .result) in (c .before .before .before .before .before .before .before .before .tallied .result) ≡ tallyAfter (movedOp ((c .before .before .before .before .before .before .before .before .before .before .if2 .answer)) (l .op)) (natural (l .a)) (is whole (modeOf ((c .before .before .before .before .before .before .before .before .before .before .before .before .before .before .before .before .before .before .before .before .loop .p .head .mode)))) ((c .before .before .before .before .before .before .before .before .before .before .before .before .before .before .before .before .before .before .before .before .loop .t))
 tallies-are c =
-    let l = (c .before .before .before .before .before .before .before .before .before .before .before .before .before .before .before .read-line .result) in
+    let l = (c .before .before .before .before .before .before .before .before .before .before .before .before .before .before .before .before .read-line .result) in
     (c .before .before .before .before .before .before .before .before .tallied .ensures) ∙ (λ j. tallyAfter ((c .before .before .before .before .before .before .before .before .before .moved-op .ensures) j) (((c .before .before .before .before .before .before .before .before .before .before .before .before .before .number .ensures) ∙ ap natural (toZ-ofZ (fits32 (l .a) ((c .before .before .before .before .before .before .before .before .before .before .before .before .before .before .struct-told .given .1 .0 .1))))) j) (eqb ((c .before .before .before .before .before .before .before .before .before .before .before .mode-number .ensures) j) 1) ((c .before .before .before .before .before .before .before .before .before .before .before .before .before .before .before .before .before .before .before .before .loop .t)))
 
 counted-now : (c : tie.After-put Inv-loop μ-loop) → Counted ((c .before .before .before .before .before .before .before .before .tallied .result)) (keptOf ((c .before .before .before .before .before .before .before .before .before .before .if2 .p .head)) ((c .before .before .before .before .before .before .before .before .before .before .if2 .p .edits)))
 counted-now c =
-    let l = (c .before .before .before .before .before .before .before .before .before .before .before .before .before .before .before .read-line .result) in
+    let l = (c .before .before .before .before .before .before .before .before .before .before .before .before .before .before .before .before .read-line .result) in
     let p = (c .before .before .before .before .before .before .before .before .before .before .before .before .before .before .before .before .before .before .before .before .loop .p) in
     let m = (joined (c .before .before .before .before .before .before .before .before .before .before)) .0 in
     subst (λ t. Counted t (keptOf ((c .before .before .before .before .before .before .before .before .before .before .if2 .p .head)) ((c .before .before .before .before .before .before .before .before .before .before .if2 .p .edits)))) (sym (tallies-are c)) (counted-made ((c .before .before .before .before .before .before .before .before .before .before .before .before .before .before .before .before .before .before .before .before .loop .t)) p ((c .before .before .before .before .before .before .before .before .before .before .if2 .p)) ((c .before .before .before .before .before .before .before .before .before .before .before .before .before .before .before .before .before .before .before .before .loop .inv .long)) ((c .before .before .before .before .before .before .before .before .before .before .before .before .before .before .before .before .before .before .before .before .loop .inv .counted)) l ((c .before .before .before .before .before .before .before .before .before .before .if2 .answer)) _ m)
 
 long-now : (c : tie.After-put Inv-loop μ-loop) → length ((c .before .before .before .before .before .before .before .before .tallied .result .unsent)) ≡ 8
-long-now c = ap (λ t. length (t .unsent)) (tallies-are c) ∙ tallied-long (movedOp ((c .before .before .before .before .before .before .before .before .before .before .if2 .answer)) ((c .before .before .before .before .before .before .before .before .before .before .before .before .before .before .before .read-line .result .op))) (natural ((c .before .before .before .before .before .before .before .before .before .before .before .before .before .before .before .read-line .result .a))) (is whole (modeOf ((c .before .before .before .before .before .before .before .before .before .before .before .before .before .before .before .before .before .before .before .before .loop .p .head .mode)))) ((c .before .before .before .before .before .before .before .before .before .before .before .before .before .before .before .before .before .before .before .before .loop .t)) ((c .before .before .before .before .before .before .before .before .before .before .before .before .before .before .before .before .before .before .before .before .loop .inv .long))
+long-now c = ap (λ t. length (t .unsent)) (tallies-are c) ∙ tallied-long (movedOp ((c .before .before .before .before .before .before .before .before .before .before .if2 .answer)) ((c .before .before .before .before .before .before .before .before .before .before .before .before .before .before .before .before .read-line .result .op))) (natural ((c .before .before .before .before .before .before .before .before .before .before .before .before .before .before .before .before .read-line .result .a))) (is whole (modeOf ((c .before .before .before .before .before .before .before .before .before .before .before .before .before .before .before .before .before .before .before .before .loop .p .head .mode)))) ((c .before .before .before .before .before .before .before .before .before .before .before .before .before .before .before .before .before .before .before .before .loop .t)) ((c .before .before .before .before .before .before .before .before .before .before .before .before .before .before .before .before .before .before .before .before .loop .inv .long))
 
 -- what was put, and how many bytes
 room-is : (c : tie.After-put Inv-loop μ-loop) → take (length ((c .before .before .before .before .before .before .before .before .before .before .before .before .before .before .before .before .before .before .before .before .loop .area)) - (c .before .before .before .before .before .before .before .before .before .before .before .before .before .before .before .before .before .before .before .before .loop .at)) (drop ((c .before .before .before .before .before .before .before .before .before .before .before .before .before .before .before .before .before .before .before .before .loop .at)) ((c .before .before .before .before .before .before .before .before .before .before .before .before .before .before .before .before .before .before .before .before .loop .area))) ≡ drop ((c .before .before .before .before .before .before .before .before .before .before .before .before .before .before .before .before .before .before .before .before .loop .at)) ((c .before .before .before .before .before .before .before .before .before .before .before .before .before .before .before .before .before .before .before .before .loop .area))
 room-is c = lent-rest ((c .before .before .before .before .before .before .before .before .before .before .before .before .before .before .before .before .before .before .before .before .loop .at)) ((c .before .before .before .before .before .before .before .before .before .before .before .before .before .before .before .before .before .before .before .before .loop .area))
 
 fits-now : (c : tie.After-put Inv-loop μ-loop) → ((c .put .result) ≡ 0 → ⊥) → leb (length (told c)) (length (drop ((c .before .before .before .before .before .before .before .before .before .before .before .before .before .before .before .before .before .before .before .before .loop .at)) ((c .before .before .before .before .before .before .before .before .before .before .before .before .before .before .before .before .before .before .before .before .loop .area)))) ≡ true
-fits-now c h = fitted-put (told c) (drop ((c .before .before .before .before .before .before .before .before .before .before .before .before .before .before .before .before .before .before .before .before .loop .at)) ((c .before .before .before .before .before .before .before .before .before .before .before .before .before .before .before .before .before .before .before .before .loop .area))) ((c .put .result)) (text-some (told c) (turn (line (c .before .before .before .before .before .before .before .before .before .before .before .before .before .before .before .before .before)) (view ((c .before .before .before .before .before .before .before .before .before .before .before .before .before .before .before .before .before .before .before .before .loop .p))) .answer) (told-is c)) (subst (λ xs. (c .put .result) ≡ cond (leb (length (told c)) (length xs)) (length (told c)) 0) (room-is c) ((c .put .ensures .1))) h
+fits-now c h = fitted-put (told c) (drop ((c .before .before .before .before .before .before .before .before .before .before .before .before .before .before .before .before .before .before .before .before .loop .at)) ((c .before .before .before .before .before .before .before .before .before .before .before .before .before .before .before .before .before .before .before .before .loop .area))) ((c .put .result)) (text-some (told c) (turn (line (c .before .before .before .before .before .before .before .before .before .before .before .before .before .before .before .before)) (view ((c .before .before .before .before .before .before .before .before .before .before .before .before .before .before .before .before .before .before .before .before .loop .p))) .answer) (told-is c)) (subst (λ xs. (c .put .result) ≡ cond (leb (length (told c)) (length xs)) (length (told c)) 0) (room-is c) ((c .put .ensures .1))) h
 
 unfit-now : (c : tie.After-put Inv-loop μ-loop) → (c .put .result) ≡ 0 → leb (length (told c)) (length (drop ((c .before .before .before .before .before .before .before .before .before .before .before .before .before .before .before .before .before .before .before .before .loop .at)) ((c .before .before .before .before .before .before .before .before .before .before .before .before .before .before .before .before .before .before .before .before .loop .area)))) ≡ false
-unfit-now c e = unfitted-put (told c) (drop ((c .before .before .before .before .before .before .before .before .before .before .before .before .before .before .before .before .before .before .before .before .loop .at)) ((c .before .before .before .before .before .before .before .before .before .before .before .before .before .before .before .before .before .before .before .before .loop .area))) ((c .put .result)) (text-some (told c) (turn (line (c .before .before .before .before .before .before .before .before .before .before .before .before .before .before .before .before .before)) (view ((c .before .before .before .before .before .before .before .before .before .before .before .before .before .before .before .before .before .before .before .before .loop .p))) .answer) (told-is c)) (subst (λ xs. (c .put .result) ≡ cond (leb (length (told c)) (length xs)) (length (told c)) 0) (room-is c) ((c .put .ensures .1))) e
+unfit-now c e = unfitted-put (told c) (drop ((c .before .before .before .before .before .before .before .before .before .before .before .before .before .before .before .before .before .before .before .before .loop .at)) ((c .before .before .before .before .before .before .before .before .before .before .before .before .before .before .before .before .before .before .before .before .loop .area))) ((c .put .result)) (text-some (told c) (turn (line (c .before .before .before .before .before .before .before .before .before .before .before .before .before .before .before .before)) (view ((c .before .before .before .before .before .before .before .before .before .before .before .before .before .before .before .before .before .before .before .before .loop .p))) .answer) (told-is c)) (subst (λ xs. (c .put .result) ≡ cond (leb (length (told c)) (length xs)) (length (told c)) 0) (room-is c) ((c .put .ensures .1))) e
 
 -- how many bytes were written, and the area with them
 count-is : (c : tie.After-put Inv-loop μ-loop) → ((c .put .result) ≡ 0 → ⊥) → (c .put .result) ≡ length (told c)
@@ -402,15 +431,15 @@ area-same : (c : tie.After-put Inv-loop μ-loop) → (c .put .result) ≡ 0 → 
 area-same c e = put-back ((c .before .before .before .before .before .before .before .before .before .before .before .before .before .before .before .before .before .before .before .before .loop .at)) ((c .before .before .before .before .before .before .before .before .before .before .before .before .before .before .before .before .before .before .before .before .loop .area)) (after c) ∙ ap (λ xs. take ((c .before .before .before .before .before .before .before .before .before .before .before .before .before .before .before .before .before .before .before .before .loop .at)) ((c .before .before .before .before .before .before .before .before .before .before .before .before .before .before .before .before .before .before .before .before .loop .area)) ++ xs) (after-is c ∙ rw (unfit-now c e)) ∙ take-append-drop ((c .before .before .before .before .before .before .before .before .before .before .before .before .before .before .before .before .before .before .before .before .loop .at)) ((c .before .before .before .before .before .before .before .before .before .before .before .before .before .before .before .before .before .before .before .before .loop .area))
 
 going-on : (c : tie.After-put Inv-loop μ-loop) → ((c .put .result) ≡ 0 → ⊥)
-    → Going ((c .before .before .before .before .before .before .before .before .before .before .before .before .before .before .before .before .before .before .before .before .before .before .before .args .reserve)) ((c .before .before .before .before .before .before .before .before .before .before .before .before .before .before .before .before .before .before .before .before .before .before .before .args .sheet .now)) ((c .before .before .before .before .before .before .before .before .before .before .before .before .before .before .before .before .before .before .before .before .before .before .before .args .from)) ((c .before .before .before .before .before .before .before .before .before .before .before .before .before .before .before .before .before .before .before .before .before .before .before .args .area .now)) ((c .before .before .before .before .before .before .before .before .before .before .before .before .before .before .before .before .before .before .before .before .before .before .before .args .start)) (putMid ((c .before .before .before .before .before .before .before .before .before .before .before .before .before .before .before .before .before .before .before .before .loop .at)) (length ((c .before .before .before .before .before .before .before .before .before .before .before .before .before .before .before .before .before .before .before .before .loop .area)) - (c .before .before .before .before .before .before .before .before .before .before .before .before .before .before .before .before .before .before .before .before .loop .at)) ((c .before .before .before .before .before .before .before .before .before .before .before .before .before .before .before .before .before .before .before .before .loop .area)) (after c)) ((c .before .before .before .before .before .before .before .before .before .before .if2 .p)) ((c .before .before .before .before .before .before .before .before .tallied .result)) ((c .before .before .before .before .before .before .before .before .before .before .before .before .before .before .before .before .before .before .before .before .loop .at) + (c .put .result)) ((c .before .before .before .before .before .before .before .before .before .before .before .before .before .before .before .before .before .line-end .result) + 1)
+    → Going ((c .before .before .before .before .before .before .before .before .before .before .before .before .before .before .before .before .before .before .before .before .before .before .before .args .reserve)) ((c .before .before .before .before .before .before .before .before .before .before .before .before .before .before .before .before .before .before .before .before .before .before .before .args .sheet .now)) ((c .before .before .before .before .before .before .before .before .before .before .before .before .before .before .before .before .before .before .before .before .before .before .before .args .from)) ((c .before .before .before .before .before .before .before .before .before .before .before .before .before .before .before .before .before .before .before .before .before .before .before .args .area .now)) ((c .before .before .before .before .before .before .before .before .before .before .before .before .before .before .before .before .before .before .before .before .before .before .before .args .start)) (putMid ((c .before .before .before .before .before .before .before .before .before .before .before .before .before .before .before .before .before .before .before .before .loop .at)) (length ((c .before .before .before .before .before .before .before .before .before .before .before .before .before .before .before .before .before .before .before .before .loop .area)) - (c .before .before .before .before .before .before .before .before .before .before .before .before .before .before .before .before .before .before .before .before .loop .at)) ((c .before .before .before .before .before .before .before .before .before .before .before .before .before .before .before .before .before .before .before .before .loop .area)) (after c)) ((c .before .before .before .before .before .before .before .before .before .before .if2 .p)) ((c .before .before .before .before .before .before .before .before .tallied .result)) ((c .before .before .before .before .before .before .before .before .before .before .before .before .before .before .before .before .before .before .before .before .loop .at) + (c .put .result)) (((c .before .before .before .before .before .before .before .before .before .before .before .before .before .before .before .before .before .before .before .before .loop .i) + (c .before .before .before .before .before .before .before .before .before .before .before .before .before .before .before .before .read-line .result .end)) + 1)
 going-on c h =
-    moved (area-after c h) (ap (λ n. (c .before .before .before .before .before .before .before .before .before .before .before .before .before .before .before .before .before .before .before .before .loop .at) + n) (count-is c h)) (ap (λ n. n + 1) (end-is (c .before .before .before .before .before .before .before .before .before .before .before .before .before .before .before .before .before)))
+    moved (area-after c h) (ap (λ n. (c .before .before .before .before .before .before .before .before .before .before .before .before .before .before .before .before .before .before .before .before .loop .at) + n) (count-is c h)) (ap (λ n. n + 1) (end-is (c .before .before .before .before .before .before .before .before .before .before .before .before .before .before .before .before)))
     (next-line _ _ _ _ _ _ _ _ _ _ ((c .before .before .before .before .before .before .before .before .before .before .before .before .before .before .before .before .before .before .before .before .loop .inv)) ((c .before .before .before .before .before .before .before .before .before .before .before .before .before .before .before .before .before .before .before .loop-test .taken)) (enough c) ((c .before .before .before .before .before .before .before .before .before .before .if2 .p)) ((c .before .before .before .before .before .before .before .before .tallied .result)) (told c) (told-is c) (left-is c) (fits-now c h) ((joined (c .before .before .before .before .before .before .before .before .before .before)) .1) (long-now c) (counted-now c))
 
 ending : (c : tie.After-put Inv-loop μ-loop) → (c .put .result) ≡ 0
-    → Advanced ((c .before .before .before .before .before .before .before .before .before .before .before .before .before .before .before .before .before .before .before .before .before .before .before .args .reserve)) ((c .before .before .before .before .before .before .before .before .before .before .before .before .before .before .before .before .before .before .before .before .before .before .before .args .sheet .now)) ((c .before .before .before .before .before .before .before .before .before .before .before .before .before .before .before .before .before .before .before .before .before .before .before .args .from)) ((c .before .before .before .before .before .before .before .before .before .before .before .before .before .before .before .before .before .before .before .before .before .before .before .args .start)) ((c .before .before .before .before .before .before .before .before .before .before .before .before .before .before .before .before .before .before .before .before .before .before .before .args .area .now)) (record { state = (c .before .before .before .before .before .before .before .before .before .before .if2 .p); next = (c .before .before .before .before .before .before .before .before .before .before .before .before .before .before .before .before .before .line-end .result) + 1; written = (c .before .before .before .before .before .before .before .before .before .before .before .before .before .before .before .before .before .before .before .before .loop .at); ended = true }) (putMid ((c .before .before .before .before .before .before .before .before .before .before .before .before .before .before .before .before .before .before .before .before .loop .at)) (length ((c .before .before .before .before .before .before .before .before .before .before .before .before .before .before .before .before .before .before .before .before .loop .area)) - (c .before .before .before .before .before .before .before .before .before .before .before .before .before .before .before .before .before .before .before .before .loop .at)) ((c .before .before .before .before .before .before .before .before .before .before .before .before .before .before .before .before .before .before .before .before .loop .area)) (after c))
+    → Advanced ((c .before .before .before .before .before .before .before .before .before .before .before .before .before .before .before .before .before .before .before .before .before .before .before .args .reserve)) ((c .before .before .before .before .before .before .before .before .before .before .before .before .before .before .before .before .before .before .before .before .before .before .before .args .sheet .now)) ((c .before .before .before .before .before .before .before .before .before .before .before .before .before .before .before .before .before .before .before .before .before .before .before .args .from)) ((c .before .before .before .before .before .before .before .before .before .before .before .before .before .before .before .before .before .before .before .before .before .before .before .args .start)) ((c .before .before .before .before .before .before .before .before .before .before .before .before .before .before .before .before .before .before .before .before .before .before .before .args .area .now)) (record { state = (c .before .before .before .before .before .before .before .before .before .before .if2 .p); next = ((c .before .before .before .before .before .before .before .before .before .before .before .before .before .before .before .before .before .before .before .before .loop .i) + (c .before .before .before .before .before .before .before .before .before .before .before .before .before .before .before .before .read-line .result .end)) + 1; written = (c .before .before .before .before .before .before .before .before .before .before .before .before .before .before .before .before .before .before .before .before .loop .at); ended = true }) (putMid ((c .before .before .before .before .before .before .before .before .before .before .before .before .before .before .before .before .before .before .before .before .loop .at)) (length ((c .before .before .before .before .before .before .before .before .before .before .before .before .before .before .before .before .before .before .before .before .loop .area)) - (c .before .before .before .before .before .before .before .before .before .before .before .before .before .before .before .before .before .before .before .before .loop .at)) ((c .before .before .before .before .before .before .before .before .before .before .before .before .before .before .before .before .before .before .before .before .loop .area)) (after c))
 ending c e =
-    ended-at (area-same c e) (ap (λ n. n + 1) (end-is (c .before .before .before .before .before .before .before .before .before .before .before .before .before .before .before .before .before)))
+    ended-at (area-same c e) (ap (λ n. n + 1) (end-is (c .before .before .before .before .before .before .before .before .before .before .before .before .before .before .before .before)))
     (unfit _ _ _ _ _ _ _ _ _ _ ((c .before .before .before .before .before .before .before .before .before .before .before .before .before .before .before .before .before .before .before .before .loop .inv)) ((c .before .before .before .before .before .before .before .before .before .before .before .before .before .before .before .before .before .before .before .loop-test .taken)) (enough c) ((c .before .before .before .before .before .before .before .before .before .before .if2 .p)) ((c .before .before .before .before .before .before .before .before .tallied .result)) (told c) (told-is c) (left-is c) (unfit-now c e))
 
 -- the area's length stays
@@ -432,20 +461,20 @@ returns : tie.Need-returns Inv-loop μ-loop
 returns c =
     paused _ _ _ _ _ _ _ _ _ _ ((c .before .before .loop .inv)) ((c .before .loop-test .taken)) (subst (λ n. n - (c .before .before .loop .at) < (c .before .before .before .before .before .args .reserve)) ((c .before .before .loop .inv .same)) ((c .if1 .taken)))
 
-line-end-requires : tie.Need-line-end-requires Inv-loop μ-loop
-line-end-requires c κs = search needs
-
 sub-read-line : tie.Need-sub-read-line Inv-loop μ-loop
-sub-read-line c = i-end (c)
+sub-read-line c = let h = (c .before .loop-test .taken) in omega (arith, h)
 
 part-read-line-start : tie.Need-part-read-line-start Inv-loop μ-loop
-part-read-line-start c = i-end (c)
+part-read-line-start c = let h = (c .before .loop-test .taken) in omega (arith, h)
 
 part-read-line-end : tie.Need-part-read-line-end Inv-loop μ-loop
-part-read-line-end c = end-most (c)
+part-read-line-end c = le-self _
 
 read-line-requires : tie.Need-read-line-requires Inv-loop μ-loop
 read-line-requires c κs = search needs
+
+add-end : tie.Need-add-end Inv-loop μ-loop
+add-end c = let e = end-most (c .before) in omega arith
 
 number-requires : tie.Need-number-requires Inv-loop μ-loop
 number-requires c κs = search needs
@@ -508,11 +537,11 @@ element-set-from-value c =
 
 mul-entry : tie.Need-mul-entry Inv-loop μ-loop
 mul-entry c =
-    omega (arith, (c .before .before .before .before .before .before .before .before .before .before .before .before .before .before .before .before .before .before .before .capped .ensures))
+    omega (arith, (c .before .before .before .before .before .before .before .before .before .before .before .before .before .before .before .before .before .before .before .before .capped .ensures))
 
 element-set-from-entry : tie.Need-element-set-from-entry Inv-loop μ-loop
 element-set-from-entry c =
-    omega (arith, (c .before .before .before .before .before .before .before .before .before .before .before .before .before .before .before .before .before .before .before .capped .ensures))
+    omega (arith, (c .before .before .before .before .before .before .before .before .before .before .before .before .before .before .before .before .before .before .before .before .capped .ensures))
 
 position-requires-2 : tie.Need-position-requires-2 Inv-loop μ-loop
 position-requires-2 c κs = search needs
@@ -668,29 +697,29 @@ part-put-end-2 c = le-self _
 put-requires : tie.Need-put-requires Inv-loop μ-loop
 put-requires c κs = search needs
 
-add-t175 : tie.Need-add-t175 Inv-loop μ-loop
-add-t175 c =
-    end-fits (c .before .before .before .before .before .before .before .before .before .before .before .before .before .before .before .before .before .before .before .before)
+add-t177 : tie.Need-add-t177 Inv-loop μ-loop
+add-t177 c =
+    end-fits (c .before .before .before .before .before .before .before .before .before .before .before .before .before .before .before .before .before .before .before)
 
 same-length-2 : tie.Need-same-length-2 Inv-loop μ-loop
-same-length-2 c = same-after (c .before .before .before) ((c .if8 .taken))
+same-length-2 c = same-after (c .before .before .before) ((c .if9 .taken))
 
 returns-2 : tie.Need-returns-2 Inv-loop μ-loop
-returns-2 c = ending (c .before .before .before) ((c .if8 .taken))
+returns-2 c = ending (c .before .before .before) ((c .if9 .taken))
 
 add-at : tie.Need-add-at Inv-loop μ-loop
-add-at c = at-fits (c .before .before .before) ((c .if8 .left))
+add-at c = at-fits (c .before .before .before) ((c .if9 .left))
 
 add-i : tie.Need-add-i Inv-loop μ-loop
 add-i c =
-    end-fits (c .before .before .before .before .before .before .before .before .before .before .before .before .before .before .before .before .before .before .before .before)
+    end-fits (c .before .before .before .before .before .before .before .before .before .before .before .before .before .before .before .before .before .before .before)
 
 loop-less : tie.Need-loop-less Inv-loop μ-loop
 loop-less c =
-    nearer (c .before .before .before .before .before .before .before .before .before .before .before .before .before .before .before .before .before .before .before .before)
+    nearer (c .before .before .before .before .before .before .before .before .before .before .before .before .before .before .before .before .before .before .before)
 
 loop-again : tie.Need-loop-again Inv-loop μ-loop
-loop-again c = going-on (c .before .before .before) ((c .if8 .left))
+loop-again c = going-on (c .before .before .before) ((c .if9 .left))
 
 same-length-3 : tie.Need-same-length-3 Inv-loop μ-loop
 same-length-3 c = (c .before .loop .inv .same)
@@ -708,11 +737,11 @@ go-spec =
     sub-if1
     same-length
     returns
-    line-end-requires
     sub-read-line
     part-read-line-start
     part-read-line-end
     read-line-requires
+    add-end
     number-requires
     mode-number-requires
     number-requires-2
@@ -783,7 +812,7 @@ go-spec =
     part-put-start-2
     part-put-end-2
     put-requires
-    add-t175
+    add-t177
     same-length-2
     returns-2
     add-at
