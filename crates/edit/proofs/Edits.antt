@@ -1,37 +1,35 @@
 -- An edit's decision, carried out, is the protocol's step. Assumes nothing.
-use Prim.Native.Nat.{ℕ, zero, suc, min, _+_, _*_, _-_, _<_, _≤_}
+use Prim.Native.Nat.{ℕ, suc, min, _+_, _-_, _<_, _≤_}
 use native.Mathlib.Omega.{arith}
-use native.Mathlib.Numerals.{add-one}
-use mathlib.Core.Bool.{Bool, true, false, not, cond, _||_, _&&_}
+use mathlib.Core.Bool.{Bool, true, false, not, _&&_}
 use mathlib.Core.Path.{_≡_, refl, sym, ap, _∙_}
 use mathlib.Core.Logic.{_≢_}
-use mathlib.Core.List.{List, [], _∷_}
+use mathlib.Core.List.{List}
 use lib.IntN.{ℤ, pos}
-use lib.Dec.{T, T-not, leb, ltb, nltb→le, eqb→eq}
+use lib.Dec.{T, T-not, leb, nltb→le, eqb→eq}
 use lib.ListN.{length, getD, set}
 use lib.Seq.{set-getD}
 use borrow.Author.Tests.{leb-false}
 use Rattle.protocol.specs.Lists.{natural, oneTo, modify, snoc}
 use Rattle.protocol.specs.Plan as model
-use Rattle.protocol.specs.Plan.{is, whole, split, joining, modeNumber, allowed, applied, value, made, unsent, absentSide, sideAt, lookup}
-use Rattle.protocol.specs.Calls.{Call, edit, Check, Verdict, fine, refused, first, apart, checks, further, onValues, after, gives, ok, editOf, stepBy, step}
+use Rattle.protocol.specs.Plan.{is, whole, split, joining, modeNumber, allowed, applied, value, made, unsent, sideAt}
+use Rattle.protocol.specs.Calls.{Call, edit, Check, Verdict, fine, refused, first, apart, checks, further, onValues, after, gives, stepBy, step}
 use Rattle.protocol.proofs.Laws.{cases, yes-is, no-is, is-yes, which, range, Fine, Pass, passed}
 use Rattle.change.specs.declared.Change.{Change}
-use Rattle.change.specs.Change.{viewChange, madeOf}
+use Rattle.change.specs.Change.{madeOf}
 use Rattle.rows.specs.Rows.{span, row}
-use Rattle.rules.specs.Rules.{withValue}
 use Rattle.rows.proofs.Spans.{length-span}
 use Rattle.rules.proofs.Rows.{made-with, row-set, row-apart}
 use Rattle.records.specs.declared.EditRecord.{EditRecord}
 use Rattle.records.specs.declared.Fate.the-variants.{Unsent}
 use Rattle.heads.specs.declared.Head.{Head}
 use Rattle.state.specs.declared.State.{State}
-use Rattle.heads.specs.Heads.{modeOf, single, sidesIn, offsetOf, measuresIn, keptIn, endIn}
-use Rattle.records.specs.Records.{keptAt, logOf, keptOf, noRecord}
+use Rattle.heads.specs.Heads.{modeOf, single, sidesIn, offsetOf, measuresIn, keptIn, endIn, positionOf, placeOf}
+use Rattle.records.specs.Records.{keptAt, logOf, keptOf, noRecord, recordOf}
 use Rattle.state.specs.View.{view, sideOf, rulesOf}
 use Rattle.state.specs.Parts.{namedIn}
 use Rattle.state.specs.Meets.{answerOf, SameIfRefused, Meets}
-use Rattle.state.proofs.Views.{Sized, plan-same, sides-most, sides-length, side-at, sides-modify, lookup-named}
+use Rattle.state.proofs.Views.{Sized, plan-same, sides-most, sides-length, side-at, sides-modify, lookup-named, named-found}
 use Rattle.records.proofs.Logs.{log-snoc}
 use Rattle.ruling.specs.declared.Decision.{Decision}
 use Rattle.ruling.specs.declared.Ruling.{Ruling}
@@ -50,6 +48,22 @@ single-apart : (h : Head) → T (apart (modeOf (h .mode))) → single h ≡ fals
 single-apart h t = which (is split (modeOf (h .mode))) (is joining (modeOf (h .mode))) t
     (λ u. rw (eqb→eq (modeNumber (modeOf (h .mode))) 2 u))
     (λ u. rw (eqb→eq (modeNumber (modeOf (h .mode))) 3 u))
+
+-- from what each step of an edit gave, in the code's order, to the decision in the state and the places of its stores
+pub edit-decided : (p : State) (s client n m kind k : ℤ) {s′ client′ n′ m′ kind′ k′ old : ℤ} {number i seat side measure spot slot kd : ℕ} {named : EditRecord} {d : Decision}
+    → s′ ≡ s → client′ ≡ client → n′ ≡ n → m′ ≡ m → kind′ ≡ kind → k′ ≡ k
+    → number ≡ natural n′ → i ≡ positionOf (endIn (p .head)) (keptIn (p .head)) number → seat ≡ placeOf i → named ≡ recordOf i (getD (p .edits) seat noRecord)
+    → side ≡ natural s′ → measure ≡ natural m′ → spot ≡ spotOf side measure → slot ≡ slotOf (p .head) → old ≡ getD (p .values) spot (pos 0) → kd ≡ natural kind′
+    → d ≡ editDecision (p .head) (editRuling (p .head) (p .lower) (p .gap) (p .upper) (p .firm) (p .values) named side client′ n′ measure kd k′) old (getD (p .edits) slot noRecord) side (natural client′) (natural n′) measure
+    → (d ≡ editIn p (natural s) client n (natural m) (natural kind) k) × (spot ≡ spotOf (natural s) (natural m)) × (slot ≡ slotOf (p .head))
+edit-decided p s client n m kind k to-s to-client to-n to-m to-kind to-k number-is position-is seat-is named-is side-is measure-is spot-is slot-is old-is kind-is d-is =
+    let name = named-found p (number-is ∙ ap natural to-n) position-is seat-is named-is in
+    let side = side-is ∙ ap natural to-s in
+    let measure = measure-is ∙ ap natural to-m in
+    let spot = spot-is ∙ (λ j. spotOf (side j) (measure j)) in
+    let old = old-is ∙ ap (λ j. getD (p .values) j (pos 0)) spot in
+    let kd = kind-is ∙ ap natural to-kind in
+    (d-is ∙ (λ j. editDecision (p .head) (editRuling (p .head) (p .lower) (p .gap) (p .upper) (p .firm) (p .values) (name j) (side j) (to-client j) (to-n j) (measure j) (kd j) (to-k j)) (old j) (getD (p .edits) (slot-is j) noRecord) (side j) (natural (to-client j)) (natural (to-n j)) (measure j)), spot, slot-is)
 
 -- a whole plan keeps no edit: what stands at the place of a new record stays
 whole-entry : (h : Head) (r : Ruling) (old : ℤ) (standing : EditRecord) (s client earlier m : ℕ) → is whole (modeOf (h .mode)) ≡ true → editDecision h r old standing s client earlier m .entry ≡ standing

@@ -17,6 +17,10 @@ modeOf Split = model.split
 modeOf Joining = model.joining
 modeOf Closing = model.closing
 
+-- the same in another mode
+abbrev pub inMode : Head → Mode → Head
+inMode h m = record { mode = m; measures = h .measures; rules = h .rules; added = h .added; kept = h .kept; next = h .next; mark = h .mark; based = h .based; drafted = h .drafted }
+
 -- ---- sides
 
 -- a blank or whole plan has one side

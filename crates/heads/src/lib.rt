@@ -4,7 +4,7 @@ ghost use mathlib.Core.Bool.{not};
 ghost use Prim.Native.Nat.{_≤_, _<_};
 ghost use Rattle.protocol.specs.Lists.{bit};
 ghost use Rattle.protocol.specs.Plan.{modeNumber, active};
-ghost use Rattle.heads.specs.Heads.{modeOf, sidesIn, offsetOf, indexOf, endIn, keptIn, positionOf, placeOf, unsetIn};
+ghost use Rattle.heads.specs.Heads.{modeOf, inMode, sidesIn, offsetOf, indexOf, endIn, keptIn, positionOf, placeOf, unsetIn};
 
 // 01's modes.
 pub enum Mode {
@@ -38,6 +38,23 @@ pub fn mode_number(m: Mode) -> u32
         Mode::Split => 2,
         Mode::Joining => 3,
         Mode::Closing => 4,
+    }
+}
+
+// The same in another mode.
+pub fn in_mode(h: Head, mode: Mode) -> Head
+    ensures { λ r. ⌜ r ≡ inMode h mode ⌝ }
+{
+    Head {
+        mode,
+        measures: h.measures,
+        rules: h.rules,
+        added: h.added,
+        kept: h.kept,
+        next: h.next,
+        mark: h.mark,
+        based: h.based,
+        drafted: h.drafted,
     }
 }
 

@@ -28,18 +28,9 @@ pub fn measure_refusal(h: Head, v: i32) -> u32
 pub fn with_measures(h: Head, n: u32) -> Head
     ensures { λ r. ⌜ r ≡ measured h n ⌝ }
 {
-    let mode = h.mode;
-    Head {
-        mode,
-        measures: n,
-        rules: h.rules,
-        added: h.added,
-        kept: h.kept,
-        next: h.next,
-        mark: h.mark,
-        based: h.based,
-        drafted: h.drafted,
-    }
+    let mut r = h;
+    r.measures = n;
+    r
 }
 
 // The rule's measures are two different ones of n.
@@ -90,33 +81,15 @@ pub fn rule_refusal(h: Head, a: u32, c: i32, b: u32, f: i32) -> u32
 pub fn with_rules(h: Head, n: u32) -> Head
     ensures { λ r. ⌜ r ≡ ruled h n ⌝ }
 {
-    let mode = h.mode;
-    Head {
-        mode,
-        measures: h.measures,
-        rules: n,
-        added: h.added,
-        kept: h.kept,
-        next: h.next,
-        mark: h.mark,
-        based: h.based,
-        drafted: h.drafted,
-    }
+    let mut r = h;
+    r.rules = n;
+    r
 }
 
 pub fn with_open(h: Head) -> Head
     ensures { λ r. ⌜ r ≡ opened h ⌝ }
 {
-    let mode = Mode::Whole;
-    Head {
-        mode,
-        measures: h.measures,
-        rules: h.rules,
-        added: h.added,
-        kept: h.kept,
-        next: 1,
-        mark: h.mark,
-        based: h.based,
-        drafted: h.drafted,
-    }
+    let mut r = heads::in_mode(h, Mode::Whole);
+    r.next = 1;
+    r
 }

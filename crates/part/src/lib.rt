@@ -41,49 +41,22 @@ fn split_head(h: Head) -> Head
     ensures { λ r. ⌜ r ≡ splitHead h ⌝ }
 {
     let m = h.mode;
-    let mode = Mode::Split;
-    let added = heads::side_count(h) as u32;
+    let mut r = heads::in_mode(h, Mode::Split);
+    r.added = heads::side_count(h) as u32;
     if heads::mode_number(m) == 1 {
-        return Head {
-            mode,
-            measures: h.measures,
-            rules: h.rules,
-            added,
-            kept: 0,
-            next: h.next,
-            mark: h.mark,
-            based: h.measures,
-            drafted: h.drafted,
-        };
+        r.kept = 0;
+        r.based = h.measures;
+        return r;
     }
-    Head {
-        mode,
-        measures: h.measures,
-        rules: h.rules,
-        added,
-        kept: h.kept,
-        next: h.next,
-        mark: h.mark,
-        based: h.based,
-        drafted: h.drafted,
-    }
+    r
 }
 
 fn join_head(h: Head) -> Head
     ensures { λ r. ⌜ r ≡ joinHead h ⌝ }
 {
-    let mode = Mode::Joining;
-    Head {
-        mode,
-        measures: h.measures,
-        rules: h.rules,
-        added: h.added,
-        kept: h.kept,
-        next: h.next,
-        mark: h.mark,
-        based: h.based,
-        drafted: h.based,
-    }
+    let mut r = heads::in_mode(h, Mode::Joining);
+    r.drafted = h.based;
+    r
 }
 
 // The first split of a whole plan makes side 1's row the base.

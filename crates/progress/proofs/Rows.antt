@@ -1,12 +1,12 @@
 -- A part of an array of values is a row of it. Assumes nothing.
 use Prim.Native.Nat.{ℕ, zero, suc, _+_, _-_, _≤_}
 use native.Mathlib.Omega.{arith}
-use mathlib.Core.Path.{_≡_, refl, sym, ap, ap₂, _∙_}
-use mathlib.Core.List.{List, [], _∷_}
+use mathlib.Core.Path.{_≡_, refl, ap, _∙_}
+use mathlib.Core.List.{List, _∷_}
 use lib.IntN.{ℤ, pos}
 use lib.ListN.{length, getD, take, drop}
 use lib.Seq.{drop-cons}
-use Rattle.rows.specs.Rows.{span, row}
+use Rattle.rows.specs.Rows.{row}
 
 part-row : (vs : List ℤ) (f w : ℕ) → f + w ≤ length vs → take w (drop f vs) ≡ row vs f w
 part-row vs f zero h = refl

@@ -1,29 +1,24 @@
 -- How a run goes on from line to line: the invariant of its loop, and its end. Assumes nothing.
-use Prim.Native.Nat.{ℕ, zero, suc, _+_, _-_, _<_, _≤_, min}
+use Prim.Native.Nat.{ℕ, suc, _+_, _-_, _<_, _≤_}
 use native.Mathlib.Omega.{arith}
-use native.Mathlib.Numerals.{add-one}
-use mathlib.Core.Path.{_≡_, refl, sym, ap, ap₂, _∙_}
-use mathlib.Core.Logic.{_≢_}
-use mathlib.Core.Bool.{Bool, true, false, cond}
+use mathlib.Core.Path.{_≡_, refl, sym, ap, _∙_}
+use mathlib.Core.Bool.{Bool, true, false}
 use mathlib.Core.List.{List, [], _∷_, _++_, append-nil, append-assoc}
-use borrow.Author.Tests.{lt-ltb, le-ltb, le-leb, leb-true, leb-false}
+use borrow.Author.Tests.{lt-ltb, le-ltb, leb-true}
 use borrow.Rule.Slice.PartMut.{putMid}
-use lib.Dec.{leb, ltb}
+use lib.Dec.{leb}
 use lib.ListN.{length, take, drop, length-append, length-take, length-drop, drop-of-length-le, take-append-drop}
 use lib.Seq.{drop-cons, drop-drop, take-all, take-at, drop-at}
-use Rattle.protocol.specs.Plan.{Plan}
-use Rattle.protocol.proofs.Laws.{cases}
 use Rattle.format.specs.Lines.{lineFeed, lines}
 use Rattle.format.specs.Sheets.{text, turn, inFront}
 use Rattle.reader.specs.Cut.{upTo}
-use Rattle.reader.proofs.Cuts.{take-upTo, upTo-length, lines-cut}
+use Rattle.reader.proofs.Cuts.{lines-cut}
 use Rattle.state.specs.declared.State.{State}
 use Rattle.state.specs.View.{view}
 use Rattle.records.specs.Records.{keptOf}
 use Rattle.state.proofs.Views.{Sized}
 use Rattle.tally.specs.declared.Tallies.{Tallies}
 use Rattle.tally.specs.Tallies.{Counted}
-use Rattle.progress.specs.declared.Progress.{Progress}
 use Rattle.progress.specs.Progress.{Ran, behindRan, ran, Advanced}
 
 -- the loop's invariant: the answers written so far, and what is still to come of the whole run

@@ -1,23 +1,22 @@
 -- A line that was read, made on a state: the call that it asks for, and the counts after it. Assumes nothing.
-use Prim.Native.Nat.{ℕ, zero, suc, _+_, _-_, _<_, _≤_, min}
+use Prim.Native.Nat.{ℕ, suc, _-_, _<_, _≤_, min}
 use native.Mathlib.Omega.{arith}
-use mathlib.Core.Path.{_≡_, refl, sym, ap, ap₂, _∙_, subst}
+use mathlib.Core.Path.{_≡_, refl, sym, ap, _∙_, subst}
 use mathlib.Core.Logic.{_≢_}
-use mathlib.Core.Bool.{Bool, true, false, not, cond, _||_}
-use mathlib.Core.List.{List, [], _∷_, _++_}
+use mathlib.Core.Bool.{Bool, true, false, cond}
+use mathlib.Core.List.{List, []}
 use mathlib.Core.Option.{Option, none, some, Option·some-injective, Option·none-ne-some}
-use borrow.Author.Tests.{eqb-true, eqb-false, eq-eqb, ne-eqb, lt-ltb, le-ltb, ltb-true, ltb-false}
-use lib.Dec.{T, eqb, ltb, leb}
-use lib.IntN.{ℤ, pos}
-use lib.ListN.{length, getD, take, drop}
+use borrow.Author.Tests.{eqb-true, eqb-false, ne-eqb, ltb-true, ltb-false}
+use lib.Dec.{eqb, ltb, leb}
+use lib.IntN.{ℤ}
+use lib.ListN.{length, getD}
 use Rattle.protocol.specs.Lists.{natural, count}
-use Rattle.protocol.specs.Plan.{Plan, is, whole, isSettled, measureLimit}
+use Rattle.protocol.specs.Plan.{is, whole, isSettled, measureLimit}
 use Rattle.protocol.specs.Calls as model
 use Rattle.protocol.specs.Calls.{Call, measure, rule, open-plan, split-side, edit, join, send, replay, stop, confirm, install, show, fate-of, left, Verdict, fine, refused, first, checks, step, stepBy, no, ok}
 use Rattle.protocol.proofs.Laws.{cases, passed}
 use Rattle.guarantee.proofs.Kept.{settled-count}
 use Rattle.format.specs.Sheets.{stepOf, text}
-use Rattle.rows.specs.Rows.{span, row}
 use Rattle.rows.proofs.Spans.{length-span}
 use Rattle.state.specs.declared.State.{State}
 use Rattle.state.specs.declared.Answer.{Answer}
@@ -26,7 +25,6 @@ use Rattle.state.specs.declared.Answered.{Answered}
 use Rattle.state.specs.View.{view}
 use Rattle.heads.specs.Heads.{modeOf, keptIn, endIn}
 use Rattle.records.specs.Records.{keptOf, keptAt, noRecord}
-use Rattle.state.specs.Parts.{refusedAs}
 use Rattle.state.specs.Meets.{answerOf, Meets}
 use Rattle.state.proofs.Views.{sides-length, sides-most}
 use Rattle.tally.specs.declared.Tallies.{Tallies}

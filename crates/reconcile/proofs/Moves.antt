@@ -19,13 +19,13 @@ use Rattle.records.specs.declared.EditRecord.{EditRecord}
 use Rattle.heads.specs.declared.Head.{Head}
 use Rattle.heads.specs.declared.Mode.the-variants.{Closing}
 use Rattle.state.specs.declared.State.{State}
-use Rattle.heads.specs.Heads.{modeOf, sidesIn, indexOf, unsetIn}
+use Rattle.heads.specs.Heads.{modeOf, sidesIn, indexOf, unsetIn, inMode}
 use Rattle.records.specs.Records.{keptOf}
 use Rattle.state.specs.View.{view, sideOf}
 use Rattle.state.specs.Meets.{refusalOf, Meets}
 use Rattle.state.proofs.Views.{plan-same, sides-most, sides-length, side-at, sides-modify, flags-unset}
 use Rattle.state.proofs.Steps.{Checked, accepts, stored, flag-set, flag-other}
-use Rattle.turns.specs.Moves.{sendChecks, turnChecks, stopChecks, confirmChecks, installChecks, inMode, installHead}
+use Rattle.turns.specs.Moves.{sendChecks, turnChecks, stopChecks, confirmChecks, installChecks, installHead}
 
 -- ---- the checks of each call
 

@@ -29,7 +29,7 @@ pub fn stop_frame(f: Frame, waiting: u32) -> Moved
     if k != 0 {
         return frames::refuse(f, k);
     }
-    let head = turns::in_mode(h, Mode::Closing);
+    let head = heads::in_mode(h, Mode::Closing);
     let mut g = f;
     g.head = head;
     let answer = Answer::Done;

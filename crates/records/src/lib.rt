@@ -3,7 +3,7 @@ ghost use mathlib.Core.Path.{_≡_};
 ghost use Prim.Native.Nat.{_≤_, _<_};
 ghost use Rattle.protocol.specs.Lists.{bit, count};
 ghost use Rattle.protocol.specs.Plan.{fateNumber};
-ghost use Rattle.records.specs.Records.{fateOf, keptAt, keptOf, noRecord, testOf, recordOf};
+ghost use Rattle.records.specs.Records.{fateOf, keptAt, keptOf, noRecord, withFate, testOf, recordOf};
 use change::Change;
 use heads::Head;
 
@@ -90,6 +90,23 @@ pub fn count(edits: [EditRecord; 256], h: Head, t: Test) -> u32
         i += 1;
     }
     n
+}
+
+// The same with another fate.
+pub fn with_fate(e: EditRecord, fate: Fate) -> EditRecord
+    ensures { λ r. ⌜ r ≡ withFate e fate ⌝ }
+{
+    let change = e.change;
+    EditRecord {
+        change,
+        fate,
+        side: e.side,
+        client: e.client,
+        earlier: e.earlier,
+        measure: e.measure,
+        place: e.place,
+        replied: e.replied,
+    }
 }
 
 pub fn no_record() -> EditRecord

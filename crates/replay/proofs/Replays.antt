@@ -1,37 +1,51 @@
 -- A replay's decision, carried out, is the protocol's step. Assumes nothing.
-use Prim.Native.Nat.{ℕ, zero, suc, min, _+_, _-_, _<_, _≤_}
+use Prim.Native.Nat.{ℕ, min, _+_, _-_}
 use native.Mathlib.Omega.{arith}
 use native.Mathlib.Numerals.{add-one}
 use mathlib.Core.Bool.{Bool, true, false, not, cond, _&&_}
 use mathlib.Core.Path.{_≡_, refl, sym, ap, _∙_}
-use mathlib.Core.Logic.{_⊎_, inl, inr}
+use mathlib.Core.Logic.{inl, inr}
 use mathlib.Core.List.{List, [], _∷_}
 use lib.IntN.{ℤ, pos}
-use lib.Dec.{T, eqb, eqb·suc-zero}
 use lib.ListN.{length, getD, set}
 use lib.Seq.{set-getD}
-use Rattle.protocol.specs.Lists.{natural, oneTo, count, modify}
+use Rattle.protocol.specs.Lists.{natural, oneTo, count}
 use Rattle.protocol.specs.Plan as model
-use Rattle.protocol.specs.Plan.{isWaiting, isSettled, effective, fits, holds, made, applied, value, lookup, absentEdit, sideAt, sidesThat}
+use Rattle.protocol.specs.Plan.{isSettled, effective, fits, made, applied, value}
 use Rattle.protocol.specs.Calls.{Call, replay, Check, Verdict, fine, refused, first, checks, further, replayable, settled, outcome, update, nextPlace, after, gives, ok, stepBy, step}
 use Rattle.protocol.proofs.Laws.{cases, is-yes, range, Fine, Pass, passed}
 use Rattle.change.specs.Change.{viewChange}
 use Rattle.rows.specs.Rows.{row}
-use Rattle.rules.specs.Rules.{withValue, holdsIn}
 use Rattle.rows.proofs.Spans.{length-span}
 use Rattle.rules.proofs.Rows.{made-with, modify-out, holds-is, row-set}
 use Rattle.records.specs.declared.EditRecord.{EditRecord}
 use Rattle.heads.specs.declared.Head.{Head}
 use Rattle.state.specs.declared.State.{State}
-use Rattle.heads.specs.Heads.{modeOf, sidesIn, indexOf, keptIn, endIn, positionOf, placeOf, unsetIn}
-use Rattle.records.specs.Records.{keptAt, logOf, keptOf, noRecord, recordOf}
-use Rattle.state.specs.View.{view, sideOf, rulesOf}
+use Rattle.heads.specs.Heads.{modeOf, sidesIn, keptIn, endIn, positionOf, placeOf, unsetIn}
+use Rattle.records.specs.Records.{keptAt, keptOf, noRecord, recordOf}
+use Rattle.state.specs.View.{view}
 use Rattle.state.specs.Parts.{namedIn}
 use Rattle.state.specs.Meets.{answerOf, SameIfRefused, Meets}
-use Rattle.state.proofs.Views.{Sized, plan-same, flags-unset, lookup-named}
+use Rattle.state.proofs.Views.{Sized, plan-same, flags-unset, lookup-named, seat-found, named-found}
 use Rattle.records.proofs.Logs.{Placed, placed, log-modify}
 use Rattle.settling.specs.declared.Decision.{Decision}
 use Rattle.settling.specs.Replays.{replayChecks, draftIn, effectiveIn, draftOutcome, settledBy, replayOutcome, settledRecord, replayDecision, pointOf, slotIn, replayIn, stored}
+
+-- from what each step of a replay gave, in the code's order, to the decision in the state and the places of its stores
+pub replay-decided : (p : State) (n : ℤ) {n′ old : ℤ} {number i slot i′ seat missing settled point : ℕ} {e earlier : EditRecord} {d : Decision}
+    → n′ ≡ n → number ≡ natural n′ → i ≡ positionOf (endIn (p .head)) (keptIn (p .head)) number → slot ≡ placeOf i → e ≡ recordOf i (getD (p .edits) slot noRecord)
+    → i′ ≡ positionOf (endIn (p .head)) (keptIn (p .head)) (e .earlier) → seat ≡ placeOf i′ → earlier ≡ recordOf i′ (getD (p .edits) seat noRecord)
+    → missing ≡ unsetIn (p .arrived) (sidesIn (p .head)) → settled ≡ count isSettled (keptOf (p .head) (p .edits)) → point ≡ pointOf (e .measure) → old ≡ getD (p .draft) point (pos 0)
+    → d ≡ replayDecision (replayOutcome (p .head) (p .lower) (p .gap) (p .upper) (p .draft) missing e earlier old) (getD (p .edits) slot noRecord) old (settled + 1)
+    → (d ≡ replayIn p (natural n)) × (point ≡ pointOf (namedIn p (natural n) .measure)) × (slot ≡ slotIn p (natural n))
+replay-decided p n to-n number-is position-is slot-is e-is position-is′ seat-is earlier-is missing-is settled-is point-is old-is d-is =
+    let number = number-is ∙ ap natural to-n in
+    let slot = seat-found p number position-is slot-is in
+    let e = named-found p number position-is slot-is e-is in
+    let earlier = named-found p (ap (λ r. r .earlier) e) position-is′ seat-is earlier-is in
+    let point = point-is ∙ ap (λ r. pointOf (r .measure)) e in
+    let old = old-is ∙ ap (λ j. getD (p .draft) j (pos 0)) point in
+    (d-is ∙ (λ j. replayDecision (replayOutcome (p .head) (p .lower) (p .gap) (p .upper) (p .draft) (missing-is j) (e j) (earlier j) (old j)) (getD (p .edits) (slot j) noRecord) (old j) (settled-is j + 1)), point, slot)
 
 module _ (p : State) (z : Sized p) (n : ℤ) where
   abbrev h : Head

@@ -204,32 +204,13 @@ fn edit_head(h: Head) -> Head
     ensures { λ r. ⌜ r ≡ editHead h ⌝ }
 {
     let mode = h.mode;
-    let next = rows::capped(h.next, 999999) as u32 + 1;
+    let mut r = h;
+    r.next = rows::capped(h.next, 999999) as u32 + 1;
     if is_whole(mode) {
-        return Head {
-            mode,
-            measures: h.measures,
-            rules: h.rules,
-            added: h.added,
-            kept: h.kept,
-            next,
-            mark: h.mark,
-            based: h.based,
-            drafted: h.drafted,
-        };
+        return r;
     }
-    let kept = rows::capped(h.kept, 255) as u32 + 1;
-    Head {
-        mode,
-        measures: h.measures,
-        rules: h.rules,
-        added: h.added,
-        kept,
-        next,
-        mark: h.mark,
-        based: h.based,
-        drafted: h.drafted,
-    }
+    r.kept = rows::capped(h.kept, 255) as u32 + 1;
+    r
 }
 
 // The record that is kept, or what stands there in a whole plan.

@@ -13,6 +13,7 @@ use Rattle.change.specs.Change.{viewChange}
 use Rattle.rows.specs.Rows.{row}
 use Rattle.rules.specs.Rules.{holdsIn}
 use Rattle.records.specs.declared.EditRecord.{EditRecord}
+use Rattle.records.specs.declared.Fate.{Fate}
 use Rattle.records.specs.declared.Fate.the-variants.{Accepted, Revoked}
 use Rattle.heads.specs.declared.Head.{Head}
 use Rattle.state.specs.declared.State.{State}
@@ -57,9 +58,12 @@ replayOutcome h lower gap upper draft missing e earlier old =
 
 -- ---- what is decided and stored
 
+abbrev pub settledFate : Bool → Fate
+settledFate b = cond b Accepted Revoked
+
 abbrev pub settledRecord : EditRecord → Bool → ℕ → EditRecord
 settledRecord e b place =
-    record { change = e .change; fate = cond b Accepted Revoked; side = e .side; client = e .client; earlier = e .earlier; measure = e .measure; place = place; replied = e .replied }
+    record { change = e .change; fate = settledFate b; side = e .side; client = e .client; earlier = e .earlier; measure = e .measure; place = place; replied = e .replied }
 
 abbrev pub replayDecision : Outcome → EditRecord → ℤ → ℕ → Decision
 replayDecision (Denied k) standing old place = record { amount = old; entry = standing; answer = Refused k }

@@ -4,7 +4,7 @@ ghost use Prim.Native.Nat.{_<_};
 ghost use Rattle.protocol.specs.Plan.{isWaiting};
 ghost use Rattle.protocol.specs.Calls.{replay};
 ghost use Rattle.records.specs.Records.{keptAt};
-ghost use Rattle.settling.specs.Replays.{draftOutcome, replayOutcome, settledRecord, replayDecision};
+ghost use Rattle.settling.specs.Replays.{draftOutcome, replayOutcome, settledFate, settledRecord, replayDecision};
 use change::Change;
 use heads::Head;
 use records::EditRecord;
@@ -90,34 +90,21 @@ fn replay_outcome<'a>(
     try_draft(h, lower, gap, upper, draft, e.measure, change, old)
 }
 
+fn settled_fate(accepted: bool) -> Fate
+    ensures { λ r. ⌜ r ≡ settledFate accepted ⌝ }
+{
+    if accepted {
+        return Fate::Accepted;
+    }
+    Fate::Revoked
+}
+
 fn settled_record(e: EditRecord, accepted: bool, place: u32) -> EditRecord
     ensures { λ r. ⌜ r ≡ settledRecord e accepted place ⌝ }
 {
-    let change = e.change;
-    if accepted {
-        let fate = Fate::Accepted;
-        return EditRecord {
-            change,
-            fate,
-            side: e.side,
-            client: e.client,
-            earlier: e.earlier,
-            measure: e.measure,
-            place,
-            replied: e.replied,
-        };
-    }
-    let fate = Fate::Revoked;
-    EditRecord {
-        change,
-        fate,
-        side: e.side,
-        client: e.client,
-        earlier: e.earlier,
-        measure: e.measure,
-        place,
-        replied: e.replied,
-    }
+    let mut r = records::with_fate(e, settled_fate(accepted));
+    r.place = place;
+    r
 }
 
 fn replay_decision(outcome: Outcome, standing: EditRecord, old: i32, place: u32) -> Decision

@@ -32,8 +32,5 @@ installChecks h missing waiting = turnChecks h (modeNumber closing) 40 missing w
 
 -- ---- heads
 
-abbrev pub inMode : Head → Mode → Head
-inMode h m = record { mode = m; measures = h .measures; rules = h .rules; added = h .added; kept = h .kept; next = h .next; mark = h .mark; based = h .based; drafted = h .drafted }
-
 abbrev pub installHead : Head → Head
 installHead h = record { mode = Whole; measures = h .drafted; rules = h .rules; added = h .added; kept = h .kept; next = h .next; mark = h .next; based = h .based; drafted = h .drafted }

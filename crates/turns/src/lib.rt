@@ -5,7 +5,7 @@ ghost use Prim.Native.Nat.{ℕ};
 ghost use Rattle.protocol.specs.Calls.{stop, install, sent, first};
 ghost use Rattle.records.specs.Records.{keptAt, keptOf};
 ghost use Rattle.state.specs.Meets.{refusalOf};
-ghost use Rattle.turns.specs.Moves.{sendChecks, turnChecks, stopChecks, confirmChecks, installChecks, inMode, installHead};
+ghost use Rattle.turns.specs.Moves.{sendChecks, turnChecks, stopChecks, confirmChecks, installChecks, installHead};
 use heads::Head;
 use heads::Mode;
 use records::EditRecord;
@@ -87,38 +87,14 @@ pub fn install_refusal(h: Head, missing: u32, waiting: u32) -> u32
 
 // ---- heads
 
-pub fn in_mode(h: Head, mode: Mode) -> Head
-    ensures { λ r. ⌜ r ≡ inMode h mode ⌝ }
-{
-    Head {
-        mode,
-        measures: h.measures,
-        rules: h.rules,
-        added: h.added,
-        kept: h.kept,
-        next: h.next,
-        mark: h.mark,
-        based: h.based,
-        drafted: h.drafted,
-    }
-}
-
 // The kept edits' numbers go on ending below the next number of now.
 pub fn install_head(h: Head) -> Head
     ensures { λ r. ⌜ r ≡ installHead h ⌝ }
 {
-    let mode = Mode::Whole;
-    Head {
-        mode,
-        measures: h.drafted,
-        rules: h.rules,
-        added: h.added,
-        kept: h.kept,
-        next: h.next,
-        mark: h.next,
-        based: h.based,
-        drafted: h.drafted,
-    }
+    let mut r = heads::in_mode(h, Mode::Whole);
+    r.measures = h.drafted;
+    r.mark = h.next;
+    r
 }
 
 // ---- kept edits
@@ -130,18 +106,9 @@ fn sent_record(e: EditRecord, s: u32) -> EditRecord
     if records::satisfies(e, Test::UnsentOf(s)) == 0 {
         return e;
     }
-    let change = e.change;
-    let fate = Fate::Waiting;
-    EditRecord {
-        change,
-        fate,
-        side: e.side,
-        client: e.client,
-        earlier: e.earlier,
-        measure: e.measure,
-        place: e.place,
-        replied: true,
-    }
+    let mut r = records::with_fate(e, Fate::Waiting);
+    r.replied = true;
+    r
 }
 
 pub fn mark_sent(edits: [EditRecord; 256], h: Head, s: u32) -> [EditRecord; 256]

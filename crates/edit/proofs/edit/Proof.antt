@@ -1,20 +1,10 @@
 use native.Mathlib.Omega.{arith}
-use Prim.Native.Nat.{_<_, min}
-use mathlib.Core.Path.{_≡_, sym, ap, _∙_, subst}
 use lib.IntN.{pos}
 use lib.ListN.{getD}
 use mir.Facts.{toZ-ofZ}
 use Rattle.exact.proofs.Ints.{fits32}
-use Rattle.protocol.specs.Lists.{natural}
-use Rattle.protocol.specs.Calls.{edit}
-use Rattle.heads.specs.Heads.{endIn, keptIn, positionOf, placeOf}
-use Rattle.records.specs.Records.{noRecord, recordOf}
-use Rattle.state.specs.Parts.{namedIn}
-use Rattle.state.specs.Meets.{Meets}
 use Rattle.state.proofs.Views.{owned-sized}
-use Rattle.ruling.specs.declared.Decision.{Decision}
-use Rattle.ruling.specs.Edits.{editRuling, editDecision, spotOf, slotOf, editIn}
-use Rattle.edit.proofs.Edits.{edit-meets}
+use Rattle.edit.proofs.Edits.{edit-decided, edit-meets}
 use borrow.Author.Needs.{needs}
 use Rattle.edit.proofs.edit.Statement.{statement}
 use Rattle.edit.proofs.edit.Tie as tie
@@ -96,27 +86,12 @@ returns : tie.Need-returns
 returns c =
     let s = (c .before .before .before .before .before .before .before .before .before .before .before .before .before .before .before .before .before .before .before .before .before .before .before .before) in
     let p = s .args .t1 in
-    let client = toZ-ofZ (s .fits .client) in
-    let after = toZ-ofZ (s .fits .after) in
-    let constant = toZ-ofZ (s .fits .constant) in
-    let number = (c .before .before .before .before .before .before .before .before .before .before .before .before .before .before .before .before .before .before .before .before .before .before .number .ensures) ∙ ap natural after in
-    let position = (c .before .before .before .before .before .before .before .before .before .before .before .before .before .before .before .before .before .before .before .before .before .position .ensures .0) ∙ ap (positionOf (endIn (p .head)) (keptIn (p .head))) number in
-    let seat = (c .before .before .before .before .before .before .before .before .before .before .before .before .before .before .before .before .before .before .before .before .place .ensures .0) ∙ ap placeOf position in
-    let named : (c .before .before .before .before .before .before .before .before .before .before .before .before .before .before .before .before .before .before .found .result) ≡ namedIn p (natural (s .args .after)) = (c .before .before .before .before .before .before .before .before .before .before .before .before .before .before .before .before .before .before .found .ensures) ∙ (λ j. recordOf (position j) (getD (p .edits) (seat j) noRecord)) in
-    let side = (c .before .before .before .before .before .before .before .before .before .before .before .before .before .before .before .before .before .number2 .ensures) ∙ ap natural (toZ-ofZ (s .fits .s)) in
-    let measure = (c .before .before .before .before .before .before .before .before .before .before .before .before .before .before .before .before .number3 .ensures) ∙ ap natural (toZ-ofZ (s .fits .m)) in
-    let kind = (c .before .before .before .before .number4 .ensures) ∙ ap natural (toZ-ofZ (s .fits .kind)) in
-    let spot = (c .before .before .before .before .before .before .before .before .before .before .before .before .before .before .before .spot .ensures .0) ∙ (λ j. spotOf (side j) (measure j)) in
-    let slot = (c .before .before .before .before .before .before .before .before .before .before .before .before .before .before .capped .ensures) in
-    let old = toZ-ofZ (fits32 (getD (p .values) ((c .before .before .before .before .before .before .before .before .before .before .before .before .before .before .before .spot .result)) (pos 0)) ((c .before .before .before .before .before .before .before .before .before .before .before .before .before .old .given))) ∙ ap (λ j. getD (p .values) j (pos 0)) spot in
-    let standing = ap (λ j. getD (p .edits) j noRecord) slot in
     let d = (c .before .before .before .decide-edit .result) in
-    let e : d ≡ editIn p (natural (s .args .s)) (s .args .client) (s .args .after) (natural (s .args .m)) (natural (s .args .kind)) (s .args .constant) =
-    (c .before .before .before .decide-edit .ensures)
-    ∙ (λ j. editDecision (p .head) (editRuling (p .head) (p .lower) (p .gap) (p .upper) (p .firm) (p .values) (named j) (side j) (client j) (after j) (measure j) (kind j) (constant j)) (old j) (standing j) (side j) (natural (client j)) (natural (after j)) (measure j))
-    in
+    let g = edit-decided p (s .args .s) (s .args .client) (s .args .after) (s .args .m) (s .args .kind) (s .args .constant) (toZ-ofZ (s .fits .s)) (toZ-ofZ (s .fits .client)) (toZ-ofZ (s .fits .after)) (toZ-ofZ (s .fits .m)) (toZ-ofZ (s .fits .kind)) (toZ-ofZ (s .fits .constant))
+        (c .before .before .before .before .before .before .before .before .before .before .before .before .before .before .before .before .before .before .before .before .before .before .number .ensures) (c .before .before .before .before .before .before .before .before .before .before .before .before .before .before .before .before .before .before .before .before .before .position .ensures .0) (c .before .before .before .before .before .before .before .before .before .before .before .before .before .before .before .before .before .before .before .before .place .ensures .0) (c .before .before .before .before .before .before .before .before .before .before .before .before .before .before .before .before .before .before .found .ensures) (c .before .before .before .before .before .before .before .before .before .before .before .before .before .before .before .before .before .number2 .ensures) (c .before .before .before .before .before .before .before .before .before .before .before .before .before .before .before .before .number3 .ensures) (c .before .before .before .before .before .before .before .before .before .before .before .before .before .before .before .spot .ensures .0) (c .before .before .before .before .before .before .before .before .before .before .before .before .before .before .capped .ensures)
+        (toZ-ofZ (fits32 (getD (p .values) ((c .before .before .before .before .before .before .before .before .before .before .before .before .before .before .before .spot .result)) (pos 0)) ((c .before .before .before .before .before .before .before .before .before .before .before .before .before .old .given)))) (c .before .before .before .before .number4 .ensures) (c .before .before .before .decide-edit .ensures) in
     let value = toZ-ofZ (fits32 (d .value) ((c .before .struct-told .given .1 .0 .1))) in
-    rw (value, spot, slot, e) (edit-meets p (owned-sized p (s .good .0)) (s .args .s) (s .args .client) (s .args .after) (s .args .m) (s .args .kind) (s .args .constant))
+    rw (value, g .1, g .2, g .0) (edit-meets p (owned-sized p (s .good .0)) (s .args .s) (s .args .client) (s .args .after) (s .args .m) (s .args .kind) (s .args .constant))
 
 pub edit-spec : {M : Type 1} → statement M
 edit-spec =

@@ -1,8 +1,6 @@
-use mathlib.Core.Path.{_≡_, subst}
 use Rattle.protocol.specs.Calls.{join}
 use Rattle.frames.specs.Frames.{Anything}
 use Rattle.frames.proofs.Placing.{placed-meets}
-use mathlib.Core.Path.{_≡_, sym, ap, _∙_, subst}
 use borrow.Author.Needs.{needs}
 use Rattle.part.proofs.join.Statement.{statement}
 use Rattle.part.proofs.join.Tie as tie

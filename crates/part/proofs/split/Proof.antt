@@ -1,9 +1,9 @@
-use mathlib.Core.Path.{_≡_, subst}
+use mathlib.Core.Path.{subst}
 use Rattle.protocol.specs.Calls.{split-side}
 use Rattle.frames.specs.Frames.{Anything, Moves}
 use Rattle.frames.proofs.Placing.{placed-meets}
 use mir.Facts.{toZ-ofZ}
-use mathlib.Core.Path.{_≡_, sym, ap, _∙_, subst}
+use mathlib.Core.Path.{subst}
 use borrow.Author.Needs.{needs}
 use Rattle.part.proofs.split.Statement.{statement}
 use Rattle.part.proofs.split.Tie as tie

@@ -1,22 +1,21 @@
-use Prim.Native.Nat.{ℕ, _+_, _*_, _-_, _<_, _≤_, min}
+use Prim.Native.Nat.{ℕ, _+_, _*_, _-_, _<_, _≤_}
 use native.Mathlib.Omega.{arith}
-use mathlib.Core.Path.{_≡_, refl, sym, ap, ap₂, _∙_, subst}
-use mathlib.Core.Logic.{_⊎_, inl, inr}
+use mathlib.Core.Path.{_≡_, refl, sym, ap, _∙_, subst}
 use mathlib.Core.Bool.{Bool, true, false, not, cond}
-use mathlib.Core.List.{List, [], _∷_, _++_}
-use mathlib.Core.Option.{Option, none, some}
+use mathlib.Core.List.{List, [], _++_}
+use mathlib.Core.Option.{Option}
 use borrow.Author.Needs.{needs}
 use borrow.Author.Tests.{leb-true}
 use borrow.Rule.Slice.PartMut.{putMid}
 use lib.Dec.{T, eqb, leb}
-use lib.IntN.{ℤ, pos}
+use lib.IntN.{pos}
 use lib.ListN.{length, getD, set, take, drop, length-set, length-drop, take-append-drop}
 use mir.Syntax.{w32, w64}
 use mir.Val.{toZ, ofZ, Fits}
 use mir.Facts.{toZ-ofZ, fits-below, fits-le}
 use Rattle.exact.proofs.Ints.{fits32}
-use Rattle.protocol.specs.Lists.{natural, count, oneTo}
-use Rattle.protocol.specs.Plan.{is, whole, isSettled, unsentOf}
+use Rattle.protocol.specs.Lists.{natural, oneTo}
+use Rattle.protocol.specs.Plan.{is, whole, unsentOf}
 use Rattle.protocol.specs.Calls.{Call, edit, replay, send}
 use Rattle.protocol.proofs.Laws.{on, range}
 use Rattle.format.specs.Lines.{lineFeed, lineCall}
@@ -27,9 +26,7 @@ use Rattle.state.specs.View.{view}
 use Rattle.heads.specs.Heads.{modeOf, endIn, keptIn, sidesIn, indexOf}
 use Rattle.records.specs.Records.{keptOf, noRecord}
 use Rattle.heads.specs.Heads.{positionOf, placeOf}
-use Rattle.records.specs.Records.{recordOf}
-use Rattle.state.specs.Parts.{namedIn}
-use Rattle.state.specs.Meets.{Meets, answerOf}
+use Rattle.state.specs.Meets.{answerOf}
 use Rattle.format.specs.Sheets.{text, turn, stepOf, inFront}
 use Rattle.writer.specs.Writes.{withRow, lineOf}
 use Rattle.state.proofs.Views.{Sized, owned-sized, unmapped, sides-most}
@@ -38,14 +35,13 @@ use Rattle.frames.specs.Frames.{frameOf, around, Moves}
 use Rattle.reconcile.specs.Sends.{Sends}
 use Rattle.dispatch.specs.Rare.{moveCall, Counts}
 use Rattle.ruling.specs.declared.Decision.{Decision}
-use Rattle.ruling.specs.Edits.{editRuling, editDecision, spotOf, slotOf, editIn, stored}
-use Rattle.edit.proofs.Edits.{whole-edit, whole-stored, edit-meets}
-use Rattle.settling.specs.Replays.{replayOutcome, replayDecision, pointOf, slotIn, replayIn}
+use Rattle.ruling.specs.Edits.{spotOf, slotOf, editIn, stored}
+use Rattle.edit.proofs.Edits.{edit-decided, whole-edit, whole-stored, edit-meets}
 use Rattle.settling.specs.Replays as replaying
 use Rattle.settling.specs.declared.Decision as replaying-decision
-use Rattle.replay.proofs.Replays.{replay-meets}
-use Rattle.reads.specs.Readings.{readCall, readingOf}
-use Rattle.reads.proofs.Right.{readingIn, placeIn, reading-right, reading-bounds}
+use Rattle.replay.proofs.Replays.{replay-decided, replay-meets}
+use Rattle.reads.specs.Readings.{readingOf}
+use Rattle.reads.proofs.Right.{readingIn, reading-right, reading-bounds}
 use Rattle.reader.specs.Cut.{upTo}
 use Rattle.reader.specs.Reads.{lineIn}
 use Rattle.reader.proofs.Cuts.{upTo-length}
@@ -55,7 +51,7 @@ use Rattle.tally.specs.Tallies.{Counted, tallyAfter}
 use Rattle.tally.proofs.Counts.{tallied-long}
 use Rattle.progress.specs.Progress.{movedOp, Advanced}
 use Rattle.progress.proofs.Running.{Going, over, paused, unfit, next-line, begins, lent-rest, put-back}
-use Rattle.progress.proofs.Turning.{line-edit, line-replay, line-none, line-reads, line-send, line-moves, line-draws, settled-few, Made, meets-made, none-made, performs-made, counted-made, kept-most, text-some, fitted-put, unfitted-put}
+use Rattle.progress.proofs.Turning.{line-edit, line-replay, line-none, line-reads, line-send, line-moves, line-draws, settled-few, Made, meets-made, none-made, performs-made, counted-made, text-some, fitted-put, unfitted-put}
 use Rattle.progress.proofs.Rows.{lent-row}
 use Rattle.progress.proofs.go.Statement.{statement}
 use Rattle.progress.proofs.go.Tie as tie
@@ -177,27 +173,9 @@ edit-is c =
     let p = (c .before .before .before .before .before .before .before .before .before .before .before .before .before .before .before .before .before .before .before .before .before .before .before .before .before .before .before .before .before .before .before .before .before .before .before .before .before .before .loop .p) in
     let l = (c .before .before .before .before .before .before .before .before .before .before .before .before .before .before .before .before .before .before .before .before .before .before .before .before .before .before .before .before .before .before .before .before .before .before .read-line .result) in
     let t = (c .before .before .before .before .before .before .before .before .before .before .before .before .before .before .before .before .before .before .before .before .before .before .before .before .before .before .before .before .before .before .before .before .struct-told .given) in
-    let a = toZ-ofZ (fits32 (l .a) (t .1 .0 .1)) in
-    let client = toZ-ofZ (fits32 (l .b) (t .1 .1 .0 .1)) in
-    let after = toZ-ofZ (fits32 (l .c) (t .1 .1 .1 .0 .1)) in
-    let constant = toZ-ofZ (fits32 (l .f) (t .1 .1 .1 .1 .1 .1 .0 .1)) in
-    let number = (c .before .before .before .before .before .before .before .before .before .before .before .before .before .before .before .before .before .before .before .before .before .before .before .before .before .before .number2 .ensures) ∙ ap natural after in
-    let position = (c .before .before .before .before .before .before .before .before .before .before .before .before .before .before .before .before .before .before .before .before .before .before .before .before .before .position .ensures .0) ∙ ap (positionOf (endIn (p .head)) (keptIn (p .head))) number in
-    let seat = (c .before .before .before .before .before .before .before .before .before .before .before .before .before .before .before .before .before .before .before .before .before .before .before .before .place .ensures .0) ∙ ap placeOf position in
-    let named : (c .before .before .before .before .before .before .before .before .before .found .result) ≡ namedIn p (natural (l .c)) = (c .before .before .before .before .before .before .before .before .before .found .ensures) ∙ (λ j. recordOf (position j) (getD (p .edits) (seat j) noRecord)) in
-    let side = (c .before .before .before .before .before .before .before .before .before .before .before .before .before .before .before .before .before .before .before .before .before .before .before .before .before .before .before .before .before .before .before .number .ensures) ∙ ap natural a in
-    let measure = (c .before .before .before .before .before .before .before .before .before .before .before .before .before .before .before .before .before .before .before .before .before .number3 .ensures) ∙ ap natural (toZ-ofZ (fits32 (l .d) (t .1 .1 .1 .1 .0 .1))) in
-    let kind = (c .before .before .before .before .before .before .before .number4 .ensures) ∙ ap natural (toZ-ofZ (fits32 (l .e) (t .1 .1 .1 .1 .1 .0 .1))) in
-    let spot = (c .before .before .before .before .before .before .before .before .before .before .before .before .before .before .before .before .before .before .before .before .spot .ensures .0) ∙ (λ j. spotOf (side j) (measure j)) in
-    let slot = (c .before .before .before .before .before .before .before .before .before .before .before .before .before .before .before .before .before .before .before .capped .ensures) in
-    let old = toZ-ofZ (fits32 (getD (p .values) ((c .before .before .before .before .before .before .before .before .before .before .before .before .before .before .before .before .before .before .before .before .spot .result)) (pos 0)) ((c .before .before .before .before .before .before .before .before .before .before .before .before .before .before .before .before .before .before .old .given))) ∙ ap (λ j. getD (p .values) j (pos 0)) spot in
-    let standing = ap (λ j. getD (p .edits) j noRecord) slot in
-    let d = (c .before .before .before .decide-edit .result) in
-    let e : d ≡ editIn p (natural (l .a)) (l .b) (l .c) (natural (l .d)) (natural (l .e)) (l .f) =
-    (c .before .before .before .decide-edit .ensures)
-    ∙ (λ j. editDecision (p .head) (editRuling (p .head) (p .lower) (p .gap) (p .upper) (p .firm) (p .values) (named j) (side j) (client j) (after j) (measure j) (kind j) (constant j)) (old j) (standing j) (side j) (natural (client j)) (natural (after j)) (measure j))
-    in
-    (e, spot, slot)
+    edit-decided p (l .a) (l .b) (l .c) (l .d) (l .e) (l .f) (toZ-ofZ (fits32 (l .a) (t .1 .0 .1))) (toZ-ofZ (fits32 (l .b) (t .1 .1 .0 .1))) (toZ-ofZ (fits32 (l .c) (t .1 .1 .1 .0 .1))) (toZ-ofZ (fits32 (l .d) (t .1 .1 .1 .1 .0 .1))) (toZ-ofZ (fits32 (l .e) (t .1 .1 .1 .1 .1 .0 .1))) (toZ-ofZ (fits32 (l .f) (t .1 .1 .1 .1 .1 .1 .0 .1)))
+    (c .before .before .before .before .before .before .before .before .before .before .before .before .before .before .before .before .before .before .before .before .before .before .before .before .before .before .number2 .ensures) (c .before .before .before .before .before .before .before .before .before .before .before .before .before .before .before .before .before .before .before .before .before .before .before .before .before .position .ensures .0) (c .before .before .before .before .before .before .before .before .before .before .before .before .before .before .before .before .before .before .before .before .before .before .before .before .place .ensures .0) (c .before .before .before .before .before .before .before .before .before .found .ensures) (c .before .before .before .before .before .before .before .before .before .before .before .before .before .before .before .before .before .before .before .before .before .before .before .before .before .before .before .before .before .before .before .number .ensures) (c .before .before .before .before .before .before .before .before .before .before .before .before .before .before .before .before .before .before .before .before .before .number3 .ensures) (c .before .before .before .before .before .before .before .before .before .before .before .before .before .before .before .before .before .before .before .before .spot .ensures .0) (c .before .before .before .before .before .before .before .before .before .before .before .before .before .before .before .before .before .before .before .capped .ensures)
+    (toZ-ofZ (fits32 (getD (p .values) ((c .before .before .before .before .before .before .before .before .before .before .before .before .before .before .before .before .before .before .before .before .spot .result)) (pos 0)) ((c .before .before .before .before .before .before .before .before .before .before .before .before .before .before .before .before .before .before .old .given)))) (c .before .before .before .before .before .before .before .number4 .ensures) (c .before .before .before .decide-edit .ensures)
 
 edit-arm : (c : tie.After-entry Inv-loop μ-loop) → let p = (c .before .before .before .before .before .before .before .before .before .before .before .before .before .before .before .before .before .before .before .before .before .before .before .before .before .before .before .before .before .before .before .before .before .before .before .before .before .before .loop .p) in let d = (c .before .before .before .decide-edit .result) in
     let q = stored p ((c .before .before .before .before .before .before .before .before .before .before .before .before .before .before .before .before .before .before .before .before .spot .result)) ((c .before .before .before .before .before .before .before .before .before .before .before .before .before .before .before .before .before .before .before .capped .result)) (record { head = d .head; value = toZ w32 (ofZ w32 (d .value)); entry = d .entry; answer = d .answer }) in
@@ -230,25 +208,12 @@ replay-arm : (c : tie.After-entry2 Inv-loop μ-loop) → let p = (c .before .bef
 replay-arm c =
     let p = (c .before .before .before .before .before .before .before .before .before .before .before .before .before .before .before .before .before .before .before .before .before .before .before .before .before .before .before .before .before .before .before .before .before .before .loop .p) in
     let l = (c .before .before .before .before .before .before .before .before .before .before .before .before .before .before .before .before .before .before .before .before .before .before .before .before .before .before .before .before .before .before .read-line .result) in
-    let number = (c .before .before .before .before .before .before .before .before .before .before .before .before .before .before .before .before .before .before .before .before .before .before .before .before .before .before .before .number .ensures) ∙ ap natural (toZ-ofZ (fits32 (l .a) ((c .before .before .before .before .before .before .before .before .before .before .before .before .before .before .before .before .before .before .before .before .before .before .before .before .before .before .before .before .struct-told .given .1 .0 .1)))) in
-    let position = (c .before .before .before .before .before .before .before .before .before .before .before .before .before .before .before .before .before .before .before .before .before .before .position2 .ensures .0) ∙ ap (positionOf (endIn (p .head)) (keptIn (p .head))) number in
-    let slot = (c .before .before .before .before .before .before .before .before .before .before .before .before .before .before .before .before .before .before .before .before .before .place2 .ensures .0) ∙ ap placeOf position in
-    let e : (c .before .before .before .before .before .before .before .before .before .before .before .before .before .before .before .before .before .before .before .found2 .result) ≡ namedIn p (natural (l .a)) = (c .before .before .before .before .before .before .before .before .before .before .before .before .before .before .before .before .before .before .before .found2 .ensures) ∙ (λ j. recordOf (position j) (getD (p .edits) (slot j) noRecord)) in
-    let position2 = (c .before .before .before .before .before .before .before .before .before .before .before .before .before .before .before .before .before .before .position3 .ensures .0) ∙ ap (λ r. positionOf (endIn (p .head)) (keptIn (p .head)) (r .earlier)) e in
-    let seat = (c .before .before .before .before .before .before .before .before .before .before .before .before .before .before .before .before .before .place3 .ensures .0) ∙ ap placeOf position2 in
-    let earlier : (c .before .before .before .before .before .before .before .before .before .before .before .before .before .before .before .found3 .result) ≡ namedIn p (namedIn p (natural (l .a)) .earlier) = (c .before .before .before .before .before .before .before .before .before .before .before .before .before .before .before .found3 .ensures) ∙ (λ j. recordOf (position2 j) (getD (p .edits) (seat j) noRecord)) in
-    let missing = (c .before .before .before .before .before .before .before .before .before .before .before .before .unset .ensures .0) in
-    let settled : (c .before .before .before .before .before .before .before .before .before .before .before .capped2 .result) ≡ count isSettled (keptOf (p .head) (p .edits)) = (c .before .before .before .before .before .before .before .before .before .before .before .capped2 .ensures) ∙ settled-few p ((c .before .before .before .before .before .before .before .before .before .before .before .before .before .before .before .before .before .before .before .before .before .before .before .before .before .before .before .before .before .before .before .before .before .before .loop .t)) ((c .before .before .before .before .before .before .before .before .before .before .before .before .before .before .before .before .before .before .before .before .before .before .before .before .before .before .before .before .before .before .before .before .before .before .loop .inv .counted)) in
-    let place = ap (λ k. k + 1) settled in
-    let point = (c .before .before .before .before .before .before .before .before .before .before .point .ensures .0) ∙ ap (λ r. pointOf (r .measure)) e in
-    let old = toZ-ofZ (fits32 (getD (p .draft) ((c .before .before .before .before .before .before .before .before .before .before .point .result)) (pos 0)) ((c .before .before .before .before .before .before .before .before .before .old2 .given))) ∙ ap (λ j. getD (p .draft) j (pos 0)) point in
     let d = (c .before .before .decide-replay .result) in
-    let same : d ≡ replayIn p (natural (l .a)) =
-    (c .before .before .decide-replay .ensures)
-    ∙ (λ j. replayDecision (replayOutcome (p .head) (p .lower) (p .gap) (p .upper) (p .draft) (missing j) (e j) (earlier j) (old j)) (getD (p .edits) (slot j) noRecord) (old j) (place j))
-    in
+    let g = replay-decided p (l .a) (toZ-ofZ (fits32 (l .a) ((c .before .before .before .before .before .before .before .before .before .before .before .before .before .before .before .before .before .before .before .before .before .before .before .before .before .before .before .before .struct-told .given .1 .0 .1)))) (c .before .before .before .before .before .before .before .before .before .before .before .before .before .before .before .before .before .before .before .before .before .before .before .before .before .before .before .number .ensures) (c .before .before .before .before .before .before .before .before .before .before .before .before .before .before .before .before .before .before .before .before .before .before .position2 .ensures .0) (c .before .before .before .before .before .before .before .before .before .before .before .before .before .before .before .before .before .before .before .before .before .place2 .ensures .0) (c .before .before .before .before .before .before .before .before .before .before .before .before .before .before .before .before .before .before .before .found2 .ensures)
+        (c .before .before .before .before .before .before .before .before .before .before .before .before .before .before .before .before .before .before .position3 .ensures .0) (c .before .before .before .before .before .before .before .before .before .before .before .before .before .before .before .before .before .place3 .ensures .0) (c .before .before .before .before .before .before .before .before .before .before .before .before .before .before .before .found3 .ensures) (c .before .before .before .before .before .before .before .before .before .before .before .before .unset .ensures .0) ((c .before .before .before .before .before .before .before .before .before .before .before .capped2 .ensures) ∙ settled-few p ((c .before .before .before .before .before .before .before .before .before .before .before .before .before .before .before .before .before .before .before .before .before .before .before .before .before .before .before .before .before .before .before .before .before .before .loop .t)) ((c .before .before .before .before .before .before .before .before .before .before .before .before .before .before .before .before .before .before .before .before .before .before .before .before .before .before .before .before .before .before .before .before .before .before .loop .inv .counted)))
+        (c .before .before .before .before .before .before .before .before .before .before .point .ensures .0) (toZ-ofZ (fits32 (getD (p .draft) ((c .before .before .before .before .before .before .before .before .before .before .point .result)) (pos 0)) ((c .before .before .before .before .before .before .before .before .before .old2 .given)))) (c .before .before .decide-replay .ensures) in
     let amount = toZ-ofZ (fits32 (d .amount) ((c .before .struct-told9 .given .0 .1))) in
-    (rw (line-replay l ((c .before .before .before .before .before .before .before .before .before .before .before .before .before .before .before .before .before .before .before .before .before .before .before .if4 .taken))) (meets-made _ p _ (rw (amount, point, slot, same) (replay-meets p ((c .before .before .before .before .before .before .before .before .before .before .before .before .before .before .before .before .before .before .before .before .before .before .before .before .before .before .before .before .before .before .before .before .before .before .loop .inv .sized)) (l .a)))), replay-sized p ((c .before .before .before .before .before .before .before .before .before .before .point .result)) ((c .before .before .before .before .before .before .before .before .before .before .before .before .before .before .before .before .before .before .before .before .before .place2 .result)) (record { amount = toZ w32 (ofZ w32 (d .amount)); entry = d .entry; answer = d .answer }) ((c .before .before .before .before .before .before .before .before .before .before .before .before .before .before .before .before .before .before .before .before .before .before .before .before .before .before .before .before .before .before .before .before .before .before .loop .inv .sized)))
+    (rw (line-replay l ((c .before .before .before .before .before .before .before .before .before .before .before .before .before .before .before .before .before .before .before .before .before .before .before .if4 .taken))) (meets-made _ p _ (rw (amount, g .1, g .2, g .0) (replay-meets p ((c .before .before .before .before .before .before .before .before .before .before .before .before .before .before .before .before .before .before .before .before .before .before .before .before .before .before .before .before .before .before .before .before .before .before .loop .inv .sized)) (l .a)))), replay-sized p ((c .before .before .before .before .before .before .before .before .before .before .point .result)) ((c .before .before .before .before .before .before .before .before .before .before .before .before .before .before .before .before .before .before .before .before .before .place2 .result)) (record { amount = toZ w32 (ofZ w32 (d .amount)); entry = d .entry; answer = d .answer }) ((c .before .before .before .before .before .before .before .before .before .before .before .before .before .before .before .before .before .before .before .before .before .before .before .before .before .before .before .before .before .before .before .before .before .before .loop .inv .sized)))
 
 -- ---- a call that only reads
 

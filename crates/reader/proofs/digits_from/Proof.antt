@@ -2,7 +2,6 @@ use mathlib.Core.Path.{sym, ap}
 use native.Mathlib.Omega.{arith}
 use Prim.Native.Nat.{_+_}
 use Rattle.protocol.specs.Lists.{bit}
-use borrow.Author.Needs.{needs}
 use Rattle.reader.proofs.digits_from.Statement.{statement}
 use Rattle.reader.proofs.digits_from.Tie as tie
 use Rattle.reader.proofs.digits_from.Reads as reads

@@ -1,8 +1,7 @@
 use borrow.Author.Needs.{needs}
-use mathlib.Core.Path.{_≡_, sym, ap, _∙_, subst}
+use mathlib.Core.Path.{sym, ap, _∙_, subst}
 use native.Mathlib.Omega.{arith}
 use Prim.Native.Nat.{_-_, _+_, _*_}
-use lib.ListN.{length}
 use Rattle.reader.specs.Cut.{firstLine}
 use Rattle.reader.specs.Reads.{ending}
 use Rattle.reader.proofs.Cuts.{upTo-length}

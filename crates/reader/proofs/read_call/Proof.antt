@@ -2,7 +2,7 @@ use borrow.Author.Tests.{ltb-true, ltb-false}
 use lib.Dec.{ltb}
 use lib.ListN.{getD-replicate, List·getD-eq-default, replicate, length, getD}
 use Rattle.protocol.proofs.Laws.{cases}
-use Prim.Native.Nat.{ℕ, _-_, _+_, _<_, _≤_}
+use Prim.Native.Nat.{ℕ, _-_, _<_, _≤_}
 use mathlib.Core.List.{List}
 use mir.Syntax.{w32}
 use mir.Val.{SFits}
@@ -11,7 +11,7 @@ use lib.IntN.{ℤ, pos}
 use lib.Signed.{mag}
 use borrow.Author.Needs.{needs}
 use native.Mathlib.Omega.{arith}
-use mathlib.Core.Path.{_≡_, refl, sym, ap, _∙_}
+use mathlib.Core.Path.{_≡_, refl, sym, _∙_}
 use Rattle.format.specs.Lines.{lineFeed}
 use Rattle.reader.specs.Cut.{firstLine}
 use Rattle.reader.specs.Reads.{wordAt, takenBy}

@@ -1,6 +1,6 @@
 use native.Mathlib.Omega.{arith}
 use Prim.Native.Nat.{_-_, _+_}
-use mathlib.Core.Path.{_≡_, sym, ap, _∙_}
+use mathlib.Core.Path.{ap, _∙_}
 use Rattle.format.specs.Lines.{lineFeed}
 use Rattle.reader.specs.Cut.{firstLine}
 use Rattle.reader.specs.Reads.{followed, wordAt}

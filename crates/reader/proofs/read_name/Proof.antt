@@ -2,13 +2,13 @@ use borrow.Author.Needs.{needs}
 use mathlib.Core.Path.{_≡_, refl, sym, ap, _∙_, subst}
 use native.Mathlib.Omega.{arith}
 use Prim.Native.Nat.{ℕ, _-_, _+_, _*_}
-use mathlib.Core.List.{List, []}
+use mathlib.Core.List.{List}
 use mathlib.Core.Bool.{true}
-use lib.ListN.{length, getD}
+use lib.ListN.{getD}
 use Rattle.format.specs.Lines.{lineFeed}
 use Rattle.reader.specs.declared.Name.{Name}
 use Rattle.reader.specs.Cut.{firstLine}
-use Rattle.reader.specs.Reads.{wordAt, isEnd, callOfCode, takenBy, Named}
+use Rattle.reader.specs.Reads.{isEnd, callOfCode, takenBy, Named}
 use Rattle.reader.proofs.Cuts.{word-ends, word-goes}
 use Rattle.reader.proofs.Names.{Bytes, upTo-bytes, Packing, packing-begin, packing-next, packing-small, packing-stop, packing-long}
 use Rattle.reader.proofs.read_name.Statement.{statement}

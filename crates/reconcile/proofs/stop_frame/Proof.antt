@@ -9,7 +9,7 @@ use Rattle.reconcile.proofs.stop_frame.Reads as reads
 use Rattle.reconcile.proofs.stop_frame.Lts as lts
 use Rattle.frames.proofs.refuse.Reads as refuse-reads
 use Rattle.heads.proofs.unset.Reads as unset-reads
-use Rattle.turns.proofs.in_mode.Reads as in-mode-reads
+use Rattle.heads.proofs.in_mode.Reads as in-mode-reads
 use Rattle.turns.proofs.stop_refusal.Reads as stop-refusal-reads
 
 unset-requires : tie.Need-unset-requires

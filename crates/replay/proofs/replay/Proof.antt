@@ -1,19 +1,10 @@
-use mathlib.Core.Path.{_≡_, sym, ap, _∙_}
-use native.Mathlib.Numerals.{add-one}
-use Prim.Native.Nat.{_+_}
 use lib.IntN.{pos}
 use lib.ListN.{getD}
 use mir.Facts.{toZ-ofZ}
 use Rattle.exact.proofs.Ints.{fits32}
-use Rattle.protocol.specs.Lists.{natural}
-use Rattle.heads.specs.Heads.{endIn, keptIn, positionOf, placeOf}
-use Rattle.records.specs.Records.{noRecord, recordOf}
-use Rattle.state.specs.Parts.{namedIn}
 use Rattle.state.proofs.Views.{owned-sized}
-use Rattle.settling.specs.Replays.{replayOutcome, replayDecision, pointOf, slotIn, replayIn}
-use Rattle.replay.proofs.Replays.{replay-meets}
+use Rattle.replay.proofs.Replays.{replay-decided, replay-meets}
 use native.Mathlib.Omega.{arith}
-use Prim.Native.Nat.{_<_}
 use borrow.Author.Needs.{needs}
 use Rattle.replay.proofs.replay.Statement.{statement}
 use Rattle.replay.proofs.replay.Tie as tie
@@ -100,24 +91,12 @@ returns : tie.Need-returns
 returns c =
     let s = (c .before .before .before .before .before .before .before .before .before .before .before .before .before .before .before .before .before .before .before .before .before .before .before .before .before .before) in
     let p = s .args .t1 in
-    let number = (c .before .before .before .before .before .before .before .before .before .before .before .before .before .before .before .before .before .before .before .before .before .before .before .before .number .ensures) ∙ ap natural (toZ-ofZ (s .fits .n)) in
-    let position = (c .before .before .before .before .before .before .before .before .before .before .before .before .before .before .before .before .before .before .before .before .before .before .before .position .ensures .0) ∙ ap (positionOf (endIn (p .head)) (keptIn (p .head))) number in
-    let slot = (c .before .before .before .before .before .before .before .before .before .before .before .before .before .before .before .before .before .before .before .before .before .before .place .ensures .0) ∙ ap placeOf position in
-    let e : (c .before .before .before .before .before .before .before .before .before .before .before .before .before .before .before .before .before .before .before .before .found .result) ≡ namedIn p (natural (s .args .n)) = (c .before .before .before .before .before .before .before .before .before .before .before .before .before .before .before .before .before .before .before .before .found .ensures) ∙ (λ j. recordOf (position j) (getD (p .edits) (slot j) noRecord)) in
-    let position2 = (c .before .before .before .before .before .before .before .before .before .before .before .before .before .before .before .before .before .before .before .position2 .ensures .0) ∙ ap (λ r. positionOf (endIn (p .head)) (keptIn (p .head)) (r .earlier)) e in
-    let seat = (c .before .before .before .before .before .before .before .before .before .before .before .before .before .before .before .before .before .before .place2 .ensures .0) ∙ ap placeOf position2 in
-    let earlier : (c .before .before .before .before .before .before .before .before .before .before .before .before .before .before .before .before .found2 .result) ≡ namedIn p (namedIn p (natural (s .args .n)) .earlier) = (c .before .before .before .before .before .before .before .before .before .before .before .before .before .before .before .before .found2 .ensures) ∙ (λ j. recordOf (position2 j) (getD (p .edits) (seat j) noRecord)) in
-    let missing = (c .before .before .before .before .before .before .before .before .before .before .before .before .before .unset .ensures .0) in
-    let place = ap (λ k. k + 1) ((c .before .before .before .before .before .before .before .before .before .before .before .count .ensures .0)) in
-    let point = (c .before .before .before .before .before .before .before .before .before .before .point .ensures .0) ∙ ap (λ r. pointOf (r .measure)) e in
-    let old = toZ-ofZ (fits32 (getD (p .draft) ((c .before .before .before .before .before .before .before .before .before .before .point .result)) (pos 0)) ((c .before .before .before .before .before .before .before .before .before .old .given))) ∙ ap (λ j. getD (p .draft) j (pos 0)) point in
     let d = (c .before .before .decide-replay .result) in
-    let same : d ≡ replayIn p (natural (s .args .n)) =
-    (c .before .before .decide-replay .ensures)
-    ∙ (λ j. replayDecision (replayOutcome (p .head) (p .lower) (p .gap) (p .upper) (p .draft) (missing j) (e j) (earlier j) (old j)) (getD (p .edits) (slot j) noRecord) (old j) (place j))
-    in
+    let g = replay-decided p (s .args .n) (toZ-ofZ (s .fits .n)) (c .before .before .before .before .before .before .before .before .before .before .before .before .before .before .before .before .before .before .before .before .before .before .before .before .number .ensures) (c .before .before .before .before .before .before .before .before .before .before .before .before .before .before .before .before .before .before .before .before .before .before .before .position .ensures .0) (c .before .before .before .before .before .before .before .before .before .before .before .before .before .before .before .before .before .before .before .before .before .before .place .ensures .0) (c .before .before .before .before .before .before .before .before .before .before .before .before .before .before .before .before .before .before .before .before .found .ensures)
+        (c .before .before .before .before .before .before .before .before .before .before .before .before .before .before .before .before .before .before .before .position2 .ensures .0) (c .before .before .before .before .before .before .before .before .before .before .before .before .before .before .before .before .before .before .place2 .ensures .0) (c .before .before .before .before .before .before .before .before .before .before .before .before .before .before .before .before .found2 .ensures) (c .before .before .before .before .before .before .before .before .before .before .before .before .before .unset .ensures .0) (c .before .before .before .before .before .before .before .before .before .before .before .count .ensures .0)
+        (c .before .before .before .before .before .before .before .before .before .before .point .ensures .0) (toZ-ofZ (fits32 (getD (p .draft) ((c .before .before .before .before .before .before .before .before .before .before .point .result)) (pos 0)) ((c .before .before .before .before .before .before .before .before .before .old .given)))) (c .before .before .decide-replay .ensures) in
     let amount = toZ-ofZ (fits32 (d .amount) ((c .before .struct-told .given .0 .1))) in
-    rw (amount, point, slot, same) (replay-meets p (owned-sized p (s .good .0)) (s .args .n))
+    rw (amount, g .1, g .2, g .0) (replay-meets p (owned-sized p (s .good .0)) (s .args .n))
 
 pub replay-spec : {M : Type 1} → statement M
 replay-spec =

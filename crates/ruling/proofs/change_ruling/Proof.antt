@@ -1,5 +1,5 @@
 use Prim.Native.Nat.{min}
-use mathlib.Core.Bool.{Bool, true, false, _&&_}
+use mathlib.Core.Bool.{Bool, _&&_}
 use mathlib.Core.List.{List}
 use lib.IntN.{ℤ}
 use Rattle.protocol.specs.Plan as model
@@ -8,7 +8,7 @@ use lib.Dec.{leb}
 use borrow.Author.Tests.{lt-ltb, le-ltb}
 use mir.Facts.{toZ-ofZ}
 use Rattle.exact.proofs.Ints.{fits32}
-use Rattle.protocol.specs.Plan.{firmlyNamed, keptLimit, holds, made, applied, fits}
+use Rattle.protocol.specs.Plan.{firmlyNamed, keptLimit, holds, made}
 use Rattle.protocol.specs.Calls.{apart}
 use Rattle.change.specs.Change.{viewChange}
 use Rattle.rows.specs.Rows.{row}

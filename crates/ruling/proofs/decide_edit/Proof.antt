@@ -1,8 +1,7 @@
 use mir.Facts.{toZ-ofZ}
 use Rattle.protocol.specs.Lists.{natural}
-use Rattle.ruling.specs.declared.Decision.{Decision}
 use Rattle.ruling.specs.Edits.{editRuling, editDecision}
-use mathlib.Core.Path.{_≡_, sym, ap, _∙_}
+use mathlib.Core.Path.{_≡_, ap, _∙_}
 use borrow.Author.Needs.{needs}
 use Rattle.ruling.proofs.decide_edit.Statement.{statement}
 use Rattle.ruling.proofs.decide_edit.Tie as tie

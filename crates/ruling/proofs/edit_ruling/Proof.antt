@@ -1,8 +1,7 @@
-use Prim.Native.Nat.{ℕ, min}
-use mathlib.Core.Bool.{Bool, true, false, _||_}
+use Prim.Native.Nat.{min}
+use mathlib.Core.Bool.{_||_}
 use mathlib.Core.Path.{_≡_, sym, ap, ap₂, _∙_}
-use mathlib.Core.List.{List}
-use lib.IntN.{ℤ, pos}
+use lib.IntN.{pos}
 use lib.ListN.{length, getD}
 use mir.Facts.{toZ-ofZ}
 use borrow.Author.Tests.{not-true, not-false}
@@ -11,7 +10,7 @@ use Rattle.protocol.specs.Plan as model
 use Rattle.protocol.specs.Plan.{is, whole, applied, value}
 use Rattle.protocol.specs.Calls.{apart, no22, no25, first}
 use Rattle.change.specs.declared.Change.{Change}
-use Rattle.change.specs.Change.{viewChange, madeOf}
+use Rattle.change.specs.Change.{madeOf}
 use Rattle.rows.specs.Rows.{row}
 use Rattle.rules.specs.Rules.{rulesIn}
 use Rattle.rows.proofs.Spans.{length-span}

@@ -1,5 +1,4 @@
-use Prim.Native.Nat.{min}
-use mathlib.Core.Path.{_≡_, sym, ap, _∙_}
+use mathlib.Core.Path.{sym, ap, _∙_}
 use borrow.Author.Tests.{eq-eqb, ne-eqb, not-true, not-false}
 use mir.Facts.{toZ-ofZ}
 use Rattle.settling.specs.Replays.{draftOutcome, replayOutcome}

@@ -9,6 +9,7 @@ use Rattle.turns.proofs.sent_record.Tie as tie
 use Rattle.turns.proofs.sent_record.Reads as reads
 use Rattle.turns.proofs.sent_record.Lts as lts
 use Rattle.records.proofs.satisfies.Reads as satisfies-reads
+use Rattle.records.proofs.with_fate.Reads as with-fate-reads
 
 satisfies-requires : tie.Need-satisfies-requires
 satisfies-requires c κs = search needs
@@ -16,16 +17,19 @@ satisfies-requires c κs = search needs
 returns : tie.Need-returns
 returns c =
     λ n.
-    let e = (c .before .before .args .e) in
-    let s = (c .before .before .args .s) in
-    rw (no-is (testOf (UnsentOf s) (keptAt n e)) (bit-zero (testOf (UnsentOf s) (keptAt n e)) (sym ((c .before .satisfies .ensures)) ∙ (c .if1 .taken))))
+    let e = ((c .before .before .args .e)) in
+    let s = ((c .before .before .args .s)) in
+    rw (no-is (testOf (UnsentOf s) (keptAt n e)) (bit-zero (testOf (UnsentOf s) (keptAt n e)) (sym ((c .before .satisfies .ensures)) ∙ ((c .if1 .taken)))))
+
+with-fate-requires : tie.Need-with-fate-requires
+with-fate-requires c κs = search needs
 
 returns-2 : tie.Need-returns-2
 returns-2 c =
     λ n.
-    let e = (c .before .before .args .e) in
-    let s = (c .before .before .args .s) in
-    rw (bit-some (testOf (UnsentOf s) (keptAt n e)) (λ z. (c .if1 .left) ((c .before .satisfies .ensures) ∙ z)))
+    let e = ((c .before .before .before .args .e)) in
+    let s = ((c .before .before .before .args .s)) in
+    rw (((c .with-fate .ensures)), bit-some (testOf (UnsentOf s) (keptAt n e)) (λ z. ((c .before .if1 .left)) (((c .before .before .satisfies .ensures)) ∙ z)))
 
 pub sent-record-spec : {M : Type 1} → statement M
-sent-record-spec = tie.close (tie.spec satisfies-requires returns returns-2)
+sent-record-spec = tie.close (tie.spec satisfies-requires returns with-fate-requires returns-2)
