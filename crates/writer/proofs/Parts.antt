@@ -1,13 +1,13 @@
 -- Laws of the parts of a line, and of a line that goes in whole or not at all. Assumes nothing.
-use Prim.Native.Nat.{ℕ, _+_, _<_, _≤_}
+use Prim.Native.Nat.{ℕ, zero, suc, _+_, _<_, _≤_}
 use native.Mathlib.Omega.{arith}
 use native.Mathlib.Nat.{zero-add}
 use mathlib.Core.Path.{_≡_, refl, sym, ap, ap₂, _∙_}
 use mathlib.Core.List.{List, [], _∷_, _++_, append-assoc, append-nil}
 use borrow.Author.Tests.{le-leb, lt-leb}
 use lib.IntN.{ℤ, pos}
-use lib.ListN.{length, length-append}
-use lib.Seq.{sets}
+use lib.ListN.{length, length-append, take}
+use lib.Seq.{sets, take-length}
 use Rattle.format.specs.Numbers.{digits}
 use Rattle.format.specs.Lines.{space, lineFeed}
 use Rattle.format.specs.Sheets.{spaced}
@@ -15,31 +15,29 @@ use Rattle.format.proofs.Digits.{digits-one}
 use Rattle.format.proofs.Texts.{written-pos, spaced-none, spaced-more, text-no, text-ok, text-done}
 use Rattle.state.specs.declared.Answer.{Answer}
 use Rattle.state.specs.declared.Answer.the-variants.{Refused, Done, Number, Pair}
-use Rattle.writer.specs.Writes.{lineOf, putIn, putLength, headOf, partsOf}
+use Rattle.writer.specs.Writes.{lineOf, putIn, putLength, headOf, partsOf, asTold, toldBehind}
 use Rattle.writer.proofs.Puts.{sets-append, sets-front}
 
 -- ---- a line is its parts
 
-pub line-refused : (k : ℕ) (row : List ℤ) → lineOf (Refused k) row ≡ partsOf (Refused k) []
+line-refused : (k : ℕ) (row : List ℤ) → lineOf (Refused k) row ≡ partsOf (Refused k) []
 unfolding lineOf
 line-refused k row = text-no k ∙ sym (ap (λ bs. headOf (Refused k) ++ bs ++ (lineFeed ∷ [])) spaced-none ∙ ap (λ bs. bs ++ (lineFeed ∷ [])) (append-nil (headOf (Refused k))))
 
-pub line-nothing : (row : List ℤ) → length row ≡ 0 → lineOf Done row ≡ partsOf (Number 0) row
+line-nothing : lineOf Done [] ≡ partsOf (Number 0) []
 unfolding lineOf
-line-nothing [] e = text-done ∙ sym (ap₂ (λ ds bs. (111 ∷ 107 ∷ space ∷ ds) ++ bs ++ (lineFeed ∷ [])) (digits-one 0 (omega arith)) spaced-none)
-line-nothing (x ∷ xs) e = absurd (omega arith)
+line-nothing = text-done ∙ sym (ap₂ (λ ds bs. (111 ∷ 107 ∷ space ∷ ds) ++ bs ++ (lineFeed ∷ [])) (digits-one 0 (omega arith)) spaced-none)
 
-pub line-done : (row : List ℤ) → (length row ≡ 0 → ⊥) → lineOf Done row ≡ partsOf Done row
+line-done : (x : ℤ) (xs : List ℤ) → lineOf Done (x ∷ xs) ≡ partsOf Done (x ∷ xs)
 unfolding lineOf
-line-done [] h = absurd (h refl)
-line-done (x ∷ xs) h = text-ok x xs
+line-done x xs = text-ok x xs
 
-pub line-number : (n : ℕ) (row : List ℤ) → lineOf (Number n) row ≡ partsOf (Number n) row
+line-number : (n : ℕ) (row : List ℤ) → lineOf (Number n) row ≡ partsOf (Number n) row
 unfolding lineOf
 line-number n row =
     text-ok (pos n) row ∙ ap (λ bs. (111 ∷ 107 ∷ bs) ++ (lineFeed ∷ [])) (spaced-more (pos n) row ∙ ap (λ ds. space ∷ ds ++ spaced row) (written-pos n))
 
-pub line-pair : (a b : ℕ) (row : List ℤ) → lineOf (Pair a b) row ≡ partsOf (Pair a b) row
+line-pair : (a b : ℕ) (row : List ℤ) → lineOf (Pair a b) row ≡ partsOf (Pair a b) row
 unfolding lineOf
 line-pair a b row =
     let second = spaced-more (pos b) row ∙ ap (λ ds. space ∷ ds ++ spaced row) (written-pos b) in
@@ -47,6 +45,23 @@ line-pair a b row =
     text-ok (pos a) (pos b ∷ row)
     ∙ ap (λ bs. (111 ∷ 107 ∷ bs) ++ (lineFeed ∷ [])) both
     ∙ ap (λ bs. (111 ∷ 107 ∷ space ∷ bs) ++ (lineFeed ∷ [])) (sym (append-assoc (digits a) (space ∷ digits b) (spaced row)))
+
+pub told-done : (answer : Answer) (count : ℕ) → answer ≡ Done → (count ≡ 0 → ⊥) → Done ≡ asTold answer count
+told-done answer zero e h = absurd (h refl)
+told-done answer (suc count) e h = sym (ap (λ a. asTold a (suc count)) e)
+
+pub told-most : (answer : Answer) (count : ℕ) → toldBehind answer count ≤ count
+told-most (Refused k) count = omega arith
+told-most Done count = omega arith
+told-most (Number n) count = omega arith
+told-most (Pair a b) count = omega arith
+
+pub line-told : (answer : Answer) (row : List ℤ) → lineOf answer row ≡ partsOf (asTold answer (length row)) (take (toldBehind answer (length row)) row)
+line-told (Refused k) row = line-refused k row
+line-told Done [] = line-nothing
+line-told Done (x ∷ xs) = line-done x xs ∙ ap (partsOf Done) (sym (take-length (x ∷ xs)))
+line-told (Number n) row = line-number n row ∙ ap (partsOf (Number n)) (sym (take-length row))
+line-told (Pair a b) row = line-pair a b row ∙ ap (partsOf (Pair a b)) (sym (take-length row))
 
 -- ---- whole or not at all
 

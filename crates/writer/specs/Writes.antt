@@ -1,5 +1,5 @@
 -- The line of an answer, and the area that it is put into. Assumes nothing.
-use Prim.Native.Nat.{ℕ}
+use Prim.Native.Nat.{ℕ, zero, suc}
 use mathlib.Core.Bool.{Bool, cond}
 use mathlib.Core.List.{List, [], _∷_, _++_}
 use lib.Dec.{leb}
@@ -44,3 +44,18 @@ headOf (Pair a b) = 111 ∷ 107 ∷ space ∷ digits a ++ (space ∷ digits b)
 
 abbrev pub partsOf : Answer → List ℤ → List ℕ
 partsOf answer row = headOf answer ++ spaced row ++ (lineFeed ∷ [])
+
+-- an answer as it is told before so many values: 0 where no number is given
+abbrev pub asTold : Answer → ℕ → Answer
+asTold (Refused k) count = Refused k
+asTold Done zero = Number 0
+asTold Done (suc count) = Done
+asTold (Number n) count = Number n
+asTold (Pair a b) count = Pair a b
+
+-- how many of the values are told: none behind a refusal
+abbrev pub toldBehind : Answer → ℕ → ℕ
+toldBehind (Refused k) count = 0
+toldBehind Done count = count
+toldBehind (Number n) count = count
+toldBehind (Pair a b) count = count

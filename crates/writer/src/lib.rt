@@ -9,7 +9,7 @@ ghost use lib.Seq.{sets};
 ghost use Rattle.format.specs.Numbers.{digits, written};
 ghost use Rattle.format.specs.Lines.{space};
 ghost use Rattle.format.specs.Sheets.{spaced};
-ghost use Rattle.writer.specs.Writes.{lineOf, putIn, putLength, headOf, partsOf};
+ghost use Rattle.writer.specs.Writes.{lineOf, putIn, putLength, headOf, partsOf, asTold, toldBehind};
 use state::Answer;
 
 // ---- a number
@@ -199,20 +199,42 @@ fn put_parts(answer: Answer, row: &[i32], area: &mut [u8]) -> usize
     end + 1
 }
 
+// An answer as it is told before so many values: 0 where no number is given.
+fn as_told(answer: Answer, count: usize) -> Answer
+    ensures { λ r. ⌜ r ≡ asTold answer count ⌝ }
+{
+    match answer {
+        Answer::Refused(k) => Answer::Refused(k),
+        Answer::Done => {
+            if count == 0 {
+                return Answer::Number(0);
+            }
+            Answer::Done
+        }
+        Answer::Number(n) => Answer::Number(n),
+        Answer::Pair(a, b) => Answer::Pair(a, b),
+    }
+}
+
+// How many of the values behind an answer are told: none behind a refusal.
+fn told_behind(answer: Answer, count: usize) -> usize
+    ensures { λ r. ⌜ r ≡ toldBehind answer count ⌝ }
+{
+    match answer {
+        Answer::Refused(_) => 0,
+        Answer::Done => count,
+        Answer::Number(_) => count,
+        Answer::Pair(_, _) => count,
+    }
+}
+
 // The line of an answer whose numbers are its own and those of a row behind them, put into the front of an area that has room for it.
 // Gives the line's length, or 0 where it does not fit and the area is left as it was.
 pub fn put(answer: Answer, row: &[i32], area: &mut [u8]) -> usize
     ensures { λ r. ⌜ (now (area .exit) ≡ putIn (lineOf answer (now (row .entry))) (now (area .entry))) × (r ≡ putLength (lineOf answer (now (row .entry))) (now (area .entry))) ⌝ }
 {
-    match answer {
-        Answer::Refused(k) => put_parts(Answer::Refused(k), &row[..0], area),
-        Answer::Done => {
-            if row.len() == 0 {
-                return put_parts(Answer::Number(0), row, area);
-            }
-            put_parts(Answer::Done, row, area)
-        }
-        Answer::Number(n) => put_parts(Answer::Number(n), row, area),
-        Answer::Pair(a, b) => put_parts(Answer::Pair(a, b), row, area),
-    }
+    let count = row.len();
+    let told = as_told(answer, count);
+    let n = told_behind(answer, count);
+    put_parts(told, &row[..n], area)
 }
