@@ -6,14 +6,14 @@ use mathlib.Core.Path.{_≡_, refl, sym, ap, ap₂, _∙_}
 use mathlib.Core.List.{List, [], _∷_, _++_}
 use native.Mathlib.Numerals.{add-one}
 use lib.IntN.{ℤ, pos}
-use lib.ListN.{length, getD, set, drop, length-set, length-append, drop-of-length-le}
-use lib.Seq.{sets, sets-eq, set-comm, length-sets, drop-cons}
+use lib.ListN.{length, getD, set, drop, length-set}
+use lib.Seq.{sets, sets-eq, set-comm, length-sets}
 use Rattle.protocol.specs.Lists.{snoc}
 use Rattle.format.specs.Numbers.{digits, written}
 use Rattle.format.specs.Sheets.{spaced, inFront}
 use Rattle.format.specs.Lines.{space}
-use Rattle.format.proofs.Texts.{spaced-none, spaced-more}
 use Rattle.format.proofs.Digits.{digits-one, digits-more, length-one, length-more, length-some}
+use Rattle.writer.proofs.Widths.{rest, rest-length, rest-none}
 
 module _ {A : Type 0} where
   pub sets-append : (l : List A) (i : ℕ) (xs ys : List A) → sets l i (xs ++ ys) ≡ sets (sets l i xs) (i + length xs) ys
@@ -86,31 +86,23 @@ module _ (row : List ℤ) (at : ℕ) (area₀ area : List ℕ) (end i : ℕ) (r 
     value : List ℕ
     value = written (getD row i (pos 0))
 
-    here : spaced (drop i row) ≡ space ∷ value ++ spaced (drop (i + 1) row)
-    unfolding value
-    here = rw (add-one i, drop-cons row i (pos 0) h) (spaced-more (getD row i (pos 0)) (drop (suc i) row))
-
-    whole : length (spaced (drop i row)) ≡ suc (length (written (getD row i (pos 0))) + length (spaced (drop (i + 1) row)))
-    unfolding value
-    whole = ap length here ∙ ap suc (length-append value (spaced (drop (i + 1) row)))
-
     pub rowing-room : at + length (spaced row) ≤ length area₀ → end + suc (length (written (getD row i (pos 0)))) ≤ length area
-    rowing-room p = let w = whole in omega (arith, r .1, r .2)
+    rowing-room p = let w = rest-length row i h in omega (arith, r .1, r .2)
 
     pub rowing-next : (after : List ℕ) (next : ℕ) → after ≡ sets (set area end 32) (end + 1) (written (getD row i (pos 0))) → next ≡ end + 1 + length (written (getD row i (pos 0))) → Rowing row at area₀ after next (i + 1)
     unfolding value
     rowing-next after next e f =
-        let w = whole in
+        let w = rest-length row i h in
         let put = e ∙ sets-more area end 32 value in
         let n : end + suc (length value) ≡ next = omega arith in (
           omega arith,
           ap length put ∙ length-sets area end (space ∷ value) ∙ r .1,
           (let g = r .2 in omega arith),
-          r .3 ∙ ap (sets area end) here ∙ sets-append area end (space ∷ value) (spaced (drop (i + 1) row)) ∙ ap₂ (λ l k. sets l k (spaced (drop (i + 1) row))) (sym put) n,
+          r .3 ∙ ap (sets area end) (rest row i h) ∙ sets-append area end (space ∷ value) (spaced (drop (i + 1) row)) ∙ ap₂ (λ l k. sets l k (spaced (drop (i + 1) row))) (sym put) n,
         )
 
   pub rowing-over : length row ≤ i → (area ≡ sets area₀ at (spaced row)) × (end ≡ at + length (spaced row))
   rowing-over h =
-      let e : spaced (drop i row) ≡ [] = ap spaced (drop-of-length-le row {i = i} h) ∙ spaced-none in
+      let e : spaced (drop i row) ≡ [] = rest-none row i h in
       let l = ap length e in
       (sym (r .3 ∙ ap (sets area end) e), (let g = r .2 in omega arith))

@@ -1,9 +1,9 @@
 -- Laws of a number's sign, size and width. Assumes nothing.
-use Prim.Native.Nat.{ℕ, suc, _+_, _-_, _<_, _≤_}
+use Prim.Native.Nat.{ℕ, suc, _+_, _*_, _-_, _<_, _≤_}
 use native.Mathlib.Omega.{arith}
 use mathlib.Core.Bool.{true, false}
 use mathlib.Core.Path.{_≡_, sym, ap, _∙_, subst}
-use mathlib.Core.List.{List, _∷_}
+use mathlib.Core.List.{List, [], _∷_, _++_}
 use borrow.Author.Tests.{ltb-true, leb-true, leb-false, le-leb, lt-leb}
 use lib.Dec.{T, leb}
 use lib.IntN.{ℤ, pos, negsuc, natAbs, _-ℤ_}
@@ -19,6 +19,8 @@ use mir.Facts.{toZ-ofZ}
 use Rattle.exact.proofs.Ints.{wide, fits64}
 use Rattle.format.specs.Sheets.{spaced}
 use Rattle.format.specs.Numbers.{minus, digits, written}
+use Rattle.format.specs.Lines.{space}
+use Rattle.format.proofs.Digits.{length-most}
 use Rattle.format.proofs.Texts.{written-pos, written-below, spaced-none, spaced-more}
 
 pub written-plain : (x : ℤ) → ltZ x (pos 0) ≡ false → written x ≡ digits (natAbs x)
@@ -29,6 +31,34 @@ pub written-minus : (x : ℤ) → ltZ x (pos 0) ≡ true → written x ≡ minus
 written-minus (pos n) e = let l = ltb-true n 0 e in absurd (omega arith)
 written-minus (negsuc n) e = written-below n
 
+-- ---- a row from one of its values on
+
+module _ (row : List ℤ) (i : ℕ) (h : i < length row) where
+  pub rest : spaced (drop i row) ≡ space ∷ written (getD row i (pos 0)) ++ spaced (drop (i + 1) row)
+  rest = rw (add-one i, drop-cons row i (pos 0) h) (spaced-more (getD row i (pos 0)) (drop (suc i) row))
+
+  pub rest-length : length (spaced (drop i row)) ≡ suc (length (written (getD row i (pos 0))) + length (spaced (drop (i + 1) row)))
+  rest-length = ap length rest ∙ ap suc (length-append (written (getD row i (pos 0))) (spaced (drop (i + 1) row)))
+
+pub rest-none : (row : List ℤ) (i : ℕ) → length row ≤ i → spaced (drop i row) ≡ []
+rest-none row i h = ap spaced (drop-of-length-le row {i = i} h) ∙ spaced-none
+
+-- ---- how much room a row needs at most
+
+written-most : (x : ℤ) → mag x < 2147483648 → length (written x) ≤ 11
+written-most (pos n) h = let e = ap length (written-pos n) in let m = length-most 9 n (omega arith) in omega arith
+written-most (negsuc n) h = let e = ap length (written-below n) in let m = length-most 9 (suc n) (omega arith) in omega arith
+
+-- the values before i are read
+abbrev pub Read : List ℤ → ℕ → Type 0
+Read row i = (i ≤ length row) × (length (spaced row) ≤ 12 * i + length (spaced (drop i row)))
+
+pub read-next : (row : List ℤ) (i : ℕ) → Read row i → i < length row → mag (getD row i (pos 0)) < 2147483648 → Read row (i + 1)
+read-next row i r h f = let l = rest-length row i h in let m = written-most (getD row i (pos 0)) f in (omega arith, omega (arith, r .1))
+
+pub read-over : (row : List ℤ) (i : ℕ) → Read row i → length row ≤ i → length (spaced row) ≤ 12 * length row
+read-over row i r h = let e = ap length (rest-none row i h) in omega (arith, r .0, r .1)
+
 -- ---- how much room is left
 
 leb-same : (a b c d : ℕ) → (a ≤ b → c ≤ d) → (b < a → d < c) → leb a b ≡ leb c d
@@ -36,16 +66,13 @@ leb-same a b c d f g = cases (leb a b)
     (λ t. t ∙ sym (le-leb c d (f (leb-true a b t))))
     (λ t. t ∙ sym (lt-leb c d (g (leb-false a b t))))
 
-length-spaced : (x : ℤ) (xs : List ℤ) → length (spaced (x ∷ xs)) ≡ suc (length (written x) + length (spaced xs))
-length-spaced x xs = ap length (spaced-more x xs) ∙ ap suc (length-append (written x) (spaced xs))
-
 -- whether the whole row has room is whether its rest has what is left
 abbrev pub Fitting : List ℤ → ℕ → ℕ → ℕ → Type 0
 Fitting row room left i = (i ≤ length row) × (leb (length (spaced row)) room ≡ leb (length (spaced (drop i row))) left)
 
 module _ (row : List ℤ) (room left i : ℕ) (r : Fitting row room left i) (w : ℕ) where
   here : i < length row → w ≡ length (written (getD row i (pos 0))) → length (spaced (drop i row)) ≡ suc (w + length (spaced (drop (i + 1) row)))
-  here h e = rw (e, add-one i, drop-cons row i (pos 0) h) (length-spaced (getD row i (pos 0)) (drop (suc i) row))
+  here h e = rw e (rest-length row i h)
 
   pub fitting-stop : i < length row → w ≡ length (written (getD row i (pos 0))) → left ≤ w → false ≡ leb (length (spaced row)) room
   fitting-stop h e l = let k = here h e in sym (r .1 ∙ lt-leb (length (spaced (drop i row))) left (omega arith))
@@ -57,7 +84,7 @@ module _ (row : List ℤ) (room left i : ℕ) (r : Fitting row room left i) (w :
 
 pub fitting-over : (row : List ℤ) (room left i : ℕ) → Fitting row room left i → length row ≤ i → true ≡ leb (length (spaced row)) room
 fitting-over row room left i r h =
-    let e : length (spaced (drop i row)) ≡ 0 = ap (λ xs. length (spaced xs)) (drop-of-length-le row {i = i} h) ∙ ap length spaced-none in
+    let e : length (spaced (drop i row)) ≡ 0 = ap length (rest-none row i h) in
     sym (r .1 ∙ le-leb (length (spaced (drop i row))) left (omega arith))
 
 -- ---- a number without its sign

@@ -1,7 +1,7 @@
 // Writes one answer line (01, "The sheet program"): `ok` and the numbers given, `ok 0` where there are none, or `no` and the refusal.
 ghost use mathlib.Core.Path.{_≡_};
 ghost use mathlib.Core.List.{_∷_, _++_};
-ghost use Prim.Native.Nat.{_+_, _≤_};
+ghost use Prim.Native.Nat.{_+_, _*_, _≤_};
 ghost use lib.Dec.{leb};
 ghost use lib.IntN.{natAbs};
 ghost use lib.ListN.{length};
@@ -106,10 +106,25 @@ fn put_signed(x: i32, at: usize, area: &mut [u8]) -> usize
 
 // ---- a row
 
-// Whether the values of a row, each behind a space, have room.
+// A value has at most 11 bytes and a space. The loop only lets the proof see that each value is an i32: it changes nothing, and a compiler drops it.
+fn row_most(row: &[i32])
+    ensures { λ r. ⌜ length (spaced (now (row .entry))) ≤ 12 * length (now (row .entry)) ⌝ }
+{
+    let mut i: usize = 0;
+    while i < row.len() {
+        let _x = row[i];
+        i += 1;
+    }
+}
+
+// Whether the values of a row, each behind a space, have room. They are measured only where there is little.
 fn row_fits(row: &[i32], room: usize) -> bool
     ensures { λ t. ⌜ t ≡ leb (length (spaced (now (row .entry)))) room ⌝ }
 {
+    if row.len() <= room / 12 {
+        row_most(row);
+        return true;
+    }
     let mut left = room;
     let mut i: usize = 0;
     while i < row.len() {
