@@ -1,27 +1,25 @@
 -- A run from a blank plan, with nothing held in reserve, is the screen's. Assumes nothing.
-use Prim.Native.Nat.{ℕ, _+_, _*_, _-_, _≤_, min}
+use Prim.Native.Nat.{ℕ, _+_, _*_, _-_, _<_, _≤_}
 use native.Mathlib.Omega.{arith}
-use mathlib.Core.Path.{_≡_, refl, sym, ap, _∙_}
-use mathlib.Core.Logic.{_≢_}
-use mathlib.Core.Bool.{Bool, true, false, cond}
-use mathlib.Core.List.{List, [], _∷_, _++_, append-nil}
-use borrow.Author.Tests.{le-ltb, leb-true}
+use mathlib.Core.Path.{_≡_, refl, ap, ap₂, _∙_}
+use mathlib.Core.Bool.{true, false}
+use mathlib.Core.List.{List, [], _∷_}
+use borrow.Author.Tests.{le-ltb, leb-true, le-leb, lt-leb}
 use lib.Dec.{leb, ltb}
-use lib.IntN.{ℤ}
-use lib.ListN.{length, drop, length-append, length-drop}
+use lib.ListN.{length, take, drop, length-append}
+use lib.Seq.{sets, length-sets}
 use Rattle.protocol.specs.Lists.{bit}
 use Rattle.protocol.specs.Plan.{Plan}
-use Rattle.protocol.specs.Calls.{Answer, no, start}
+use Rattle.protocol.specs.Calls.{no, start}
 use Rattle.protocol.proofs.Laws.{cases}
 use Rattle.format.specs.Lines.{lines}
 use Rattle.format.specs.Numbers.{digits}
-use Rattle.format.specs.Sheets.{text, turn, answers, replies, Fitted, behind, fitted, inFront, Screened, screened, screen}
-use Rattle.state.specs.declared.Answer.the-variants.{Refused}
+use Rattle.format.specs.Sheets.{text, turn, answers, replies, Fitted, behind, fitted, inFront, screened, screen}
 use Rattle.state.specs.View.{view}
 use Rattle.state.specs.Parts.{blankState}
 use Rattle.progress.specs.declared.Progress.{Progress}
 use Rattle.progress.specs.Progress.{Ran, ran, Advanced}
-use Rattle.writer.specs.Writes.{lineOf, putIn, putLength}
+use Rattle.writer.proofs.Puts.{sets-front}
 use Rattle.sheet.specs.Runs.{handedBack}
 
 abbrev wholeOf : Ran → Fitted
@@ -65,26 +63,23 @@ module _ (sheet area after : List ℕ) (r : Progress) (h : Advanced 0 sheet 0 bl
 
 -- ---- a sheet that is too long
 
-module _ (area after : List ℕ) (vs : List ℤ) (n : ℕ) (a : after ≡ putIn (lineOf (Refused 52) vs) area) (e : n ≡ putLength (lineOf (Refused 52) vs) area) where
-  six : length (lineOf (Refused 52) vs) ≡ 6
-  unfolding lineOf text digits
-  six = refl
+-- `no 52` and its line feed
+abbrev pub alone : List ℕ
+alone = 110 ∷ 111 ∷ 32 ∷ 53 ∷ 50 ∷ 10 ∷ []
 
-  pub six-most : n ≤ 6
-  six-most = cases (leb (length (lineOf (Refused 52) vs)) (length area)) (λ t. let f : n ≡ 6 = e ∙ rw t six in omega (arith, f)) (λ t. let f : n ≡ 0 = e ∙ rw t in omega (arith, f))
+alone-text : text (no 52) ≡ alone
+unfolding text digits
+alone-text = refl
 
-  pub alone-unfit : (m : ℕ) → n ≡ 0 → m ≡ 2 * 0 + bit true → handedBack m after ≡ screened (fitted (length area) (text (no 52) ∷ [])) area
-  unfolding fitted lineOf
-  alone-unfit m z k = cases (leb (length (text (no 52))) (length area))
-      (λ t. absurd (let f : n ≡ length (text (no 52)) = e ∙ rw t in let l = six in omega (arith, f, l, z)))
-      (λ t. let b : after ≡ area = a ∙ rw t in rw t (λ i. record { number = k i; buffer = b i }))
+-- the room stays as its bytes are written
+pub alone-room : (area : List ℕ) (k : ℕ) → 6 ≤ length area → 6 ≤ length (sets area 0 (take k alone))
+alone-room area k h = let l = length-sets area 0 (take k alone) in omega arith
 
-  pub alone-fit : (m : ℕ) → n ≢ 0 → m ≡ 2 * n + bit false → handedBack m after ≡ screened (fitted (length area) (text (no 52) ∷ [])) area
-  unfolding fitted lineOf
-  alone-fit m z k = cases (leb (length (text (no 52))) (length area))
-      (λ t.
-      let f : n ≡ length (text (no 52)) = e ∙ rw t in
-      let b : after ≡ inFront (text (no 52)) area = a ∙ rw t in
-      let g : text (no 52) ≡ text (no 52) ++ [] = sym (append-nil (text (no 52))) in
-      rw t (λ i. record { number = (k ∙ ap (λ j. 2 * j + 0) (f ∙ ap length g)) i; buffer = (b ∙ ap (λ bs. inFront bs area) g) i }))
-      (λ t. absurd (z (e ∙ rw t)))
+module _ (area : List ℕ) (m : ℕ) where
+  pub alone-unfit : length area < 6 → m ≡ 2 * 0 + bit true → handedBack m area ≡ screened (fitted (length area) (text (no 52) ∷ [])) area
+  unfolding fitted
+  alone-unfit h e = rw (alone-text, lt-leb 6 (length area) h) (ap (λ k. handedBack k area) e)
+
+  pub alone-fit : 6 ≤ length area → m ≡ 2 * 6 + bit false → handedBack m (sets area 0 alone) ≡ screened (fitted (length area) (text (no 52) ∷ [])) area
+  unfolding fitted
+  alone-fit h e = rw (alone-text, le-leb 6 (length area) h) (ap₂ handedBack e (sets-front area alone h))
