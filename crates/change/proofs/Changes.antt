@@ -1,9 +1,12 @@
 -- Laws of a change: what is made of a kind number and a constant, and the range of what it makes. Assumes nothing.
 use Prim.Native.Nat.{ℕ}
 use mathlib.Core.Bool.{Bool, true, false, cond}
-use mathlib.Core.Path.{_≡_, refl}
+use mathlib.Core.Path.{_≡_, refl, sym, ap, _∙_}
 use lib.Dec.{eqb}
 use lib.IntN.{ℤ}
+use mir.Syntax.{w32}
+use mir.Val.{SFits, toZ, ofZ}
+use mir.Facts.{toZ-ofZ}
 use Rattle.protocol.specs.Plan.{inRange, isFactor, kindOf, allowed}
 use Rattle.protocol.specs.Plan as model
 use Rattle.protocol.proofs.Laws.{cases}
@@ -18,6 +21,11 @@ use Rattle.change.specs.Change.{viewChange, madeIf, madeOf, rangedOf}
 abbrev pub Fitting : Made → model.Change → Type 0
 Fitting (MadeOf c) ch = (allowed ch ≡ true) × (viewChange c ≡ ch)
 Fitting Refused ch = allowed ch ≡ false
+
+-- a change made of a local's constant is one of the constant
+pub made-by : (C : ℤ → Change) (takes : ℤ → Bool) {k : ℤ} → SFits w32 k → {b : Bool} {r m : Made}
+    → b ≡ takes (toZ w32 (ofZ w32 k)) → r ≡ madeIf b (C (toZ w32 (ofZ w32 k))) → m ≡ madeIf (takes k) (C k) → r ≡ m
+made-by C takes {k} p e f g = f ∙ ap (λ b. madeIf b (C (toZ w32 (ofZ w32 k)))) e ∙ ap (λ x. madeIf (takes x) (C x)) (toZ-ofZ p) ∙ sym g
 
 made-if : (b : Bool) (c : Change) (ch : model.Change) → allowed ch ≡ b → viewChange c ≡ ch → Fitting (madeIf b c) ch
 made-if true c ch a e = (a, e)

@@ -1,7 +1,7 @@
 // A change as its kind number picks it, and what it makes of a value (01, "The plan").
 ghost use mathlib.Core.Path.{_≡_};
-ghost use Rattle.protocol.specs.Plan.{applied};
-ghost use Rattle.change.specs.Change.{viewChange, madeOf, rangedOf};
+ghost use Rattle.protocol.specs.Plan.{inRange, isFactor, applied};
+ghost use Rattle.change.specs.Change.{viewChange, madeIf, madeOf, rangedOf};
 
 pub enum Change {
     Set(i32),
@@ -20,27 +20,44 @@ pub enum Applied {
     OutOfRange,
 }
 
+// Whether a set or an add takes a constant.
+fn is_value(k: i32) -> bool
+    ensures { λ t. ⌜ t ≡ inRange k ⌝ }
+{
+    match k {
+        -1000000..=1000000 => true,
+        _ => false,
+    }
+}
+
+// Whether a multiply or a divide takes a constant.
+fn is_factor(k: i32) -> bool
+    ensures { λ t. ⌜ t ≡ isFactor k ⌝ }
+{
+    match k {
+        -10..=-1 | 1..=10 => true,
+        _ => false,
+    }
+}
+
+fn made_if(allowed: bool, change: Change) -> Made
+    ensures { λ r. ⌜ r ≡ madeIf allowed change ⌝ }
+{
+    if allowed {
+        return Made::Made(change);
+    }
+    Made::Refused
+}
+
 // The change of a kind number and a constant. Every other number, and a constant that the kind does not take, is refused as 24.
 pub fn make(kind: u32, constant: i32) -> Made
     ensures { λ r. ⌜ r ≡ madeOf kind constant ⌝ }
 {
     match kind {
-        1 => match constant {
-            -1000000..=1000000 => Made::Made(Change::Set(constant)),
-            _ => Made::Refused,
-        },
-        2 => match constant {
-            -1000000..=1000000 => Made::Made(Change::Add(constant)),
-            _ => Made::Refused,
-        },
-        3 => match constant {
-            -10..=-1 | 1..=10 => Made::Made(Change::Multiply(constant)),
-            _ => Made::Refused,
-        },
-        4 => match constant {
-            -10..=-1 | 1..=10 => Made::Made(Change::Divide(constant)),
-            _ => Made::Refused,
-        },
+        1 => made_if(is_value(constant), Change::Set(constant)),
+        2 => made_if(is_value(constant), Change::Add(constant)),
+        3 => made_if(is_factor(constant), Change::Multiply(constant)),
+        4 => made_if(is_factor(constant), Change::Divide(constant)),
         _ => Made::Refused,
     }
 }
