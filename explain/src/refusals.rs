@@ -36,7 +36,7 @@ pub const REFUSALS: [Refusal; 30] = [
         15,
         DRAWER,
         "The allowance of a rule is from -200 m to 200 m, and its last number is 0 for soft or 1 for firm.",
-        "correct the number that is neither.",
+        "correct the number that is out of range.",
     ),
     no(16, DRAWER, "A plan needs a measure before it can be opened.", "give at least one measure."),
     no(

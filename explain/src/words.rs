@@ -112,7 +112,7 @@ impl Teller {
                     _ => format!("The copy of {}", self.names.side(side)),
                 };
                 let values =
-                    given.iter().zip(1..).map(|(&value, measure)| format!("{} {}", self.names.measure(measure), mm(value)));
+                    given.iter().zip(1..).map(|(&value, measure)| format!("{} at {}", self.names.measure(measure), mm(value)));
                 vec![format!("{owner}: {}.", values.collect::<Vec<_>>().join(", "))]
             }
             Call::Fate { edit } => vec![self.fate(edit, number, given.get(1).copied().unwrap_or(0))],
@@ -219,7 +219,7 @@ impl Teller {
 
     fn moved(&self, measure: i64, now: i64) -> Option<String> {
         let before = *self.book.base.get(&measure)?;
-        (before != now).then(|| format!("- {}, {} before, {} now", self.names.measure(measure), mm(before), mm(now)))
+        (before != now).then(|| format!("- {} from {} to {}", self.names.measure(measure), mm(before), mm(now)))
     }
 
     fn fate(&self, number: i64, fate: i64, place: i64) -> String {
