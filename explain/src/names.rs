@@ -1,6 +1,7 @@
 //! What measures, sides and clients are called. A file of names has on each line `measure`, `side` or `client`, its number, and
 //! the name as one would say it in a sentence: `measure 2 the door`, `client 5 Anna`.
 
+use crate::layout::TIE;
 use std::collections::BTreeMap;
 
 /// Longer names would spoil the layout.
@@ -37,14 +38,18 @@ impl Names {
     /// The number with the name behind it, for the line that brings the thing in: "side 2 (the surveyor)".
     pub fn introduced(&self, kind: &'static str, number: i64) -> String {
         match self.given.get(&(kind, number)) {
-            Some(name) => format!("{kind} {number} ({name})"),
-            None => format!("{kind} {number}"),
+            Some(name) => format!("{} ({name})", numbered(kind, number)),
+            None => numbered(kind, number),
         }
     }
 
     fn name(&self, kind: &'static str, number: i64) -> String {
-        self.given.get(&(kind, number)).cloned().unwrap_or_else(|| format!("{kind} {number}"))
+        self.given.get(&(kind, number)).cloned().unwrap_or_else(|| numbered(kind, number))
     }
+}
+
+fn numbered(kind: &str, number: i64) -> String {
+    format!("{kind}{TIE}{number}")
 }
 
 fn entry(line: &str) -> Option<((&'static str, i64), String)> {
@@ -65,9 +70,9 @@ mod tests {
     fn names_are_read_and_the_rest_is_numbered() {
         let names = Names::read("measure 2 the  door\n\nside 1 the showroom\nclient 5 Anna\n").unwrap();
         assert_eq!(names.measure(2), "the door");
-        assert_eq!(names.measure(1), "measure 1");
-        assert_eq!(names.introduced("side", 1), "side 1 (the showroom)");
-        assert_eq!(names.introduced("side", 2), "side 2");
+        assert_eq!(names.measure(1).replace(TIE, " "), "measure 1");
+        assert_eq!(names.introduced("side", 1).replace(TIE, " "), "side 1 (the showroom)");
+        assert_eq!(names.introduced("side", 2).replace(TIE, " "), "side 2");
         assert_eq!(names.client(5), "Anna");
     }
 

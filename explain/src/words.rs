@@ -414,9 +414,9 @@ fn some(list: &[i64]) -> Option<&[i64]> {
 /// Why an edit was revoked, for the list at the install.
 fn against(rules: &[i64]) -> String {
     match rules {
-        [] => "its result was out of range".to_string(),
-        [rule] => format!("it broke rule {rule}"),
-        _ => format!("it broke rules {}", runs(rules)),
+        [] => "its result would be out of range".to_string(),
+        [rule] => format!("it would break rule {rule}"),
+        _ => format!("it would break rules {}", runs(rules)),
     }
 }
 
