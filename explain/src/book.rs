@@ -1,6 +1,6 @@
 //! What is remembered of the accepted lines, from their numbers and answers alone (01, "The book").
 
-use crate::call::Call;
+use crate::call::{Call, Edit, Rule};
 use std::collections::BTreeMap;
 
 #[derive(Clone, Copy, PartialEq, Eq, Debug)]
@@ -13,50 +13,6 @@ pub enum Mode {
 }
 
 #[derive(Clone, Copy, PartialEq, Eq, Debug)]
-pub enum Change {
-    Set(i64),
-    Add(i64),
-    Multiply(i64),
-    Divide(i64),
-}
-
-impl Change {
-    pub fn new(kind: i64, constant: i64) -> Option<Change> {
-        Some(match kind {
-            1 => Change::Set(constant),
-            2 => Change::Add(constant),
-            3 => Change::Multiply(constant),
-            4 => Change::Divide(constant),
-            _ => return None,
-        })
-    }
-
-    /// Never fails, whatever numbers a damaged file of answers led to.
-    pub fn made_on(self, value: i64) -> i64 {
-        match self {
-            Change::Set(constant) => constant,
-            Change::Add(constant) => value.saturating_add(constant),
-            Change::Multiply(constant) => value.saturating_mul(constant),
-            Change::Divide(constant) => value.checked_div(constant).unwrap_or(value),
-        }
-    }
-}
-
-#[derive(Clone, Copy)]
-pub struct Rule {
-    pub low: i64,
-    pub gap: i64,
-    pub high: i64,
-    pub firm: bool,
-}
-
-impl Rule {
-    pub fn names(&self, measure: i64) -> bool {
-        self.low == measure || self.high == measure
-    }
-}
-
-#[derive(Clone, Copy, PartialEq, Eq, Debug)]
 pub enum Fate {
     Unsent,
     Waiting,
@@ -64,19 +20,22 @@ pub enum Fate {
     Revoked,
 }
 
-pub struct Edit {
-    pub side: i64,
-    pub client: i64,
-    pub earlier: i64,
-    pub measure: i64,
-    pub change: Change,
+pub struct Kept {
+    pub edit: Edit,
     pub fate: Fate,
     /// The rules in the way when it was revoked; none if the result was out of range.
     pub against: Vec<i64>,
 }
 
+impl Kept {
+    pub fn is_unsent_of(&self, side: i64) -> bool {
+        self.fate == Fate::Unsent && self.edit.side == side
+    }
+}
+
 pub type Values = BTreeMap<i64, i64>;
 
+/// An install leaves side 1 as new, so no join knows of an earlier one's messages.
 #[derive(Default)]
 pub struct Side {
     pub values: Values,
@@ -107,7 +66,7 @@ pub struct Book {
     pub mode: Mode,
     pub rules: BTreeMap<i64, Rule>,
     pub sides: BTreeMap<i64, Side>,
-    pub edits: BTreeMap<i64, Edit>,
+    pub edits: BTreeMap<i64, Kept>,
     /// The last whole plan, and the joined plan as far as it has come.
     pub base: Values,
     pub draft: Values,
@@ -133,8 +92,8 @@ impl Book {
             Call::Measure { value } => {
                 self.side(1).values.insert(given[0], value);
             }
-            Call::Rule { low, gap, high, firm } => {
-                self.rules.insert(given[0], Rule { low, gap, high, firm });
+            Call::Rule(rule) => {
+                self.rules.insert(given[0], rule);
             }
             Call::Open => self.mode = Mode::Whole,
             Call::Split { side } => {
@@ -146,26 +105,20 @@ impl Book {
                 self.mode = Mode::Split;
                 self.sides.insert(given[0], Side { values, ..Side::default() });
             }
-            Call::Edit { side, client, earlier, measure, kind, constant } => {
-                let Some(change) = Change::new(kind, constant) else { return };
-                make(&mut self.side(side).values, measure, change);
+            Call::Edit(edit) => {
+                make(&mut self.side(edit.side).values, &edit);
                 if self.mode != Mode::Whole {
-                    let edit = Edit { side, client, earlier, measure, change, fate: Fate::Unsent, against: Vec::new() };
-                    self.edits.insert(given[0], edit);
+                    self.edits.insert(given[0], Kept { edit, fate: Fate::Unsent, against: Vec::new() });
                 }
             }
             Call::Join => {
                 self.mode = Mode::Joining;
                 self.draft = self.base.clone();
-                for side in self.sides.values_mut() {
-                    side.sent = false;
-                    side.confirmed = false;
-                }
             }
             Call::Send { side } => {
                 self.side(side).sent = true;
-                for edit in self.edits.values_mut().filter(|edit| edit.side == side && edit.fate == Fate::Unsent) {
-                    edit.fate = Fate::Waiting;
+                for kept in self.edits.values_mut().filter(|kept| kept.is_unsent_of(side)) {
+                    kept.fate = Fate::Waiting;
                 }
             }
             Call::Replay { edit } => self.settle(edit, given[0] == 3),
@@ -181,20 +134,16 @@ impl Book {
     }
 
     fn settle(&mut self, number: i64, accepted: bool) {
-        let Some(edit) = self.edits.get(&number) else { return };
-        let (measure, change) = (edit.measure, edit.change);
+        let Some(kept) = self.edits.get(&number) else { return };
+        let edit = kept.edit;
         let (fate, against) = if accepted {
-            make(&mut self.draft, measure, change);
+            make(&mut self.draft, &edit);
             (Fate::Accepted, Vec::new())
         } else {
-            let trial = self.tried(&self.draft, measure, change);
-            let rules = trial.filter(|trial| trial.fits).map(|trial| trial.broken.iter().map(|broken| broken.rule).collect());
-            (Fate::Revoked, rules.unwrap_or_default())
+            let trial = self.tried(&self.draft, &edit).filter(|trial| trial.fits);
+            (Fate::Revoked, trial.map_or(Vec::new(), |trial| trial.broken.iter().map(|broken| broken.rule).collect()))
         };
-        if let Some(edit) = self.edits.get_mut(&number) {
-            edit.fate = fate;
-            edit.against = against;
-        }
+        self.edits.insert(number, Kept { edit, fate, against });
     }
 
     /// A side that an accepted line names.
@@ -208,11 +157,11 @@ impl Book {
     }
 
     /// What the change would lead to. Whether it is made is never decided here; this only finds words for a refusal.
-    pub fn tried(&self, values: &Values, measure: i64, change: Change) -> Option<Trial> {
-        let before = *values.get(&measure)?;
-        let after = change.made_on(before);
+    pub fn tried(&self, values: &Values, edit: &Edit) -> Option<Trial> {
+        let before = *values.get(&edit.measure)?;
+        let after = edit.change.made_on(before);
         let mut changed = values.clone();
-        changed.insert(measure, after);
+        changed.insert(edit.measure, after);
         Some(Trial { before, after, fits: after.unsigned_abs() <= LIMIT, broken: self.broken(&changed) })
     }
 
@@ -225,16 +174,28 @@ impl Book {
         self.rules.iter().filter_map(compared).filter(|broken| broken.low >= broken.high).collect()
     }
 
-    pub fn edits_with(&self, fate: Fate) -> Vec<i64> {
-        self.edits_where(|edit| edit.fate == fate)
+    fn edits_where(&self, test: impl Fn(&Kept) -> bool) -> Vec<i64> {
+        self.edits.iter().filter(|(_, kept)| test(kept)).map(|(&number, _)| number).collect()
     }
 
-    pub fn edits_where(&self, test: impl Fn(&Edit) -> bool) -> Vec<i64> {
-        self.edits.iter().filter(|(_, edit)| test(edit)).map(|(&number, _)| number).collect()
+    pub fn edits_with(&self, fate: Fate) -> Vec<i64> {
+        self.edits_where(|kept| kept.fate == fate)
     }
 
     pub fn unsent_of(&self, side: i64) -> Vec<i64> {
-        self.edits_where(|edit| edit.side == side && edit.fate == Fate::Unsent)
+        self.edits_where(|kept| kept.is_unsent_of(side))
+    }
+
+    pub fn to_send(&self) -> Vec<i64> {
+        self.sides_where(|number, side| !side.sent || !self.unsent_of(number).is_empty())
+    }
+
+    pub fn to_replay(&self) -> Vec<i64> {
+        self.edits_where(|kept| matches!(kept.fate, Fate::Unsent | Fate::Waiting))
+    }
+
+    pub fn to_confirm(&self) -> Vec<i64> {
+        self.sides_where(|_, side| !side.confirmed)
     }
 
     pub fn sides_where(&self, test: impl Fn(i64, &Side) -> bool) -> Vec<i64> {
@@ -242,8 +203,8 @@ impl Book {
     }
 }
 
-fn make(values: &mut Values, measure: i64, change: Change) {
-    if let Some(value) = values.get_mut(&measure) {
-        *value = change.made_on(*value);
+fn make(values: &mut Values, edit: &Edit) {
+    if let Some(value) = values.get_mut(&edit.measure) {
+        *value = edit.change.made_on(*value);
     }
 }

@@ -4,10 +4,10 @@
 #[derive(Clone, Copy, PartialEq, Eq, Debug)]
 pub enum Call {
     Measure { value: i64 },
-    Rule { low: i64, gap: i64, high: i64, firm: bool },
+    Rule(Rule),
     Open,
     Split { side: i64 },
-    Edit { side: i64, client: i64, earlier: i64, measure: i64, kind: i64, constant: i64 },
+    Edit(Edit),
     Join,
     Send { side: i64 },
     Replay { edit: i64 },
@@ -19,8 +19,65 @@ pub enum Call {
     Left,
 }
 
+/// Measure `low` plus `gap` is less than measure `high`.
+#[derive(Clone, Copy, PartialEq, Eq, Debug)]
+pub struct Rule {
+    pub low: i64,
+    pub gap: i64,
+    pub high: i64,
+    pub firm: bool,
+}
+
+impl Rule {
+    pub fn names(&self, measure: i64) -> bool {
+        self.low == measure || self.high == measure
+    }
+}
+
+#[derive(Clone, Copy, PartialEq, Eq, Debug)]
+pub struct Edit {
+    pub side: i64,
+    pub client: i64,
+    pub earlier: i64,
+    pub measure: i64,
+    pub change: Change,
+}
+
+/// `Unknown` stands for every number that is no kind. It is never accepted.
+#[derive(Clone, Copy, PartialEq, Eq, Debug)]
+pub enum Change {
+    Set(i64),
+    Add(i64),
+    Multiply(i64),
+    Divide(i64),
+    Unknown,
+}
+
+impl Change {
+    fn new(kind: i64, constant: i64) -> Change {
+        match kind {
+            1 => Change::Set(constant),
+            2 => Change::Add(constant),
+            3 => Change::Multiply(constant),
+            4 => Change::Divide(constant),
+            _ => Change::Unknown,
+        }
+    }
+
+    /// Never fails, whatever numbers a damaged file of answers led to.
+    pub fn made_on(self, value: i64) -> i64 {
+        match self {
+            Change::Set(constant) => constant,
+            Change::Add(constant) => value.saturating_add(constant),
+            Change::Multiply(constant) => value.saturating_mul(constant),
+            Change::Divide(constant) => value.checked_div(constant).unwrap_or(value),
+            Change::Unknown => value,
+        }
+    }
+}
+
 /// The names, each with what its numbers are.
-const CALLS: [(&str, &[&str]); 14] = [
+pub const CALLS: [(&str, &[&str]); 14] = [
     ("measure", &["its value"]),
     ("rule", &["a measure", "an allowance", "the measure above it", "1 if firm or else 0"]),
     ("open", &[]),
@@ -42,11 +99,11 @@ impl Call {
         let (name, numbers) = words(line)?;
         Some(match (name, numbers.as_slice()) {
             ("measure", &[value]) => Call::Measure { value },
-            ("rule", &[low, gap, high, firm]) => Call::Rule { low, gap, high, firm: firm == 1 },
+            ("rule", &[low, gap, high, firm]) => Call::Rule(Rule { low, gap, high, firm: firm == 1 }),
             ("open", []) => Call::Open,
             ("split", &[side]) => Call::Split { side },
             ("edit", &[side, client, earlier, measure, kind, constant]) => {
-                Call::Edit { side, client, earlier, measure, kind, constant }
+                Call::Edit(Edit { side, client, earlier, measure, change: Change::new(kind, constant) })
             }
             ("join", []) => Call::Join,
             ("send", &[side]) => Call::Send { side },
@@ -124,10 +181,8 @@ mod tests {
             assert!(Call::read(format!("{name}{numbers}").as_bytes()).is_some(), "{name}");
             assert!(Call::read(format!("{name}{numbers} 1").as_bytes()).is_none(), "{name}");
         }
-        assert_eq!(
-            Call::read(b"edit 1 5 0 2 3 -4"),
-            Some(Call::Edit { side: 1, client: 5, earlier: 0, measure: 2, kind: 3, constant: -4 })
-        );
+        let edit = Edit { side: 1, client: 5, earlier: 0, measure: 2, change: Change::Multiply(-4) };
+        assert_eq!(Call::read(b"edit 1 5 0 2 3 -4"), Some(Call::Edit(edit)));
     }
 
     #[test]

@@ -7,7 +7,9 @@ pub mod book;
 pub mod call;
 mod layout;
 mod names;
+mod phrases;
 pub mod refusals;
+mod refused;
 mod words;
 
 pub use names::Names;

@@ -82,7 +82,7 @@ pub const REFUSALS: [Refusal; 30] = [
     no(39, RUNNER, "This side has confirmed already.", "nothing to do here; go on with the next step."),
     no(40, RUNNER, "Not every side has confirmed.", "let each side confirm before the install."),
     no(41, HOST, "The area lent for the values is too short.", "lend room for 32 numbers; that is always enough."),
-    no(51, HOST, "The line cannot be read, so nothing was done.", "write the line again as the sheet asks."),
+    no(51, HOST, "The line cannot be read, so nothing was done.", "write the line as the README lists it."),
     no(
         52,
         HOST,

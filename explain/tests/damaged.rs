@@ -1,49 +1,34 @@
 //! Whatever bytes a sheet, its answers and its names are of, the page is made, fits, and shows every line.
 
+use explain::call::CALLS;
 use explain::{explain, lines, Names};
 
-/// A small random number generator (splitmix64).
-struct Random(u64);
+#[path = "../../tests/differential/src/random.rs"]
+#[allow(dead_code)]
+mod random;
 
-impl Random {
-    fn below(&mut self, n: usize) -> usize {
-        self.0 = self.0.wrapping_add(0x9e37_79b9_7f4a_7c15);
-        let mut z = self.0;
-        z = (z ^ (z >> 30)).wrapping_mul(0xbf58_476d_1ce4_e5b9);
-        z = (z ^ (z >> 27)).wrapping_mul(0x94d0_49bb_1331_11eb);
-        ((z ^ (z >> 31)) % n as u64) as usize
-    }
+use random::Random;
 
-    fn pick<T: Copy>(&mut self, from: &[T]) -> T {
-        from[self.below(from.len())]
-    }
-
-    fn bytes(&mut self, most: usize) -> Vec<u8> {
-        (0..self.below(most)).map(|_| self.below(256) as u8).collect()
-    }
-
-    /// A name and up to seven numbers, small ones and some at the limits.
-    fn line(&mut self, names: &[&str]) -> String {
-        let mut line = self.pick(names).to_string();
-        for _ in 0..self.below(8) {
-            let number = match self.below(4) {
-                0 => self.pick(&[0, -1, 10, 999, 1_000_000, -2_000_000, 999_999_999, -999_999_999]),
-                _ => self.below(5) as i64,
-            };
-            line += &format!(" {number}");
-        }
-        line
-    }
-
-    fn text(&mut self, names: &[&str], most: usize) -> Vec<u8> {
-        (0..self.below(most)).flat_map(|_| format!("{}\n", self.line(names)).into_bytes()).collect()
-    }
+fn bytes(random: &mut Random, most: usize) -> Vec<u8> {
+    (0..random.below(most)).map(|_| random.below(256) as u8).collect()
 }
 
-const CALLS: [&str; 15] = [
-    "measure", "rule", "open", "split", "edit", "join", "send", "replay", "stop", "confirm", "install", "show", "fate", "left",
-    "other",
-];
+/// Lines of a name and up to seven numbers, small ones and some at the limits.
+fn text(random: &mut Random, names: &[&str], most: usize) -> Vec<u8> {
+    let mut text = String::new();
+    for _ in 0..random.below(most) {
+        text += random.pick(names);
+        for _ in 0..random.below(8) {
+            let number = match random.chance(250) {
+                true => random.pick(&[0, -1, 10, 999, 1_000_000, -2_000_000, 999_999_999, -999_999_999]),
+                false => random.between(0, 4),
+            };
+            text += &format!(" {number}");
+        }
+        text += "\n";
+    }
+    text.into_bytes()
+}
 
 fn check(sheet: &[u8], answers: &[u8], names: Names) {
     let page = explain(sheet, answers, names);
@@ -62,9 +47,9 @@ fn check(sheet: &[u8], answers: &[u8], names: Names) {
 
 #[test]
 fn any_bytes() {
-    let mut random = Random(1);
-    for _ in 0..300 {
-        let (sheet, answers) = (random.bytes(400), random.bytes(400));
+    for item in 0..300 {
+        let mut random = Random::item(1, item);
+        let (sheet, answers) = (bytes(&mut random, 400), bytes(&mut random, 400));
         check(&sheet, &answers, Names::default());
     }
 }
@@ -72,11 +57,12 @@ fn any_bytes() {
 /// Answers that no program would give to these lines.
 #[test]
 fn answers_of_another_sheet() {
-    let mut random = Random(2);
-    for _ in 0..600 {
-        let sheet = random.text(&CALLS, 60);
-        let answers = random.text(&["ok", "ok", "ok", "no"], 60);
-        let names = String::from_utf8_lossy(&random.text(&["measure", "side", "client"], 10)).into_owned();
+    let calls = CALLS.map(|(name, _)| name);
+    for item in 0..600 {
+        let mut random = Random::item(2, item);
+        let sheet = text(&mut random, &calls, 60);
+        let answers = text(&mut random, &["ok", "ok", "ok", "no", "yes"], 60);
+        let names = String::from_utf8(text(&mut random, &["measure", "side", "client"], 10)).unwrap();
         check(&sheet, &answers, Names::read(&names).unwrap_or_default());
     }
 }
@@ -85,8 +71,8 @@ fn answers_of_another_sheet() {
 fn single_bytes_of_a_good_sheet() {
     let sheet = include_bytes!("../../examples/island.sheet");
     let answers = include_bytes!("../../examples/island.answers");
-    let mut random = Random(3);
-    for _ in 0..300 {
+    for item in 0..300 {
+        let mut random = Random::item(3, item);
         let (mut sheet, mut answers) = (sheet.to_vec(), answers.to_vec());
         for bytes in [&mut sheet, &mut answers] {
             let at = random.below(bytes.len());
