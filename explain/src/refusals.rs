@@ -51,8 +51,8 @@ pub const REFUSALS: [Refusal; 30] = [
     no(
         24,
         EDITOR,
-        "The kind of change is 1 (set), 2 (add), 3 (multiply) or 4 (divide); set and add take -100 m to 100 m, multiply and divide \
-         take 1 to 10 or -10 to -1.",
+        "The kind of change is 1 (set), 2 (add), 3 (multiply) or 4 (divide); set and add take -100 m to 100 m, \
+         multiply and divide take 1 to 10 or -10 to -1.",
         "correct the kind or its number.",
     ),
     no(

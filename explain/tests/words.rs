@@ -20,13 +20,15 @@ fn says(sheet: &str, parts: &[&str]) {
 /// A rule would be broken too, but the range is tested first.
 #[test]
 fn an_edit_revoked_for_its_range() {
-    let sheet = "measure 500000 | ok 1\nmeasure 500000 | ok 2\nrule 1 -600000 2 0 | ok 1\nopen | ok 0\nsplit 1 | ok 2\nedit 1 1 0 1 3 2 | ok 1\nedit 2 2 0 1 3 2 | ok 2\njoin | ok 0\n\
-                 send 1 | ok 1\nsend 2 | ok 1\nreplay 2 | ok 3\nreplay 1 | ok 4\nstop | ok 0\nconfirm 1 | ok 0\nconfirm 2 | ok 0\ninstall | ok 0";
+    let sheet = "measure 500000 | ok 1\nmeasure 500000 | ok 2\nrule 1 -600000 2 0 | ok 1\nopen | ok 0\nsplit 1 | ok 2\n\
+                 edit 1 1 0 1 3 2 | ok 1\nedit 2 2 0 1 3 2 | ok 2\njoin | ok 0\n\
+                 send 1 | ok 1\nsend 2 | ok 1\nreplay 2 | ok 3\nreplay 1 | ok 4\nstop | ok 0\n\
+                 confirm 1 | ok 0\nconfirm 2 | ok 0\ninstall | ok 0";
     says(
         sheet,
         &[
-            "Revoked: edit 1 by client 1 (side 1), multiply measure 1 by 2. In the joined plan measure 1 would go from 100000.0 mm to \
-             200000.0 mm, out of range.",
+            "Revoked: edit 1 by client 1 (side 1), multiply measure 1 by 2. In the joined plan measure 1 would go from \
+             100000.0 mm to 200000.0 mm, out of range.",
             "- edit 1 by client 1 (side 1), multiply measure 1 by 2; its result would be out of range",
         ],
     );
@@ -34,7 +36,8 @@ fn an_edit_revoked_for_its_range() {
 
 #[test]
 fn range_comes_before_rules() {
-    let sheet = "measure 0 | ok 1\nmeasure 9 | ok 2\nrule 1 0 2 0 | ok 1\nopen | ok 0\nedit 1 1 0 1 1 5 | ok 1\nedit 1 1 0 1 2 1000000 | no 28";
+    let sheet = "measure 0 | ok 1\nmeasure 9 | ok 2\nrule 1 0 2 0 | ok 1\nopen | ok 0\nedit 1 1 0 1 1 5 | ok 1\n\
+                 edit 1 1 0 1 2 1000000 | no 28";
     let page = page(sheet);
     assert!(page.contains("would go from 0.5 mm to 100000.5 mm, out of range.") && !page.contains("fails"), "{page}");
 }
