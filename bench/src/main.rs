@@ -247,7 +247,7 @@ fn measure(work: &Workload, rounds: usize) -> (f64, f64) {
 }
 
 fn heading(first: &str) {
-    println!("| {first} | library, ns per line | separate program, ns per line | ratio |");
+    println!("| {first} | library, ns per line | Rust program, ns per line | ratio |");
     println!("|---|---|---|---|");
 }
 
@@ -258,7 +258,7 @@ fn row(name: &str, (library, separate): (f64, f64)) {
 fn main() {
     let rounds = std::env::args().nth(1).and_then(|text| text.parse().ok()).unwrap_or(400);
     println!("Least of {rounds} rounds; both programs optimised, in one process, turn by turn; the area is not cleared between");
-    println!("runs; the time of the lines that set the plan up is taken off. Ratio: library over separate program.");
+    println!("runs; the time of the lines that set the plan up is taken off. Ratio: library over Rust program.");
     println!();
     heading("workload");
     let mut product = 0.0;

@@ -1,6 +1,6 @@
 use borrow.Author.Needs.{needs}
 use native.Mathlib.Omega.{arith}
-use Prim.Native.Nat.{_<_, _-_, _+_, min}
+use Prim.Native.Nat.{_-_, min}
 use mathlib.Core.Path.{sym, _∙_}
 use Rattle.protocol.specs.Lists.{any}
 use Rattle.rules.specs.Rules.{firmAt, firmIn}

@@ -1,6 +1,5 @@
 use borrow.Author.Tests.{eq-eqb, ne-eqb}
 use Rattle.rules.specs.Rules.{namesPair}
-use borrow.Author.Needs.{needs}
 use Rattle.rules.proofs.names_firmly.Statement.{statement}
 use Rattle.rules.proofs.names_firmly.Tie as tie
 use Rattle.rules.proofs.names_firmly.Reads as reads

@@ -1,9 +1,7 @@
 use native.Mathlib.Omega.{arith}
-use Prim.Native.Nat.{_≤_, min}
-use mathlib.Core.Bool.{true, false}
-use mathlib.Core.List.{List}
+use Prim.Native.Nat.{min}
 use mathlib.Core.Path.{_≡_, sym, ap, ap₂, _∙_}
-use lib.IntN.{ℤ, pos}
+use lib.IntN.{pos}
 use lib.ListN.{getD, set, replicate}
 use mir.Facts.{toZ-ofZ}
 use Rattle.protocol.specs.Lists.{oneTo}

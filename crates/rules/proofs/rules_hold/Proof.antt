@@ -1,5 +1,5 @@
 use Prim.Native.Nat.{min}
-use mathlib.Core.Path.{_≡_, ap, _∙_}
+use mathlib.Core.Path.{ap, _∙_}
 use mir.Facts.{toZ-ofZ}
 use Rattle.protocol.specs.Plan.{value}
 use Rattle.rows.specs.Rows.{row}

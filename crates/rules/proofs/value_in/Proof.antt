@@ -1,6 +1,6 @@
 use mathlib.Core.Path.{sym}
 use lib.IntN.{pos}
-use lib.ListN.{getD, List·getD-eq-default}
+use lib.ListN.{List·getD-eq-default}
 use borrow.Author.Needs.{needs}
 use Rattle.rules.proofs.value_in.Statement.{statement}
 use Rattle.rules.proofs.value_in.Tie as tie
