@@ -1,5 +1,5 @@
 -- How a run goes on from line to line: the invariant of its loop, and its end. Assumes nothing.
-use Prim.Native.Nat.{ℕ, suc, _+_, _-_, _<_, _≤_}
+use Prim.Native.Nat.{ℕ, _+_, _-_, _<_, _≤_}
 use native.Mathlib.Omega.{arith}
 use mathlib.Core.Path.{_≡_, refl, sym, ap, _∙_}
 use mathlib.Core.Bool.{Bool, true, false}
@@ -8,11 +8,11 @@ use borrow.Author.Tests.{lt-ltb, le-ltb, leb-true}
 use borrow.Rule.Slice.PartMut.{putMid}
 use lib.Dec.{leb}
 use lib.ListN.{length, take, drop, length-append, length-take, length-drop, drop-of-length-le, take-append-drop}
-use lib.Seq.{drop-cons, drop-drop, take-all, take-at, drop-at}
+use lib.Seq.{drop-drop, take-all, take-at, drop-at}
 use Rattle.format.specs.Lines.{lineFeed, lines}
 use Rattle.format.specs.Sheets.{text, turn, inFront}
 use Rattle.reader.specs.Cut.{upTo}
-use Rattle.reader.proofs.Cuts.{lines-cut}
+use Rattle.reader.proofs.Cuts.{lines-over, lines-at}
 use Rattle.state.specs.declared.State.{State}
 use Rattle.state.specs.View.{view}
 use Rattle.records.specs.Records.{keptOf}
@@ -53,8 +53,8 @@ module _ (reserve : ℕ) (sheet : List ℕ) (from : ℕ) (lent : List ℕ) (star
       }
 
   pub over : length sheet ≤ i → Advanced reserve sheet from start lent (record { state = p; next = i; written = at; ended = false }) area
-  unfolding ran lines
-  over h = ends p i false (rw (drop-of-length-le sheet {i = i} h))
+  unfolding ran
+  over h = ends p i false (rw (lines-over sheet i h))
 
   -- the line at hand
   abbrev line : List ℕ
@@ -64,10 +64,7 @@ module _ (reserve : ℕ) (sheet : List ℕ) (from : ℕ) (lent : List ℕ) (star
   end = i + length line
 
   cut : i < length sheet → lines (drop i sheet) ≡ line ∷ lines (drop (end + 1) sheet)
-  cut h = by (drop i sheet) (drop-cons sheet i 0 h) ∙ ap (λ xs. line ∷ lines xs) (drop-drop (suc (length line)) i sheet ∙ (let e : i + suc (length line) ≡ end + 1 = omega arith in ap (λ k. drop k sheet) e))
-    where
-      by : {x : ℕ} {xs : List ℕ} (ys : List ℕ) → ys ≡ x ∷ xs → lines ys ≡ upTo lineFeed ys ∷ lines (drop (suc (length (upTo lineFeed ys))) ys)
-      by {x} {xs} ys e = rw e (lines-cut x xs)
+  cut h = lines-at sheet i end refl h
 
   pub paused : i < length sheet → length lent - at < reserve → Advanced reserve sheet from start lent (record { state = p; next = i; written = at; ended = false }) area
   unfolding ran

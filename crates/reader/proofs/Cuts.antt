@@ -7,7 +7,7 @@ use mathlib.Core.Bool.{Bool, true, false}
 use mathlib.Core.List.{List, [], _∷_}
 use borrow.Author.Tests.{eq-eqb, ne-eqb, eqb-true, eqb-false}
 use lib.Dec.{eqb}
-use lib.ListN.{length, getD, take, drop, length-drop, drop-of-length-le}
+use lib.ListN.{length, getD, drop, length-drop, drop-of-length-le}
 use lib.Seq.{drop-cons, drop-drop}
 use Rattle.protocol.proofs.Laws.{cases}
 use Rattle.format.specs.Lines.{lineFeed, space, grow, lines, words}
@@ -25,12 +25,6 @@ module _ (b : ℕ) (xs : List ℕ) (at : ℕ) where
 
   pub upTo-next : at < length xs → (getD xs at 0 ≡ b → ⊥) → upTo b (drop at xs) ≡ getD xs at 0 ∷ upTo b (drop (at + 1) xs)
   upTo-next h e = rw (add-one at, drop-cons xs at 0 h, ne-eqb (getD xs at 0) b e)
-
-pub take-upTo : (b : ℕ) (xs : List ℕ) → take (length (upTo b xs)) xs ≡ upTo b xs
-take-upTo b [] = refl
-take-upTo b (x ∷ xs) =
-    let ih = take-upTo b xs in
-    cases (eqb x b) (λ t. rw t) (λ t. rw t (ap {B = List ℕ} (λ ys. x ∷ ys) ih))
 
 pub upTo-length : (b : ℕ) (xs : List ℕ) → length (upTo b xs) ≤ length xs
 upTo-length b [] = omega arith
@@ -109,12 +103,6 @@ unfolding lines
 lines-over sheet at h = rw (drop-of-length-le sheet {i = at} h)
 
 module _ (sheet : List ℕ) (at end : ℕ) (e : end ≡ at + length (upTo lineFeed (drop at sheet))) where
-  -- the part of the sheet from the place to the line's end is the line
-  pub line-part : take (end - at) (drop at sheet) ≡ upTo lineFeed (drop at sheet)
-  line-part =
-      let l : end - at ≡ length (upTo lineFeed (drop at sheet)) = omega arith in
-      ap (λ n. take n (drop at sheet)) l ∙ take-upTo lineFeed (drop at sheet)
-
   pub line-within : at ≤ length sheet → end ≤ length sheet
   line-within h =
       let l = upTo-length lineFeed (drop at sheet) in

@@ -44,7 +44,7 @@ use Rattle.reads.specs.Readings.{readingOf}
 use Rattle.reads.proofs.Right.{readingIn, reading-right, reading-bounds}
 use Rattle.reader.specs.Cut.{upTo}
 use Rattle.reader.specs.Reads.{lineIn}
-use Rattle.reader.proofs.Cuts.{upTo-length}
+use Rattle.reader.proofs.Cuts.{line-within}
 use Rattle.reader.proofs.Calls.{line-length}
 use Rattle.tally.specs.declared.Tallies.{Tallies}
 use Rattle.tally.specs.Tallies.{Counted, tallyAfter}
@@ -153,7 +153,9 @@ end-is : (c : tie.After-read-line Inv-loop μ-loop) → (c .before .before .befo
 end-is c = ap (λ n. (c .before .before .before .before .loop .i) + n) (read-is-line c .1)
 
 end-most : (c : tie.After-read-line Inv-loop μ-loop) → (c .before .before .before .before .loop .i) + (c .read-line .result .end) ≤ length ((c .before .before .before .before .before .before .before .args .sheet .now))
-end-most c = let e = end-is c in let h = (c .before .before .before .loop-test .taken) in let u = upTo-length lineFeed (drop ((c .before .before .before .before .loop .i)) ((c .before .before .before .before .before .before .before .args .sheet .now))) in let d = length-drop ((c .before .before .before .before .loop .i)) ((c .before .before .before .before .before .before .before .args .sheet .now)) in omega (arith, e, h, u, d)
+end-most c =
+    let h = (c .before .before .before .loop-test .taken) in
+    line-within ((c .before .before .before .before .before .before .before .args .sheet .now)) ((c .before .before .before .before .loop .i)) ((c .before .before .before .before .loop .i) + (c .read-line .result .end)) (end-is c) (omega (arith, h))
 
 end-fits : (c : tie.After-read-line Inv-loop μ-loop) → Fits w64 ((c .before .before .before .before .loop .i) + (c .read-line .result .end) + 1)
 end-fits c = let e = end-most c in omega arith
