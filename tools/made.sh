@@ -24,7 +24,7 @@ mark() { # FILE
 make_counter() {
     stale "$counter" crates crates.txt || return 0
     need rt 'the Rattle kit' || return
-    echo "building $counter and proving what it stands on: about five minutes the first time" >&2
+    echo "building $counter and proving what it stands on: about six minutes the first time" >&2
     # Without its stamp a program is proved and linked again; with it, rt takes a missing one for made.
     [ -f "$counter" ] || rm -f target/stamp/counter
     rt check counter && mark "$counter"
