@@ -86,9 +86,6 @@ quot-wide {a} b p = record { sfits = omega (arith, mag-quot a b) }
 pub flag : {w : Width} {x : ℤ} (y : ℤ) {t : Bool} → SFits w x → ltZ (toZ w (ofZ w x)) y ≡ t → ltZ x y ≡ t
 flag y p e = rw (toZ-ofZ p) at e
 
-pub flag-r : {w : Width} {x : ℤ} (y : ℤ) {t : Bool} → SFits w x → ltZ y (toZ w (ofZ w x)) ≡ t → ltZ y x ≡ t
-flag-r y p e = rw (toZ-ofZ p) at e
-
 -- below a is below what is at least a
 pub lt-up : (x a b : ℤ) → T (leZ a b) → ltZ x a ≡ true → ltZ x b ≡ true
 lt-up x a b h e = yes (ltZ x b) (<ℤ-≤ℤ-trans (ltZ-yes {a = x} {b = a} (subst T (sym e) tt)) (leZ-yes {a = a} {b = b} h) .lt)
