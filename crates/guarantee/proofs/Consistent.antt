@@ -1,5 +1,5 @@
 -- What ties a plan to the history of the calls that led to it; every accepted call keeps it. Assumes nothing.
-use Prim.Native.Nat.{ℕ, zero, suc, _+_, _<_, _≤_}
+use Prim.Native.Nat.{ℕ, suc, _+_, _<_, _≤_}
 use mathlib.Core.Path.{_≡_, refl, sym, ap, _∙_}
 use mathlib.Core.Logic.{_⊎_, inl, inr, _≢_}
 use mathlib.Core.Bool.{Bool, true, false, not, cond, _&&_, _||_}
@@ -10,12 +10,13 @@ use lib.ListN.{length, length-map}
 use lib.Dec.{T, T-not, not-T, eqb, eqb→eq, lt→ltb}
 use lib.IntN.{ℤ, pos, negsuc}
 use Rattle.protocol.specs.Lists.{bit, none, oneTo, natural, isZero, tally, count, all, snoc, nth, modify}
-use Rattle.protocol.specs.Plan.{Rule, Change, Edit, unsent, fateNumber, isUnsent, isWaiting, isOpen, isSettled, Kept, Side, Mode, blank, whole, split, joining, closing, modeNumber, is, active, Content, Plan, holds, made, fits, effective, absentSide, sideAt, lookup, unsentOf, pending, sidesThat}
-use Rattle.protocol.specs.Calls.{Call, measure, rule, open-plan, split-side, edit, join, send, replay, stop, confirm, install, show, fate-of, left, apart, checks, further, no25, editOf, ruleOf, changeOf, withNext, withDraft, withSides, withKept, freshSide, reset, onValues, hasArrived, hasConfirmed, sent, replayable, outcome, settled, update, nextPlace, after, gives}
+use Rattle.protocol.specs.Plan.{Rule, Change, Edit, unsent, fateNumber, isUnsent, isWaiting, isOpen, isSettled, Kept, Side, Mode, blank, whole, split, joining, closing, is, active, Content, made, absentSide, sideAt, lookup, unsentOf, pending, sidesThat}
+use Rattle.protocol.specs.Calls.{Call, measure, rule, open-plan, split-side, edit, join, send, replay, stop, confirm, install, show, fate-of, left, apart, checks, further, no25, editOf, ruleOf, changeOf, withNext, withDraft, withSides, withKept, reset, onValues, hasArrived, hasConfirmed, sent, replayable, outcome, settled, update, nextPlace, after, gives}
 use Rattle.protocol.specs.History.{Entry, Settling, edited, History, lastSent, closed, budget, times, editIn, wasAccepted, replayed, EachHolds, entered}
 use Rattle.guarantee.specs.Guarantee.{InOrder}
-use Rattle.protocol.proofs.Laws.{on, decide, cases, yes-is, is-yes, is-no, both, and-in, which, or-right, or-left, neither, not-not, range, in-range, same-no, Pass, tally-same, tally-less, tally-zero, tally-full, count-map, count-snoc, length-snoc, length-modify, nth-same, nth-other, nth-map, nth-field, all-nth, all-snoc, all-map, all-modify, all-kept, all-one}
+use Rattle.protocol.proofs.Laws.{on, decide, cases, yes-is, is-yes, is-no, both, and-in, which, or-right, or-left, neither, not-not, range, in-range, same-no, Pass, tally-same, tally-less, tally-zero, tally-full, count-map, count-snoc, length-snoc, length-modify, nth-same, nth-other, nth-map, nth-field, all-snoc}
 use Rattle.guarantee.proofs.Kept.{editsOf, editsIn, edits-snoc, edits-sent, edits-settle, edit-found, count-settle, settle-part, lookup-same, lookup-other, lookup-number, lookup-new, lookup-old, lookup-sent, open-sent, unsent-sent, unsent-other, unsent-open, waiting-open, waiting-sent, Within, within-snoc, within-lookup, Rising, rising-le, rising-snoc, bounds, Named, named-sent, named-settle, named-snoc, Reported, reported-snoc, reported-sent, reported-settle, fresh-lookup, fresh-open, settled-count}
+use Rattle.guarantee.proofs.Holding.{only, plan, Holding, replayable-holds}
 
 -- ---- the invariant
 
@@ -28,9 +29,6 @@ unconfirmed d s = not (sideAt d s .confirmed)
 -- the number left over n sides
 abbrev pub sum : Mode → Content → ℕ → ℕ
 sum m d n = tally (pending d) n + count isOpen (d .kept) + tally (unconfirmed d) n + bit (is joining m) + 1
-
-abbrev pub SidesHold : Content → Type 0
-SidesHold d = T (all (λ x. holds (d .rules) (x .values)) (d .sides))
 
 -- a joining plan has no side confirmed; in a closing one all logs have arrived, and a side that confirmed has nothing unsent
 abbrev pub SideOk : Mode → Side → ℕ → Type 0
@@ -47,11 +45,10 @@ Logged d = (n : ℕ) → T (isUnsent (lookup n (d .kept))) → T (lookup n (d .k
 -- a plan that is split, joining or closing
 abbrev pub Parted : Content → History → Type 0
 Parted d h = record {
-  ground : record { base : d .base ≡ h .values; base-holds : T (holds (d .rules) (d .base)); rising : Rising 1 (editsIn (h .kept)) (d .next); within : Within (h .sides) (editsIn (h .kept)) };
+  ground : record { base : d .base ≡ h .values; rising : Rising 1 (editsIn (h .kept)) (d .next); within : Within (h .sides) (editsIn (h .kept)) };
   kept : editsOf (d .kept) ≡ editsIn (h .kept);
   named : Named (d .kept);
   sides : length (d .sides) ≡ h .sides;
-  sides-hold : SidesHold d;
 }
 
 -- one that is joining or closing
@@ -63,19 +60,18 @@ Active m d h = record {
   logged : Logged d;
   progress : record {
     draft : d .draft ≡ replayed (h .settlings) (h .values);
-    draft-holds : T (holds (d .rules) (d .draft));
     each : EachHolds (h .rules) (h .settlings) (h .values);
     places : count isSettled (d .kept) ≡ length (h .settlings);
   };
 }
 
--- one that is blank or whole
+-- one that is blank or whole; that it has one side is told by Holding
 abbrev pub Single : Content → History → Type 0
-Single d h = record { alone : length (d .sides) ≡ 1; values : sideAt d 1 .values ≡ h .values }
+Single d h = sideAt d 1 .values ≡ h .values
 
 abbrev pub Stage : Mode → Content → History → Type 0
 Stage blank d h = Single d h
-Stage whole d h = Single d h × (h .sides ≡ 1) × SidesHold d
+Stage whole d h = Single d h × (h .sides ≡ 1)
 Stage split d h = Parted d h × T (all isUnsent (d .kept)) × (h .settlings ≡ []) × (count (λ e. e .late) (h .kept) ≡ 0)
 Stage joining d h = Parted d h × Active joining d h
 Stage closing d h = Parted d h × Active closing d h
@@ -138,7 +134,6 @@ module _ (m : Mode) (d : Content) (h : History) (t : Parted d h) (a : Active m d
           kept = edits-sent s (d .kept) ∙ t .kept;
           named = named-sent s (d .kept) (i .0) (t .named);
           sides = length-modify s hasArrived (d .sides) ∙ t .sides;
-          sides-hold = rw (all-kept (λ x. holds (d .rules) (x .values)) s hasArrived (d .sides) (λ x. refl)) (t .sides-hold);
         },
         record {
           left = omega (arith, a .left);
@@ -149,7 +144,6 @@ module _ (m : Mode) (d : Content) (h : History) (t : Parted d h) (a : Active m d
           logged = logged-sent d s (i .0) (a .logged);
           progress = record {
             draft = a .progress .draft;
-            draft-holds = a .progress .draft-holds;
             each = a .progress .each;
             places = count-map isSettled (sent s) (d .kept) (λ k. ap not (open-sent s k)) ∙ a .progress .places;
           };
@@ -165,16 +159,6 @@ outcome-number false = refl
 settled-shut : (b : Bool) (place : ℕ) (k : Kept) → (isOpen (settled b place k) ≡ false) × (isUnsent (settled b place k) ≡ false)
 settled-shut true place k = (refl, refl)
 settled-shut false place k = (refl, refl)
-
--- the one law of `replayable`: every rule holds after a change that takes effect
-replayable-holds : (d : Content) (n : ℕ) → T (not (replayable d n) || holds (d .rules) (made (lookup n (d .kept) .edit .measure) (lookup n (d .kept) .edit .change) (d .draft)))
-unfolding replayable effective
-replayable-holds d n = by (fits (lookup n (d .kept) .edit .measure) (lookup n (d .kept) .edit .change) (d .draft)) (holds (d .rules) (made (lookup n (d .kept) .edit .measure) (lookup n (d .kept) .edit .change) (d .draft)))
-  where
-    by : (f h : Bool) → T (not (f && h) || h)
-    by true true = tt
-    by true false = tt
-    by false h = tt
 
 abbrev replayTo : Content → ℕ → Content
 replayTo d n =
@@ -230,7 +214,6 @@ module _ (m : Mode) (d : Content) (h : History) (t : Parted d h) (a : Active m d
           kept = edits-settle n w place (d .kept) ∙ t .kept;
           named = named-settle n w place (d .kept) (t .named);
           sides = t .sides;
-          sides-hold = t .sides-hold;
         },
         record {
           left = omega (arith, a .left);
@@ -239,8 +222,7 @@ module _ (m : Mode) (d : Content) (h : History) (t : Parted d h) (a : Active m d
           logged = λ x. logged-settle x;
           progress = record {
             draft = rw (ow, found, ← (a .progress .draft));
-            draft-holds = cases w (λ e. rw e (which (not w) _ (replayable-holds d n) (λ u. absurd (rw e at u)) (λ u. u))) (λ e. rw e (a .progress .draft-holds));
-            each = (rw (ow, found, ← (a .progress .draft), ← rules) (cases w (λ e. rw e (which (not w) _ (replayable-holds d n) (λ u. absurd (rw e at u)) (λ u. u))) (λ e. rw e tt)), a .progress .each);
+            each = (rw (ow, found, ← (a .progress .draft), ← rules) (cases w (λ e. rw e (replayable-holds d n (is-yes e))) (λ e. rw e tt)), a .progress .each);
             places = let y = a .progress .places in omega arith;
           };
         },
@@ -294,7 +276,6 @@ module _ (d : Content) (h : History) (t : Parted d h) where
           kept = t .kept;
           named = t .named;
           sides = length-modify s hasConfirmed (d .sides) ∙ t .sides;
-          sides-hold = rw (all-kept (λ x. holds (d .rules) (x .values)) s hasConfirmed (d .sides) (λ x. refl)) (t .sides-hold);
         },
         record {
           left = omega (arith, a .left);
@@ -330,13 +311,12 @@ edits-in-snoc : (es : List Entry) (e : Entry) → editsIn (snoc es e) ≡ snoc (
 edits-in-snoc [] e = refl
 edits-in-snoc (x ∷ es) e = ap {B = List Edit} (λ r. x .edit ∷ r) (edits-in-snoc es e)
 
--- the side has the edit's measure changed, and every rule holds there
+-- the edit's number, side and earlier edit are as an accepted call has them
 abbrev pub Fitting : Content → Edit → Type 0
 Fitting d e = record {
   number : e .number ≡ d .next;
   side : T (oneTo (length (d .sides)) (e .side));
   earlier : (e .earlier ≡ 0) ⊎ T (lookup (e .earlier) (d .kept) .replied);
-  hold : T (holds (d .rules) (made (e .measure) (e .change) (sideAt d (e .side) .values)));
 }
 
 module _ (d : Content) (h : History) (e : Edit) (r : Bool) (f : Fitting d e) (t : Parted d h) where
@@ -353,14 +333,12 @@ module _ (d : Content) (h : History) (e : Edit) (r : Bool) (f : Fitting d e) (t 
       record {
         ground = record {
           base = t .ground .base;
-          base-holds = t .ground .base-holds;
           rising = rw (edits-in-snoc (h .kept) (record { edit = e; late = l })) (rising-snoc 1 (editsIn (h .kept)) (d .next) e (t .ground .rising) (f .number) lower);
           within = rw (edits-in-snoc (h .kept) (record { edit = e; late = l })) (within-snoc (h .sides) (editsIn (h .kept)) e (t .ground .within) (rw (t .sides) at (f .side)));
         };
         kept = edits-snoc (d .kept) (newKept e r) ∙ ap (λ es. snoc es e) (t .kept) ∙ sym (edits-in-snoc (h .kept) (record { edit = e; late = l }));
         named = named-snoc 1 (d .kept) (newKept e r) (rw (t .kept, f .number) (t .ground .rising)) (f .earlier) (t .named);
         sides = length-modify (e .side) (onValues (made (e .measure) (e .change))) (d .sides) ∙ t .sides;
-        sides-hold = all-modify (λ x. holds (d .rules) (x .values)) absentSide (e .side) (onValues (made (e .measure) (e .change))) (d .sides) (t .sides-hold) (f .hold);
       }
 
   more : (x : ℕ) → unsentOf x (editTo d e r .kept) ≡ unsentOf x (d .kept) + bit (eqb (e .side) x)
@@ -419,7 +397,6 @@ module _ (d : Content) (h : History) (e : Edit) (f : Fitting d e) (t : Parted d 
         logged = logged-edit (a .logged);
         progress = record {
           draft = a .progress .draft;
-          draft-holds = a .progress .draft-holds;
           each = a .progress .each;
           places = let z = count-snoc isSettled (d .kept) (newKept e false) in let y = a .progress .places in omega arith;
         };
@@ -444,40 +421,17 @@ join-active d h xs t f z early =
         kept = t .kept;
         named = t .named;
         sides = length-map (d .sides) reset ∙ t .sides;
-        sides-hold = rw (all-map (λ x. holds (d .rules) (x .values)) reset (d .sides) (λ x. refl)) (t .sides-hold);
       },
       record {
         left = omega arith;
         late = λ x. rw (side x);
         sides = λ x p q. rw (side x) tt;
         logged = λ n u r. rw (side (lookup n (d .kept) .edit .side)) tt;
-        progress = record { draft = rw z (t .ground .base); draft-holds = t .ground .base-holds; each = rw z tt; places = rw z (omega arith) };
+        progress = record { draft = rw z (t .ground .base); each = rw z tt; places = rw z (omega arith) };
       },
     )
 
 -- ---- by call
-
-decode : ℕ → Mode
-decode zero = blank
-decode (suc zero) = whole
-decode (suc (suc zero)) = split
-decode (suc (suc (suc zero))) = joining
-decode (suc (suc (suc (suc n)))) = closing
-
-coded : (m : Mode) → decode (modeNumber m) ≡ m
-unfolding decode
-coded blank = refl
-coded whole = refl
-coded split = refl
-coded joining = refl
-coded closing = refl
-
--- the mode that a test found
-pub only : (k m : Mode) → T (is k m) → m ≡ k
-only k m t = sym (coded m) ∙ ap decode (eqb→eq (modeNumber m) (modeNumber k) t) ∙ coded k
-
-abbrev pub plan : Mode → Content → Plan
-plan m d = record { mode = m; content = d }
 
 abbrev pub AfterConsistent : Call → Mode → Content → History → Type 0
 AfterConsistent c m d h = Consistent (after c m d .mode) (after c m d .content) (entered c (gives c m d) h)
@@ -492,18 +446,18 @@ earlier-ok ks client (pos n) h = which (none n) _ h (λ z. inl (eqb→eq n 0 z))
 earlier-ok ks client (negsuc n) h = inl refl
 
 module _ (d : Content) (h : History) where
-  single : (f : List ℤ → List ℤ) → Single d h → nth absentSide (modify 1 (onValues f) (d .sides)) 1 .values ≡ f (h .values)
-  single f t = ap (λ x. x .values) (nth-same absentSide (onValues f) 1 (d .sides) (omega arith) (omega (arith, t .alone))) ∙ ap f (t .values)
+  single : (f : List ℤ → List ℤ) → length (d .sides) ≡ 1 → Single d h → nth absentSide (modify 1 (onValues f) (d .sides)) 1 .values ≡ f (h .values)
+  single f one t = ap (λ x. x .values) (nth-same absentSide (onValues f) 1 (d .sides) (omega arith) (omega (arith, one))) ∙ ap f t
 
-  measure-consistent : (v : ℤ) → Consistent blank d h → AfterConsistent (measure v) blank d h
+  measure-consistent : (v : ℤ) → length (d .sides) ≡ 1 → Consistent blank d h → AfterConsistent (measure v) blank d h
   unfolding after entered gives
-  measure-consistent v t = record {
+  measure-consistent v one t = record {
     mode = t .mode;
     rules = t .rules;
     next = t .next;
     reported = t .reported;
     ordered = t .ordered;
-    stage = record { alone = length-modify 1 _ (d .sides) ∙ t .stage .alone; values = single (λ vs. snoc vs v) (t .stage) };
+    stage = single (λ vs. snoc vs v) one (t .stage);
   }
 
   rule-consistent : (a c b f : ℤ) → Consistent blank d h → AfterConsistent (rule a c b f) blank d h
@@ -517,25 +471,20 @@ module _ (d : Content) (h : History) where
     stage = t .stage;
   }
 
-  open-consistent : T (holds (d .rules) (sideAt d 1 .values)) → Consistent blank d h → AfterConsistent open-plan blank d h
+  open-consistent : Consistent blank d h → AfterConsistent open-plan blank d h
   unfolding after entered gives
-  open-consistent hold t = record {
+  open-consistent t = record {
     mode = refl;
     rules = t .rules;
     next = omega arith;
     reported = t .reported;
     ordered = t .ordered;
-    stage = (t .stage, refl, all-one (λ x. holds (d .rules) (x .values)) absentSide (d .sides) (t .stage .alone) hold);
+    stage = (t .stage, refl);
   }
 
-  split-holds : (s : ℕ) → T (oneTo (length (d .sides)) s) → SidesHold d → T (all (λ x. holds (d .rules) (x .values)) (snoc (d .sides) (freshSide (sideAt d s .values))))
-  split-holds s has hold =
-      let i = range (length (d .sides)) s has in
-      all-snoc (λ x. holds (d .rules) (x .values)) (d .sides) (freshSide (sideAt d s .values)) hold (all-nth (λ x. holds (d .rules) (x .values)) absentSide (d .sides) s hold (i .0) (i .1))
-
-  split-whole : (s : ℤ) → T (oneTo (length (d .sides)) (natural s)) → Consistent whole d h → AfterConsistent (split-side s) whole d h
+  split-whole : (s : ℤ) → length (d .sides) ≡ 1 → Consistent whole d h → AfterConsistent (split-side s) whole d h
   unfolding after entered gives
-  split-whole s has t = rw (t .mode) (record {
+  split-whole s one t = rw (t .mode) (record {
     mode = refl;
     rules = t .rules;
     next = t .next;
@@ -543,16 +492,10 @@ module _ (d : Content) (h : History) where
     ordered = tt;
     stage = (
       record {
-        ground = record {
-          base = t .stage .0 .values;
-          base-holds = all-nth (λ x. holds (d .rules) (x .values)) absentSide (d .sides) 1 (t .stage .2) (omega arith) (omega (arith, t .stage .0 .alone));
-          rising = t .next;
-          within = tt;
-        };
+        ground = record { base = t .stage .0; rising = t .next; within = tt };
         kept = refl;
         named = λ n. inl refl;
-        sides = length-snoc (d .sides) _ ∙ ap suc (t .stage .0 .alone ∙ sym (t .stage .1));
-        sides-hold = split-holds (natural s) has (t .stage .2);
+        sides = length-snoc (d .sides) _ ∙ ap suc (one ∙ sym (t .stage .1));
       },
       tt,
       refl,
@@ -560,9 +503,9 @@ module _ (d : Content) (h : History) where
     );
   })
 
-  split-split : (s : ℤ) → T (oneTo (length (d .sides)) (natural s)) → Consistent split d h → AfterConsistent (split-side s) split d h
+  split-split : (s : ℤ) → Consistent split d h → AfterConsistent (split-side s) split d h
   unfolding after entered gives
-  split-split s has t = let g = t .stage .0 .ground in rw (t .mode) (record {
+  split-split s t = let g = t .stage .0 .ground in rw (t .mode) (record {
     mode = refl;
     rules = t .rules;
     next = t .next;
@@ -570,11 +513,10 @@ module _ (d : Content) (h : History) where
     ordered = t .ordered;
     stage = (
       record {
-        ground = record { base = g .base; base-holds = g .base-holds; rising = g .rising; within = within-more (h .sides) (editsIn (h .kept)) (g .within) };
+        ground = record { base = g .base; rising = g .rising; within = within-more (h .sides) (editsIn (h .kept)) (g .within) };
         kept = t .stage .0 .kept;
         named = t .stage .0 .named;
         sides = length-snoc (d .sides) _ ∙ ap suc (t .stage .0 .sides);
-        sides-hold = split-holds (natural s) has (t .stage .0 .sides-hold);
       },
       t .stage .1,
       t .stage .2,
@@ -586,23 +528,18 @@ module _ (d : Content) (h : History) where
     abbrev made-edit : Edit
     made-edit = editOf (d .next) s client n m kind k
 
-    edit-whole : Consistent whole d h → AfterConsistent (edit s client n m kind k) whole d h
+    edit-whole : length (d .sides) ≡ 1 → Consistent whole d h → AfterConsistent (edit s client n m kind k) whole d h
     unfolding after entered gives
-    edit-whole t =
+    edit-whole one t =
         let i = range (length (d .sides)) (natural s) (f .side) in
-        let one : natural s ≡ 1 = omega (arith, t .stage .0 .alone, i .0, i .1) in
-        let hold = all-modify (λ x. holds (d .rules) (x .values)) absentSide (natural s) (onValues (made (natural m) (changeOf kind k))) (d .sides) (t .stage .2) (f .hold) in
+        let first : natural s ≡ 1 = omega (arith, one, i .0, i .1) in
         rw (t .mode) (record {
           mode = refl;
           rules = t .rules;
           next = omega arith;
           reported = t .reported;
           ordered = t .ordered;
-          stage = (
-            record { alone = length-modify (natural s) _ (d .sides) ∙ t .stage .0 .alone; values = rw one (single (made (natural m) (changeOf kind k)) (t .stage .0)) },
-            t .stage .1,
-            hold,
-          );
+          stage = (rw first (single (made (natural m) (changeOf kind k)) one (t .stage .0)), t .stage .1);
         })
 
     edit-split : Consistent split d h → AfterConsistent (edit s client n m kind k) split d h
@@ -651,31 +588,30 @@ back split d h a s = absurd a
 back joining d h a s = s
 back closing d h a s = s
 
-pub consistent-after : (c : Call) (m : Mode) (d : Content) (h : History) → Consistent m d h → Pass (checks c (plan m d)) → AfterConsistent c m d h
+pub consistent-after : (c : Call) (m : Mode) (d : Content) (h : History) → Holding m d → Consistent m d h → Pass (checks c (plan m d)) → AfterConsistent c m d h
 unfolding after entered gives checks further
-consistent-after (measure v) m d h t k = let e = only blank m (k .0) in rw e (measure-consistent d h v (rw e at t))
-consistent-after (rule a c b f) m d h t k = let e = only blank m (k .0) in rw e (rule-consistent d h a c b f (rw e at t))
-consistent-after open-plan m d h t k = let e = only blank m (k .0) in open-consistent d h (k .1 .1 .0) (rw e at t)
-consistent-after (split-side s) m d h t k = which (is whole m) (is split m) (k .0)
-    (λ w. let e = only whole m w in rw e (split-whole d h s (k .1 .0) (rw e at t)))
-    (λ w. let e = only split m w in rw e (split-split d h s (k .1 .0) (rw e at t)))
-consistent-after (edit s client n x kind y) m d h t k =
+consistent-after (measure v) m d h g t k = let e = only blank m (k .0) in rw e (measure-consistent d h v (g .alone (or-left (is blank m) _ (k .0))) (rw e at t))
+consistent-after (rule a c b f) m d h g t k = let e = only blank m (k .0) in rw e (rule-consistent d h a c b f (rw e at t))
+consistent-after open-plan m d h g t k = let e = only blank m (k .0) in open-consistent d h (rw e at t)
+consistent-after (split-side s) m d h g t k = which (is whole m) (is split m) (k .0)
+    (λ w. let e = only whole m w in rw e (split-whole d h s (g .alone (or-right (is blank m) _ w)) (rw e at t)))
+    (λ w. let e = only split m w in rw e (split-split d h s (rw e at t)))
+consistent-after (edit s client n x kind y) m d h g t k =
     let f : Fitting d (editOf (d .next) s client n x kind y) = record {
       number = refl;
       side = k .1 .0;
       earlier = earlier-ok (d .kept) client n (k .1 .1 .1 .1 .1 .0);
-      hold = k .1 .1 .1 .1 .1 .1 .1 .1 .1 .1 .0;
     } in
     which (is whole m) (apart m) (k .0)
-    (λ w. let e = only whole m w in rw e (edit-whole d h s client n x kind y f (rw e at t)))
+    (λ w. let e = only whole m w in rw e (edit-whole d h s client n x kind y f (g .alone (or-right (is blank m) _ w)) (rw e at t)))
     (λ v. which (is split m) (is joining m) v
     (λ w. let e = only split m w in rw e (edit-split d h s client n x kind y f (rw e at t)))
     (λ w. let e = only joining m w in rw e (edit-joining d h s client n x kind y f (rw e at t))))
-consistent-after join m d h t k =
+consistent-after join m d h g t k =
     let e = only split m (k .0) in
     let t′ : Consistent split d h = rw e at t in
     record { mode = refl; rules = t .rules; next = t .next; reported = t .reported; ordered = t .ordered; stage = join-active d h [] (t′ .stage .0) (t′ .stage .1) (t′ .stage .2) (t′ .stage .3) }
-consistent-after (send s) m d h t k =
+consistent-after (send s) m d h g t k =
     let st = out m d h (k .0) (t .stage) in
     let i = range (length (d .sides)) (natural s) (k .1 .0) in
     record {
@@ -686,7 +622,7 @@ consistent-after (send s) m d h t k =
       ordered = t .ordered;
       stage = back m _ _ (k .0) (send-active m d h (st .0) (st .1) s [] (k .1 .0) (k .1 .1 .0));
     }
-consistent-after (replay n) m d h t k =
+consistent-after (replay n) m d h g t k =
     let st = out m d h (k .0) (t .stage) in
     let waits = k .1 .1 .0 in
     record {
@@ -697,19 +633,18 @@ consistent-after (replay n) m d h t k =
       ordered = (rw (edit-found (d .kept) (h .kept) (st .0 .kept) (natural n)) (earlier-settled m d h (st .0) (st .1) (t .reported) (natural n) (eqb→eq _ 0 (k .1 .0)) (k .1 .1 .1 .0)), t .ordered);
       stage = back m _ _ (k .0) (replay-active m d h (st .0) (st .1) (t .rules) n waits);
     }
-consistent-after stop m d h t k =
+consistent-after stop m d h g t k =
     let e = only joining m (k .0) in
     let t′ : Consistent joining d h = rw e at t in
     record { mode = refl; rules = t .rules; next = t .next; reported = t .reported; ordered = t .ordered; stage = (t′ .stage .0, stop-active d h (t′ .stage .0) (t′ .stage .1) [] (eqb→eq _ 0 (k .1 .0))) }
-consistent-after (confirm s) m d h t k =
+consistent-after (confirm s) m d h g t k =
     let e = only closing m (k .0) in
     let t′ : Consistent closing d h = rw e at t in
     record { mode = t .mode; rules = t .rules; next = t .next; reported = t .reported; ordered = t .ordered; stage = rw e (confirm-active d h (t′ .stage .0) (t′ .stage .1) s [] (k .1 .0) (k .1 .1 .0) (k .1 .1 .1 .0)) }
-consistent-after install m d h t k =
+consistent-after install m d h g t k =
     let e = only closing m (k .0) in
     let t′ : Consistent closing d h = rw e at t in
-    let g = t′ .stage .1 .progress in
-    record { mode = refl; rules = t .rules; next = t .next; reported = t .reported; ordered = t .ordered; stage = (record { alone = refl; values = g .draft }, refl, and-in (holds (d .rules) (d .draft)) true (g .draft-holds) tt) }
-consistent-after (show s room) m d h t k = t
-consistent-after (fate-of n) m d h t k = t
-consistent-after left m d h t k = t
+    record { mode = refl; rules = t .rules; next = t .next; reported = t .reported; ordered = t .ordered; stage = (t′ .stage .1 .progress .draft, refl) }
+consistent-after (show s room) m d h g t k = t
+consistent-after (fate-of n) m d h g t k = t
+consistent-after left m d h g t k = t

@@ -16,7 +16,8 @@ use Rattle.guarantee.specs.Runs.{closes, edits, reads, isOk, accepts, fo
 use Rattle.guarantee.specs.Guarantee.{Able, Stuck, Underway, Completed, Installed, Guarantee, ForEveryList, ForEveryTrace}
 use Rattle.protocol.proofs.Laws.{on, decide, cases, yes-is, no-is, is-yes, is-no, both, and-in, which, or-right, neither, none-yes, range, in-range, Fine, Pass, passed, pass, tally-zero, tally-some, tally-none, count-snoc, length-snoc, all-nth}
 use Rattle.guarantee.proofs.Kept.{editsOf, editsIn, edit-found, none-open, open-count, settled-count, none-unsent, first-waiting, fate-found, verdict, Reported}
-use Rattle.guarantee.proofs.Consistent.{Consistent, Parted, Active, SidesHold, sum, unarrived, unconfirmed, only, plan, out, consistent-after}
+use Rattle.guarantee.proofs.Holding.{only, plan, stepped, Holding, holding-after, holding-start}
+use Rattle.guarantee.proofs.Consistent.{Consistent, Parted, Active, sum, unarrived, unconfirmed, out, consistent-after}
 
 -- ---- the closing moves
 
@@ -61,19 +62,14 @@ pub if-taken : (c : Call) (p : Plan) → T (accepts p c) → Pass (checks c p)
 unfolding step
 if-taken c p h = passed (checks c p) (verdict-by (first (checks c p)) c p h)
 
-abbrev ConsistentWith : Plan → History → Type 0
-ConsistentWith p h = Consistent (p .mode) (p .content) h
+-- the invariant: what holds of the plan alone, and what ties it to the history
+abbrev Sound : Plan → History → Type 0
+Sound p h = Holding (p .mode) (p .content) × Consistent (p .mode) (p .content) h
 
-stepped : (P : Plan → History → Type 0) (c : Call) (p : Plan) (h : History) → (Pass (checks c p) → P (after c (p .mode) (p .content)) (entered c (gives c (p .mode) (p .content)) h)) → P p h → P (following p c) (noting p h c)
-unfolding step
-stepped P c p h f g = by (first (checks c p)) (λ k. passed (checks c p) k)
-  where
-    by : (v : Verdict) → (Fine v → Pass (checks c p)) → P (stepBy v c p .plan) (recorded c (stepBy v c p .answer) h)
-    by fine k = f (k tt)
-    by (refused n) k = g
-
-pub consistent-step : (c : Call) (p : Plan) (h : History) → ConsistentWith p h → ConsistentWith (following p c) (noting p h c)
-consistent-step c p h t = stepped ConsistentWith c p h (consistent-after c (p .mode) (p .content) h t) t
+pub sound-step : (c : Call) (p : Plan) (h : History) → Sound p h → Sound (following p c) (noting p h c)
+sound-step c p h t = stepped (λ r. Sound (r .plan) (recorded c (r .answer) h)) c p
+    (λ k. (holding-after c (p .mode) (p .content) (t .0) k, consistent-after c (p .mode) (p .content) h (t .0) (t .1) k))
+    (λ n. t)
 
 keeps : (c : Call) (p : Plan) (h : History) → T (not (accepts p c)) → (following p c ≡ p) × (noting p h c ≡ h)
 unfolding step
@@ -150,8 +146,8 @@ module _ (m : Mode) (d : Content) (h : History) (t : Parted d h) (a : Active m d
       (λ q. (replay (pos (q .0)), tt, taken-if (replay (pos (q .0))) (plan m d) (on-way, (none-yes _ (logs-in z), (q .2, (q .3, tt)))))))
       (λ q. (send (pos (q .0)), tt, taken-if (send (pos (q .0))) (plan m d) (on-way, (in-range _ (q .0) (q .1) (omega (arith, q .2, t .sides)), (q .3, tt)))))
 
-able-with : (p : Plan) (h : History) → ConsistentWith p h → T (active (p .mode)) → Able p
-able-with p h t k = let st = out (p .mode) (p .content) h k (t .stage) in able (p .mode) (p .content) h (st .0) (st .1) k
+able-with : (p : Plan) (h : History) → Sound p h → T (active (p .mode)) → Able p
+able-with p h t k = let st = out (p .mode) (p .content) h k (t .1 .stage) in able (p .mode) (p .content) h (st .0) (st .1) k
 
 -- what install finds: nothing is left but itself
 module _ (d : Content) (h : History) (t : Parted d h) (a : Active closing d h) where
@@ -179,21 +175,21 @@ number m d h t k = let st = out m d h k (t .stage) in rw (yes-is (active m) k, s
 clash : (k m : Mode) → T (is k m) → T (active m) → T (active k)
 clash k m i a = rw (only k m i) at a
 
-lowered : {c : Call} → Closing c → (m : Mode) (d : Content) (h : History) → Consistent m d h → T (active m) → Pass (checks c (plan m d)) → leftIn (plan m d) ≡ suc (leftIn (after c m d))
+lowered : {c : Call} → Closing c → (m : Mode) (d : Content) (h : History) → Holding m d → Consistent m d h → T (active m) → Pass (checks c (plan m d)) → leftIn (plan m d) ≡ suc (leftIn (after c m d))
 unfolding after entered gives checks further
-lowered (by-send s) m d h t k c = let x = number m d h t k in let y = number _ _ _ (consistent-after (send s) m d h t c) k in omega arith
-lowered (by-replay n) m d h t k c = let x = number m d h t k in let y = number _ _ _ (consistent-after (replay n) m d h t c) k in omega arith
-lowered by-stop m d h t k c = let x = number m d h t k in let y = number closing d (entered stop [] h) (consistent-after stop m d h t c) tt in omega arith
-lowered (by-confirm s) m d h t k c = let x = number m d h t k in let y = number _ _ _ (consistent-after (confirm s) m d h t c) k in omega arith
-lowered by-install m d h t k c =
+lowered (by-send s) m d h g t k c = let x = number m d h t k in let y = number _ _ _ (consistent-after (send s) m d h g t c) k in omega arith
+lowered (by-replay n) m d h g t k c = let x = number m d h t k in let y = number _ _ _ (consistent-after (replay n) m d h g t c) k in omega arith
+lowered by-stop m d h g t k c = let x = number m d h t k in let y = number closing d (entered stop [] h) (consistent-after stop m d h g t c) tt in omega arith
+lowered (by-confirm s) m d h g t k c = let x = number m d h t k in let y = number _ _ _ (consistent-after (confirm s) m d h g t c) k in omega arith
+lowered by-install m d h g t k c =
     let e = only closing m (c .0) in
     let t′ : Consistent closing d h = rw e at t in
     rw e (rw (t′ .stage .0 .sides) (last-one d h (t′ .stage .0) (t′ .stage .1) (rw e at c) .1))
 
-raised : (s client n x kind y : ℤ) (m : Mode) (d : Content) (h : History) → Consistent m d h → T (active m) → Pass (checks (edit s client n x kind y) (plan m d))
+raised : (s client n x kind y : ℤ) (m : Mode) (d : Content) (h : History) → Holding m d → Consistent m d h → T (active m) → Pass (checks (edit s client n x kind y) (plan m d))
     → leftIn (after (edit s client n x kind y) m d) ≡ suc (bit (isLate (natural s) h) + leftIn (plan m d))
 unfolding after entered gives checks further
-raised s client n x kind y m d h t k c =
+raised s client n x kind y m d h g t k c =
     which (is whole m) (apart m) (c .0)
     (λ w. absurd (clash whole m w k))
     (λ v. which (is split m) (is joining m) v
@@ -202,7 +198,7 @@ raised s client n x kind y m d h t k c =
     let late = lastSent (natural s) (h .moves) in
     let mode = t .mode ∙ only joining m w in
     let i = number m d h t k in
-    let j = rw mode at (number m (after (edit s client n x kind y) m d .content) (entered (edit s client n x kind y) (gives (edit s client n x kind y) m d) h) (consistent-after (edit s client n x kind y) m d h t c) k) in
+    let j = rw mode at (number m (after (edit s client n x kind y) m d .content) (entered (edit s client n x kind y) (gives (edit s client n x kind y) m d) h) (consistent-after (edit s client n x kind y) m d h g t c) k) in
     let l = length-snoc (h .kept) (record { edit = editOf (d .next) s client n x kind y; late = late }) in
     let o = count-snoc (λ e. e .late) (h .kept) (record { edit = editOf (d .next) s client n x kind y; late = late }) in
     rw mode (omega arith)))
@@ -246,7 +242,7 @@ On c p = T (active (following p c .mode)) × (leftIn p ≡ bit (closes c && acce
 abbrev Over : Call → Plan → Type 0
 Over c p = (c ≡ install) × T (accepts p c) × (following p c .mode ≡ whole) × (leftIn p ≡ 1)
 
-one-on : (c : Call) (p : Plan) (h : History) → ConsistentWith p h → T (active (p .mode)) → T (not (edits c && accepts p c)) → On c p ⊎ Over c p
+one-on : (c : Call) (p : Plan) (h : History) → Sound p h → T (active (p .mode)) → T (not (edits c && accepts p c)) → On c p ⊎ Over c p
 one-on c p h t a q =
     cases (accepts p c)
     (λ y.
@@ -254,7 +250,7 @@ one-on c p h t a q =
     let e = moves c p (is-yes y) in
     cases (closes c)
     (λ k.
-    let l : leftIn p ≡ suc (leftIn (following p c)) = rw e (lowered (which-closing c (is-yes k)) (p .mode) (p .content) h t a ps) in
+    let l : leftIn p ≡ suc (leftIn (following p c)) = rw e (lowered (which-closing c (is-yes k)) (p .mode) (p .content) h (t .0) (t .1) a ps) in
     on (onward (which-closing c (is-yes k)) (p .mode) (p .content) ps)
     (λ still. inl (rw e still, rw (k, y) (omega arith)))
     (λ i.
@@ -286,10 +282,10 @@ longer c cs p a o (inr u) = inr (record {
   exact = omega (arith, o .1, u .exact);
 })
 
-carried : (cs : List Call) (p : Plan) (h : History) → ConsistentWith p h → T (active (p .mode)) → T (quiet cs p) → Underway cs p ⊎ Completed cs p
+carried : (cs : List Call) (p : Plan) (h : History) → Sound p h → T (active (p .mode)) → T (quiet cs p) → Underway cs p ⊎ Completed cs p
 carried [] p h t a q = inl (record { active-still = a; fallen = omega arith; able-still = able-with p h t a })
 carried (c ∷ cs) p h t a q =
-    let ih = carried cs (following p c) (noting p h c) (consistent-step c p h t) in
+    let ih = carried cs (following p c) (noting p h c) (sound-step c p h t) in
     let b = both (not (edits c && accepts p c)) (quiet cs (following p c)) q in
     on (one-on c p h t a (b .0))
     (λ o. longer c cs p a o (ih (o .0) (b .1)))
@@ -328,11 +324,11 @@ not-editing c b k = by (which-closing c k)
     by (by-confirm s) = tt
     by by-install = tt
 
-exhausted : (cs : List Call) (p : Plan) (h : History) → ConsistentWith p h → T (active (p .mode)) → T (all closes cs) → Stuck (end cs p)
+exhausted : (cs : List Call) (p : Plan) (h : History) → Sound p h → T (active (p .mode)) → T (all closes cs) → Stuck (end cs p)
     → (length (taken cs p) ≡ leftIn p) × ((before : List Call) × (taken cs p ≡ snoc before install))
 exhausted [] p h t a k s = let c = able-with p h t a in absurd (T-not (accepts p (c .0)) (s (c .0) (c .1)) (c .2))
 exhausted (c ∷ cs) p h t a k s =
-    let ih = exhausted cs (following p c) (noting p h c) (consistent-step c p h t) in
+    let ih = exhausted cs (following p c) (noting p h c) (sound-step c p h t) in
     let b = both (closes c) (all closes cs) k in
     on (one-on c p h t a (not-editing c (accepts p c) (b .0)))
     (λ o.
@@ -413,61 +409,49 @@ shows : (d : Content) (vs : List ℤ) → length (d .sides) ≡ 1 → sideAt d 1
 unfolding step checks further gives
 shows d vs one e room = rw (one, e) (cases (leb (length vs) room) (λ t. rw t (ap {B = Answer} ok e)) (λ t. rw t))
 
-holding : (m : Mode) (d : Content) (h : History) → Consistent m d h → T (not (is blank m)) → SidesHold d
-holding blank d h t k = absurd k
-holding whole d h t k = t .stage .2
-holding split d h t k = t .stage .0 .sides-hold
-holding joining d h t k = t .stage .0 .sides-hold
-holding closing d h t k = t .stage .0 .sides-hold
-
-base-holding : (m : Mode) (d : Content) (h : History) → Consistent m d h → T (is split m || active m) → T (holds (d .rules) (d .base))
-base-holding blank d h t k = absurd k
-base-holding whole d h t k = absurd k
-base-holding split d h t k = t .stage .0 .ground .base-holds
-base-holding joining d h t k = t .stage .0 .ground .base-holds
-base-holding closing d h t k = t .stage .0 .ground .base-holds
-
-guaranteed : (p : Plan) (h : History) → ConsistentWith p h → Guarantee p h
-guaranteed p h t =
+guaranteed : (p : Plan) (h : History) → Sound p h → Guarantee p h
+guaranteed p h sound =
+    let g = sound .0 in
+    let t = sound .1 in
     let when-whole : T (is whole (p .mode)) → Consistent whole (p .content) h = λ w. rw (only whole (p .mode) w) at t in
     record {
       mode = sym (t .mode);
       rules = t .rules;
-      whole-values = λ w. when-whole w .stage .0 .values;
-      whole-shown = λ w room. let g = when-whole w .stage .0 in rw (only whole (p .mode) w) (shows (p .content) (h .values) (g .alone) (g .values) room);
+      whole-values = λ w. when-whole w .stage .0;
+      whole-shown = λ w room. rw (only whole (p .mode) w) (shows (p .content) (h .values) (g .alone (or-right (is blank (p .mode)) _ w)) (when-whole w .stage .0) room);
       refused-keeps = λ c k. keeps c p h k;
       reading-keeps = λ c k. reading c p h k;
       told-left = says p;
-      able = λ a. able-with p h t a;
+      able = λ a. able-with p h sound a;
       number = λ a. number (p .mode) (p .content) h t a;
-      lowers = λ a c k y. rw (moves c p y) (lowered (which-closing c k) (p .mode) (p .content) h t a (if-taken c p y));
-      raises = λ a s client n x kind k y. rw (moves (edit s client n x kind k) p y) (raised s client n x kind k (p .mode) (p .content) h t a (if-taken (edit s client n x kind k) p y));
+      lowers = λ a c k y. rw (moves c p y) (lowered (which-closing c k) (p .mode) (p .content) h g t a (if-taken c p y));
+      raises = λ a s client n x kind k y. rw (moves (edit s client n x kind k) p y) (raised s client n x kind k (p .mode) (p .content) h g t a (if-taken (edit s client n x kind k) p y));
       stays = λ a c k e. decide (accepts p c) (λ y. ap leftIn (moves c p y ∙ unmoved c (p .mode) (p .content) a k e (if-taken c p y))) (λ n. ap leftIn (stays-put c p n));
-      carried = λ a cs q. carried cs p h t a q;
-      exhausted = λ a cs k s. exhausted cs p h t a k s;
+      carried = λ a cs q. carried cs p h sound a q;
+      exhausted = λ a cs k s. exhausted cs p h sound a k s;
       installed = λ y. rw (moves install p y) (just-installed (p .mode) (p .content) h t (if-taken install p y));
       once = λ n. at-most-once p (h .settlings) (t .reported) n;
       told-fate = λ n k. told-fate p (h .settlings) (t .reported) n (settled-found p (h .settlings) (t .reported) n k);
       ordered = t .ordered;
-      sides-hold = λ k s has. let i = range (length (p .content .sides)) s has in all-nth (λ x. holds (p .content .rules) (x .values)) absentSide (p .content .sides) s (holding (p .mode) (p .content) h t k) (i .0) (i .1);
-      base-holds = λ k. base-holding (p .mode) (p .content) h t k;
-      draft-holds = λ a. out (p .mode) (p .content) h a (t .stage) .1 .progress .draft-holds;
+      sides-hold = λ k s has. let i = range (length (p .content .sides)) s has in all-nth (λ x. holds (p .content .rules) (x .values)) absentSide (p .content .sides) s (g .sides k) (i .0) (i .1);
+      base-holds = g .base;
+      draft-holds = g .draft;
     }
 
-started : ConsistentWith start empty
-started = record { mode = refl; rules = refl; next = omega arith; reported = λ n. refl; ordered = tt; stage = record { alone = refl; values = refl } }
+started : Sound start empty
+started = (holding-start, record { mode = refl; rules = refl; next = omega arith; reported = λ n. refl; ordered = tt; stage = refl })
 
-consistent-run : (cs : List Call) (p : Plan) (h : History) → ConsistentWith p h → ConsistentWith (run cs (record { plan = p; history = h }) .plan) (run cs (record { plan = p; history = h }) .history)
-consistent-run [] p h t = t
-consistent-run (c ∷ cs) p h t = consistent-run cs (following p c) (noting p h c) (consistent-step c p h t)
+sound-run : (cs : List Call) (p : Plan) (h : History) → Sound p h → Sound (run cs (record { plan = p; history = h }) .plan) (run cs (record { plan = p; history = h }) .history)
+sound-run [] p h t = t
+sound-run (c ∷ cs) p h t = sound-run cs (following p c) (noting p h c) (sound-step c p h t)
 
 pub guarantee : ForEveryList
-guarantee cs = guaranteed _ _ (consistent-run cs start empty started)
+guarantee cs = guaranteed _ _ (sound-run cs start empty started)
 
 module _ {S : Type 0} (view : S → Plan) where
-  traced : {s : S} {h : History} → Trace view s h → ConsistentWith (view s) h
+  traced : {s : S} {h : History} → Trace view s h → Sound (view s) h
   traced (begun s e) = rw e started
-  traced (called {s} {h} t c r a x y) = rw (x, y) (consistent-step c (view s) h (traced t))
+  traced (called {s} {h} t c r a x y) = rw (x, y) (sound-step c (view s) h (traced t))
 
   pub guarantee-traced : ForEveryTrace view
   guarantee-traced s h t = guaranteed (view s) h (traced t)

@@ -1,3 +1,4 @@
 pub mod Kept
+pub mod Holding
 pub mod Consistent
 pub mod Guaranteed
