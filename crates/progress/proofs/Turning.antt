@@ -1,22 +1,23 @@
 -- A line that was read, made on a state: the call that it asks for, and the counts after it. Assumes nothing.
-use Prim.Native.Nat.{ℕ, suc, _-_, _<_, _≤_, min}
+use Prim.Native.Nat.{ℕ, zero, suc, _-_, _<_, _≤_, min}
 use native.Mathlib.Omega.{arith}
 use mathlib.Core.Path.{_≡_, refl, sym, ap, _∙_, subst}
 use mathlib.Core.Logic.{_≢_}
-use mathlib.Core.Bool.{Bool, true, false, cond}
+use mathlib.Core.Bool.{Bool, true, false, cond, _&&_, _||_}
 use mathlib.Core.List.{List, []}
 use mathlib.Core.Option.{Option, none, some, Option·some-injective, Option·none-ne-some}
 use borrow.Author.Tests.{eqb-true, eqb-false, ne-eqb, ltb-true, ltb-false}
-use lib.Dec.{eqb, ltb, leb}
+use lib.Dec.{T, eqb, ltb, leb}
 use lib.IntN.{ℤ}
 use lib.ListN.{length, getD}
 use Rattle.protocol.specs.Lists.{natural, count}
 use Rattle.protocol.specs.Plan.{is, whole, isSettled, measureLimit}
 use Rattle.protocol.specs.Calls as model
 use Rattle.protocol.specs.Calls.{Call, measure, rule, open-plan, split-side, edit, join, send, replay, stop, confirm, install, show, fate-of, left, Verdict, fine, refused, first, checks, step, stepBy, no, ok}
-use Rattle.protocol.proofs.Laws.{cases, passed}
+use Rattle.protocol.proofs.Laws.{cases, passed, both, or-left, or-right, is-yes, yes-is}
 use Rattle.guarantee.proofs.Kept.{settled-count}
 use Rattle.format.specs.Sheets.{stepOf, text}
+use Rattle.rows.specs.Rows.{row}
 use Rattle.rows.proofs.Spans.{length-span}
 use Rattle.state.specs.declared.State.{State}
 use Rattle.state.specs.declared.Answer.{Answer}
@@ -26,7 +27,7 @@ use Rattle.state.specs.View.{view}
 use Rattle.heads.specs.Heads.{modeOf, keptIn, endIn}
 use Rattle.records.specs.Records.{keptOf, keptAt, noRecord}
 use Rattle.state.specs.Meets.{answerOf, Meets}
-use Rattle.state.proofs.Views.{sides-length, sides-most}
+use Rattle.state.proofs.Views.{Sized, sides-length, sides-most}
 use Rattle.tally.specs.declared.Tallies.{Tallies}
 use Rattle.tally.specs.Tallies.{Counted, tallyAfter, opOf, firstNumber}
 use Rattle.tally.proofs.Counts.{counted-after}
@@ -36,20 +37,68 @@ use Rattle.reads.proofs.Right.{alone-row}
 use Rattle.reader.specs.declared.Line.{Line}
 use Rattle.reader.specs.Reads.{lineIn}
 use Rattle.writer.specs.Writes.{withRow}
-use Rattle.progress.specs.Progress.{movedOp}
+use Rattle.progress.specs.Progress.{isMove, isDraw, movedOp}
 
--- the one number that is left
-last : (n : ℕ) → 3 < n → n ≤ 11 → n ≢ 4 → n ≢ 5 → n ≢ 6 → n ≢ 7 → n ≢ 8 → n ≢ 9 → n ≢ 10 → n ≡ 11
-last n h k a b c d e f g = above n 10 (up (up (up (up (up (up (up h a) b) c) d) e) f) g) k
+-- ---- the arms' tests exclude each other
+
+abbrev pub isHot : ℕ → Bool
+isHot op = eqb op 7 || (ltb 11 op || (eqb op 8 || (eqb op 5 || false)))
+
+pub off-reads : (op : ℕ) → 11 < op → (eqb op 8 || (eqb op 5 || false)) ≡ false
+off-reads op h = rw (ne-eqb op 8 (λ e. omega arith), ne-eqb op 5 (λ e. omega arith))
+
+pub off-send : (op : ℕ) → op ≡ 7 → (ltb 11 op || (eqb op 8 || (eqb op 5 || false))) ≡ false
+off-send op e = rw e
+
+-- a move is one of five calls
+by-move : (op : ℕ) → isMove op ≡ true → {A : Type 0} → (op ≡ 4 → A) → (op ≡ 6 → A) → (op ≡ 9 → A) → (op ≡ 10 → A) → (op ≡ 11 → A) → A
+by-move op m a b c d e =
+    cases (eqb op 4) (λ z. a (eqb-true op 4 z)) (λ n4.
+    cases (eqb op 6) (λ z. b (eqb-true op 6 z)) (λ n6.
+    let t : (ltb 8 op && ltb op 12) ≡ true = rw (n4, n6) at m in
+    let r = both (ltb 8 op) (ltb op 12) (is-yes t) in
+    let l = ltb-true 8 op (yes-is _ (r .0)) in
+    let u = ltb-true op 12 (yes-is _ (r .1)) in
+    cases (eqb op 9) (λ z. c (eqb-true op 9 z)) (λ n9.
+    cases (eqb op 10) (λ z. d (eqb-true op 10 z)) (λ n10.
+    e (let x = eqb-false op 9 n9 in let y = eqb-false op 10 n10 in omega arith)))))
+
+by-draw : (op : ℕ) → isDraw op ≡ true → {A : Type 0} → (op ≡ 1 → A) → (op ≡ 2 → A) → (op ≡ 3 → A) → A
+by-draw op m a b c =
+    let r = both (ltb 0 op) (ltb op 4) (is-yes m) in
+    let l = ltb-true 0 op (yes-is _ (r .0)) in
+    let u = ltb-true op 4 (yes-is _ (r .1)) in
+    cases (eqb op 1) (λ z. a (eqb-true op 1 z)) (λ n1.
+    cases (eqb op 2) (λ z. b (eqb-true op 2 z)) (λ n2.
+    c (let x = eqb-false op 1 n1 in let y = eqb-false op 2 n2 in omega arith)))
+
+pub off-moves : (op : ℕ) → isMove op ≡ true → isHot op ≡ false
+off-moves op m = by-move op m (λ e. rw e) (λ e. rw e) (λ e. rw e) (λ e. rw e) (λ e. rw e)
+
+pub off-draws : (op : ℕ) → isDraw op ≡ true → (isMove op || isHot op) ≡ false
+off-draws op m = by-draw op m (λ e. rw e) (λ e. rw e) (λ e. rw e)
+
+-- 0 alone is in no arm
+no-arm : (op : ℕ) → (isDraw op || (isMove op || isHot op)) ≡ false → op ≡ 0
+no-arm op z =
+    cases (ltb 11 op)
+    (λ e. absurd (subst T z (or-right (isDraw op) _ (or-right (isMove op) _ (or-right (eqb op 7) _ (or-left (ltb 11 op) _ (is-yes e)))))))
+    (λ e. by op (ltb-false 11 op e) z)
   where
-    up : {n k : ℕ} → k < n → n ≢ suc k → suc k < n
-    up {n = n} {k = k} l ne = cases (ltb (suc k) n) (λ t. ltb-true (suc k) n t) (λ t. absurd (ne (let m = ltb-false (suc k) n t in omega (arith, l, m))))
-
-    above : (n k : ℕ) → k < n → n ≤ suc k → n ≡ suc k
-    above n k a b = omega arith
-
-third : (n : ℕ) → n ≤ 3 → n ≢ 0 → n ≢ 1 → n ≢ 2 → n ≡ 3
-third n h a b c = omega arith
+    by : (op : ℕ) → op ≤ 11 → (isDraw op || (isMove op || isHot op)) ≡ false → op ≡ 0
+    by zero b z = refl
+    by (suc zero) b z = cc
+    by (suc (suc zero)) b z = cc
+    by (suc (suc (suc zero))) b z = cc
+    by (suc (suc (suc (suc zero)))) b z = cc
+    by (suc (suc (suc (suc (suc zero))))) b z = cc
+    by (suc (suc (suc (suc (suc (suc zero)))))) b z = cc
+    by (suc (suc (suc (suc (suc (suc (suc zero))))))) b z = cc
+    by (suc (suc (suc (suc (suc (suc (suc (suc zero)))))))) b z = cc
+    by (suc (suc (suc (suc (suc (suc (suc (suc (suc zero))))))))) b z = cc
+    by (suc (suc (suc (suc (suc (suc (suc (suc (suc (suc zero)))))))))) b z = cc
+    by (suc (suc (suc (suc (suc (suc (suc (suc (suc (suc (suc zero))))))))))) b z = cc
+    by (suc (suc (suc (suc (suc (suc (suc (suc (suc (suc (suc (suc op)))))))))))) b z = absurd (omega arith)
 
 -- ---- the call of a line, by its number
 
@@ -71,22 +120,15 @@ module _ (l : Line) where
   pub line-send : l .op ≡ 7 → lineIn l ≡ some (send (l .a))
   line-send e = rw e
 
-  -- what is left above 3 and up to 11
-  pub line-moves : l .op ≢ 5 → l .op ≢ 8 → l .op ≤ 11 → l .op ≢ 7 → 3 < l .op → lineIn l ≡ some (moveCall (l .op) (l .a))
-  line-moves five eight k seven h =
-      cases (eqb (l .op) 4) (λ e. rw (eqb-true (l .op) 4 e)) (λ a.
-      cases (eqb (l .op) 6) (λ e. rw (eqb-true (l .op) 6 e)) (λ b.
-      cases (eqb (l .op) 9) (λ e. rw (eqb-true (l .op) 9 e)) (λ c.
-      cases (eqb (l .op) 10) (λ e. rw (eqb-true (l .op) 10 e)) (λ d.
-      let e : l .op ≡ 11 = last (l .op) h k (eqb-false (l .op) 4 a) five (eqb-false (l .op) 6 b) seven eight (eqb-false (l .op) 9 c) (eqb-false (l .op) 10 d) in
-      rw e))))
+  pub line-moves : isMove (l .op) ≡ true → lineIn l ≡ some (moveCall (l .op) (l .a))
+  line-moves m = by-move (l .op) m (λ e. rw e) (λ e. rw e) (λ e. rw e) (λ e. rw e) (λ e. rw e)
 
-  pub line-draws : l .op ≢ 0 → l .op ≤ 3 → lineIn l ≡ drawCall (l .op) (l .a) (l .b) (l .c) (l .d)
-  line-draws z h =
-      cases (eqb (l .op) 1) (λ e. rw (eqb-true (l .op) 1 e)) (λ a.
-      cases (eqb (l .op) 2) (λ e. rw (eqb-true (l .op) 2 e)) (λ b.
-      let e : l .op ≡ 3 = third (l .op) h z (eqb-false (l .op) 1 a) (eqb-false (l .op) 2 b) in
-      rw e))
+  pub line-draws : isDraw (l .op) ≡ true → lineIn l ≡ drawCall (l .op) (l .a) (l .b) (l .c) (l .d)
+  line-draws m = by-draw (l .op) m (λ e. rw e) (λ e. rw e) (λ e. rw e)
+
+  -- what no arm takes is no call
+  pub line-left : (isDraw (l .op) || (isMove (l .op) || isHot (l .op))) ≡ false → lineIn l ≡ none
+  line-left z = line-none (no-arm (l .op) z)
 
 -- ---- what making a line gives
 
@@ -104,6 +146,40 @@ none-made p = record { answer = refl; plan = refl }
 pub performs-made : (l : Option Call) (p : State) (r : Answered) → Performs l p r → Made l p (r .state) (r .answer) []
 performs-made none p r e = rw e (record { answer = refl; plan = refl })
 performs-made (some c) p r m = meets-made c p r m
+
+-- ---- between the arms
+
+-- A line between two arms: made, if one of those passed was its call's (`done`), else not touched yet.
+pub record Turned (done : Bool) (l : Option Call) (p q : State) (a : Answer) (f w : ℕ) : Type 0 where
+  pub made : done ≡ true → Made l p q a (row (q .values) f w)
+  pub idle : done ≡ false → (q ≡ p) × (a ≡ Refused 51) × (f ≡ 0) × (w ≡ 0)
+  pub sized : Sized q
+  pub from : f ≤ 224
+  pub width : w ≤ 32
+
+pub untouched : (l : Option Call) (p : State) → Sized p → Turned false l p p (Refused 51) 0 0
+untouched l p z = record { made = λ e. absurd (is-yes e); idle = λ e. (refl, refl, refl, refl); sized = z; from = omega arith; width = omega arith }
+
+module _ {done t : Bool} {l : Option Call} {p q : State} {a : Answer} {f w : ℕ} (k : Turned done l p q a f w) where
+  -- an arm that is not the call's
+  pub passed-by : {q′ : State} {a′ : Answer} {f′ w′ : ℕ} → t ≡ false → q′ ≡ q → a′ ≡ a → f′ ≡ f → w′ ≡ w → Turned (t || done) l p q′ a′ f′ w′
+  passed-by n e g h i = rw (n, e, g, h, i) k
+
+  -- the call's own, which gives no values besides its answer
+  pub taken : {q′ q″ : State} {a′ a″ : Answer} {f′ w′ : ℕ} → t ≡ true → done ≡ false → q′ ≡ q″ → a′ ≡ a″ → f′ ≡ f → w′ ≡ w → Made l q q″ a″ [] → Sized q″ → Turned (t || done) l p q′ a′ f′ w′
+  taken {q″ = q″} {a″ = a″} y n e g h i m z =
+      let s = k .idle n in
+      rw (y, e, g, h ∙ s .2, i ∙ s .3) (record { made = λ u. subst (λ x. Made l x q″ a″ []) (s .0) m; idle = λ u. absurd (is-yes (sym u)); sized = z; from = omega arith; width = omega arith })
+
+  -- one that only reads
+  pub read-out : {a′ a″ : Answer} {f′ f″ w′ w″ : ℕ} → t ≡ true → done ≡ false → a′ ≡ a″ → f′ ≡ f″ → w′ ≡ w″ → Made l q q a″ (row (q .values) f″ w″) → f″ ≤ 224 → w″ ≤ 32 → Turned (t || done) l p q a′ f′ w′
+  read-out {a″ = a″} {f″ = f″} {w″ = w″} y n g h i m x z =
+      let s = k .idle n in
+      rw (y, g, h, i) (record { made = λ u. subst (λ x. Made l x q a″ (row (q .values) f″ w″)) (s .0) m; idle = λ u. absurd (is-yes (sym u)); sized = k .sized; from = x; width = z })
+
+-- after the last arm
+pub turned : {done : Bool} {l : Option Call} {p q : State} {a : Answer} {f w : ℕ} → Turned done l p q a f w → (done ≡ false → l ≡ none) → Made l p q a (row (q .values) f w)
+turned {done} {l} {p} k h = cases done (λ e. k .made e) (λ e. let s = k .idle e in rw (h e, s .0, s .1, s .2, s .3) (none-made p))
 
 -- ---- the counts after it
 
@@ -146,6 +222,10 @@ kept-most p = let l = length-span 0 (keptIn (p .head)) (λ i. keptAt (endIn (p .
 
 pub settled-few : (p : State) (t : Tallies) → Counted t (keptOf (p .head) (p .edits)) → min (t .settled) 256 ≡ count isSettled (keptOf (p .head) (p .edits))
 settled-few p t h = let c = h .settled in let l = kept-most p in let s = settled-count (keptOf (p .head) (p .edits)) in omega arith
+
+-- an arm that is reached untouched finds the counts right
+pub counted-still : {done : Bool} {l : Option Call} {p q : State} {a : Answer} {f w : ℕ} (t : Tallies) → Turned done l p q a f w → done ≡ false → Counted t (keptOf (p .head) (p .edits)) → Counted t (keptOf (q .head) (q .edits))
+counted-still t k n c = subst (λ s. Counted t (keptOf (s .head) (s .edits))) (sym (k .idle n .0)) c
 
 module _ (t : Tallies) (p q : State) (long : length (t .unsent) ≡ 8) (h : Counted t (keptOf (p .head) (p .edits))) where
   pub counted-made : (l : Line) (a : Answer) (vs : List ℤ) → Made (lineIn l) p q a vs → Counted (tallyAfter (movedOp a (l .op)) (natural (l .a)) (is whole (modeOf (p .head .mode))) t) (keptOf (q .head) (q .edits))

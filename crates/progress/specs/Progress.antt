@@ -1,9 +1,9 @@
 -- A run that goes on as long as there is room, as an owner makes it piece by piece. Assumes nothing.
 use Prim.Native.Nat.{ℕ, _+_, _-_, suc}
 use mathlib.Core.Path.{_≡_}
-use mathlib.Core.Bool.{Bool, true, false, cond}
+use mathlib.Core.Bool.{Bool, true, false, cond, _&&_, _||_}
 use mathlib.Core.List.{List, [], _∷_, _++_}
-use lib.Dec.{leb, ltb}
+use lib.Dec.{eqb, leb, ltb}
 use lib.ListN.{length, drop}
 use Rattle.protocol.specs.Plan.{Plan}
 use Rattle.format.specs.Lines.{lines}
@@ -13,6 +13,13 @@ use Rattle.state.specs.declared.Answer.{Answer}
 use Rattle.state.specs.declared.Answer.the-variants.{Refused, Done, Number, Pair}
 use Rattle.state.specs.View.{view}
 use Rattle.progress.specs.declared.Progress.{Progress}
+
+-- the calls that part a plan and join it again, and those that draw it up, by their numbers in the order of 01
+abbrev pub isMove : ℕ → Bool
+isMove op = eqb op 4 || (eqb op 6 || (ltb 8 op && ltb op 12))
+
+abbrev pub isDraw : ℕ → Bool
+isDraw op = ltb 0 op && ltb op 4
 
 abbrev pub movedOp : Answer → ℕ → ℕ
 movedOp (Refused k) op = 0

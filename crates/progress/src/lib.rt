@@ -2,7 +2,7 @@
 ghost use mathlib.Core.Path.{_≡_};
 ghost use Rattle.records.specs.Records.{keptOf};
 ghost use Rattle.tally.specs.Tallies.{Counted};
-ghost use Rattle.progress.specs.Progress.{movedOp, Advanced};
+ghost use Rattle.progress.specs.Progress.{isMove, isDraw, movedOp, Advanced};
 use frames::Frame;
 use state::Answer;
 use state::State;
@@ -28,8 +28,35 @@ fn moved_op(answer: Answer, op: u32) -> u32
     }
 }
 
+// split, join, stop, confirm, install
+fn moves(op: u32) -> bool
+    ensures { λ t. ⌜ t ≡ isMove op ⌝ }
+{
+    if op == 4 {
+        return true;
+    }
+    if op == 6 {
+        return true;
+    }
+    if 8 < op {
+        return op < 12;
+    }
+    false
+}
+
+// measure, rule, open
+fn draws(op: u32) -> bool
+    ensures { λ t. ⌜ t ≡ isDraw op ⌝ }
+{
+    if 0 < op {
+        return op < 4;
+    }
+    false
+}
+
 // The loop, with the counts of the kept edits beside the plan. A call is known by its number in the order of 01; its arm decides, from what
-// is lent or from small parts by value, and stores in place. A line that cannot be read is left with 51.
+// is lent or from small parts by value, and stores in place. A line that cannot be read is left with 51. The arms stand in a row, not in one chain:
+// where a chain's arms meet, the check carries the variables of all of them.
 fn go(
     start: State,
     counts: Tallies,
@@ -67,6 +94,7 @@ fn go(
         let mut width: usize = 0;
         if op == 5 {
             // edit
+            let h = p.head;
             let named = heads::position(h, exact::number(line.c));
             let seat = heads::place(named);
             let seen = p.edits[seat];
@@ -102,8 +130,10 @@ fn go(
             if !whole {
                 p.edits[slot] = entry;
             }
-        } else if op == 8 {
+        }
+        if op == 8 {
             // replay
+            let h = p.head;
             let named = heads::position(h, side);
             let slot = heads::place(named);
             let standing = p.edits[slot];
@@ -135,8 +165,10 @@ fn go(
             p.draft[point] = amount;
             p.edits[slot] = entry;
             answer = given;
-        } else if 11 < op {
+        }
+        if 11 < op {
             // show, fate, left
+            let h = p.head;
             let named = heads::position(h, side);
             let seat = heads::place(named);
             let seen = p.edits[seat];
@@ -155,8 +187,10 @@ fn go(
             answer = given;
             first = r.from;
             width = r.width;
-        } else if op == 7 {
+        }
+        if op == 7 {
             // send
+            let h = p.head;
             let place = heads::index(side);
             let flag = p.arrived[place];
             let unsent = t.unsent[place];
@@ -168,8 +202,10 @@ fn go(
             p.edits = next;
             p.arrived[place] = arrived;
             answer = given;
-        } else if 3 < op {
+        }
+        if moves(op) {
             // split, join, stop, confirm, install
+            let h = p.head;
             let place = heads::index(side);
             let unsent = t.unsent[place];
             let old_base = p.base;
@@ -201,7 +237,8 @@ fn go(
             p.arrived = arrived;
             p.confirmed = confirmed;
             answer = given;
-        } else if op != 0 {
+        }
+        if draws(op) {
             // measure, rule, open
             let r = dispatch::draw_up(p, op, a, line.b, line.c, line.d);
             let q = r.state;
