@@ -69,6 +69,7 @@ pub fn open_plan(p: State) -> Answered
         h.measures,
         0,
         0,
+        false,
     ) {
         return state::refuse(p, 17);
     }

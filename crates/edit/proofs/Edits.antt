@@ -1,10 +1,10 @@
 -- An edit's decision, carried out, is the protocol's step. Assumes nothing.
 use Prim.Native.Nat.{ℕ, suc, min, _+_, _-_, _<_, _≤_}
 use native.Mathlib.Omega.{arith}
-use mathlib.Core.Bool.{Bool, true, false, not, _&&_}
+use mathlib.Core.Bool.{Bool, true, false, not, _&&_, _||_}
 use mathlib.Core.Path.{_≡_, refl, sym, ap, _∙_}
 use mathlib.Core.Logic.{_≢_}
-use mathlib.Core.List.{List}
+use mathlib.Core.List.{List, [], _∷_}
 use lib.IntN.{ℤ, pos}
 use lib.Dec.{T, T-not, leb, nltb→le, eqb→eq}
 use lib.ListN.{length, getD, set}
@@ -12,14 +12,15 @@ use lib.Seq.{set-getD}
 use borrow.Author.Tests.{leb-false}
 use Rattle.protocol.specs.Lists.{natural, oneTo, modify, snoc}
 use Rattle.protocol.specs.Plan as model
-use Rattle.protocol.specs.Plan.{is, whole, split, joining, modeNumber, allowed, applied, value, made, unsent, sideAt}
-use Rattle.protocol.specs.Calls.{Call, edit, Check, Verdict, fine, refused, first, apart, checks, further, onValues, after, gives, stepBy, step}
+use Rattle.protocol.specs.Plan.{is, blank, whole, split, joining, modeNumber, holds, allowed, applied, value, made, unsent, sideAt}
+use Rattle.protocol.specs.Calls.{Call, edit, Check, _unless_, _when_, Verdict, fine, refused, first, apart, no22, no24, no25, no26, no28, no30, checks, further, onValues, after, gives, stepBy, step}
 use Rattle.protocol.proofs.Laws.{cases, yes-is, no-is, is-yes, which, range, Fine, Pass, passed}
 use Rattle.change.specs.declared.Change.{Change}
 use Rattle.change.specs.Change.{madeOf}
 use Rattle.rows.specs.Rows.{span, row}
 use Rattle.rows.proofs.Spans.{length-span}
-use Rattle.rules.proofs.Rows.{made-with, row-set, row-apart}
+use Rattle.rules.specs.Rules.{heldFor}
+use Rattle.rules.proofs.Rows.{made-spared, made-with, row-set, row-apart}
 use Rattle.records.specs.declared.EditRecord.{EditRecord}
 use Rattle.records.specs.declared.Fate.the-variants.{Unsent}
 use Rattle.heads.specs.declared.Head.{Head}
@@ -50,34 +51,67 @@ single-apart h t = which (is split (modeOf (h .mode))) (is joining (modeOf (h .m
     (λ u. rw (eqb→eq (modeNumber (modeOf (h .mode))) 3 u))
 
 -- from what each step of an edit gave, in the code's order, to the decision in the state and the places of its stores
-pub edit-decided : (p : State) (s client n m kind k : ℤ) {s′ client′ n′ m′ kind′ k′ old : ℤ} {number i seat side measure spot slot kd : ℕ} {named : EditRecord} {d : Decision}
+pub edit-decided : (sound : Bool) (p : State) (s client n m kind k : ℤ) {s′ client′ n′ m′ kind′ k′ old : ℤ} {number i seat side measure spot slot kd : ℕ} {named : EditRecord} {d : Decision}
     → s′ ≡ s → client′ ≡ client → n′ ≡ n → m′ ≡ m → kind′ ≡ kind → k′ ≡ k
     → number ≡ natural n′ → i ≡ positionOf (endIn (p .head)) (keptIn (p .head)) number → seat ≡ placeOf i → named ≡ recordOf i (getD (p .edits) seat noRecord)
     → side ≡ natural s′ → measure ≡ natural m′ → spot ≡ spotOf side measure → slot ≡ slotOf (p .head) → old ≡ getD (p .values) spot (pos 0) → kd ≡ natural kind′
-    → d ≡ editDecision (p .head) (editRuling (p .head) (p .lower) (p .gap) (p .upper) (p .firm) (p .values) named side client′ n′ measure kd k′) old (getD (p .edits) slot noRecord) side (natural client′) (natural n′) measure
-    → (d ≡ editIn p (natural s) client n (natural m) (natural kind) k) × (spot ≡ spotOf (natural s) (natural m)) × (slot ≡ slotOf (p .head))
-edit-decided p s client n m kind k to-s to-client to-n to-m to-kind to-k number-is position-is seat-is named-is side-is measure-is spot-is slot-is old-is kind-is d-is =
+    → d ≡ editDecision (p .head) (editRuling sound (p .head) (p .lower) (p .gap) (p .upper) (p .firm) (p .values) named side client′ n′ measure kd k′) old (getD (p .edits) slot noRecord) side (natural client′) (natural n′) measure
+    → (d ≡ editIn sound p (natural s) client n (natural m) (natural kind) k) × (spot ≡ spotOf (natural s) (natural m)) × (slot ≡ slotOf (p .head))
+edit-decided sound p s client n m kind k to-s to-client to-n to-m to-kind to-k number-is position-is seat-is named-is side-is measure-is spot-is slot-is old-is kind-is d-is =
     let name = named-found p (number-is ∙ ap natural to-n) position-is seat-is named-is in
     let side = side-is ∙ ap natural to-s in
     let measure = measure-is ∙ ap natural to-m in
     let spot = spot-is ∙ (λ j. spotOf (side j) (measure j)) in
     let old = old-is ∙ ap (λ j. getD (p .values) j (pos 0)) spot in
     let kd = kind-is ∙ ap natural to-kind in
-    (d-is ∙ (λ j. editDecision (p .head) (editRuling (p .head) (p .lower) (p .gap) (p .upper) (p .firm) (p .values) (name j) (side j) (to-client j) (to-n j) (measure j) (kd j) (to-k j)) (old j) (getD (p .edits) (slot-is j) noRecord) (side j) (natural (to-client j)) (natural (to-n j)) (measure j)), spot, slot-is)
+    (d-is ∙ (λ j. editDecision (p .head) (editRuling sound (p .head) (p .lower) (p .gap) (p .upper) (p .firm) (p .values) (name j) (side j) (to-client j) (to-n j) (measure j) (kd j) (to-k j)) (old j) (getD (p .edits) (slot-is j) noRecord) (side j) (natural (to-client j)) (natural (to-n j)) (measure j)), spot, slot-is)
 
 -- a whole plan keeps no edit: what stands at the place of a new record stays
 whole-entry : (h : Head) (r : Ruling) (old : ℤ) (standing : EditRecord) (s client earlier m : ℕ) → is whole (modeOf (h .mode)) ≡ true → editDecision h r old standing s client earlier m .entry ≡ standing
 whole-entry h (Denied k) old standing s client earlier m w = refl
 whole-entry h (Granted c x) old standing s client earlier m w = rw w
 
-pub whole-edit : (p : State) (s : ℕ) (client n : ℤ) (m kind : ℕ) (k : ℤ) → is whole (modeOf (p .head .mode)) ≡ true → editIn p s client n m kind k .entry ≡ getD (p .edits) (slotOf (p .head)) noRecord
-whole-edit p s client n m kind k w =
-    whole-entry (p .head) (editRuling (p .head) (p .lower) (p .gap) (p .upper) (p .firm) (p .values) (namedIn p (natural n)) s client n m kind k) (getD (p .values) (spotOf s m) (pos 0)) (getD (p .edits) (slotOf (p .head)) noRecord) s (natural client) (natural n) m w
+pub whole-edit : (sound : Bool) (p : State) (s : ℕ) (client n : ℤ) (m kind : ℕ) (k : ℤ) → is whole (modeOf (p .head .mode)) ≡ true → editIn sound p s client n m kind k .entry ≡ getD (p .edits) (slotOf (p .head)) noRecord
+whole-edit sound p s client n m kind k w =
+    whole-entry (p .head) (editRuling sound (p .head) (p .lower) (p .gap) (p .upper) (p .firm) (p .values) (namedIn p (natural n)) s client n m kind k) (getD (p .values) (spotOf s m) (pos 0)) (getD (p .edits) (slotOf (p .head)) noRecord) s (natural client) (natural n) m w
 
 pub whole-stored : (p : State) (spot slot : ℕ) (d : Decision) → d .entry ≡ getD (p .edits) slot noRecord → _≡_ {A = State} (record { head = d .head; base = p .base; draft = p .draft; values = set (p .values) spot (d .value); arrived = p .arrived; confirmed = p .confirmed; lower = p .lower; gap = p .gap; upper = p .upper; firm = p .firm; edits = p .edits }) (stored p spot slot d)
 whole-stored p spot slot d e =
     ap {B = State} (λ es. record { head = d .head; base = p .base; draft = p .draft; values = set (p .values) spot (d .value); arrived = p .arrived; confirmed = p .confirmed; lower = p .lower; gap = p .gap; upper = p .upper; firm = p .firm; edits = es })
     (sym (ap (set (p .edits) slot) e ∙ set-getD (p .edits) slot noRecord))
+
+-- where all rules held on the side's row, it is enough to test those that name the measure
+checks-sound : (mode : model.Mode) (sides : ℕ) (rules : List model.Rule) (named : model.Kept) (kept next : ℕ) (vs : List ℤ) (s : ℕ) (client n : ℤ) (m : ℕ) (ch : model.Change)
+    → (T (not (is blank mode)) → T (oneTo sides s) → holds rules vs ≡ true)
+    → first (editChecks true mode sides rules named kept next vs s client n m ch) ≡ first (editChecks false mode sides rules named kept next vs s client n m ch)
+checks-sound mode sides rules named kept next vs s client n m ch h = cases (is whole mode || apart mode)
+    (λ t. cases (oneTo sides s)
+    (λ u. ap (λ b. first (tested b)) (made-spared m ch rules vs (h (drawn mode (is-yes t)) (is-yes u))))
+    (λ u. rw (t, u)))
+    (λ t. rw t)
+  where
+    -- a mode that an edit belongs to
+    drawn : (mode : model.Mode) → T (is whole mode || apart mode) → T (not (is blank mode))
+    drawn model.blank t = absurd t
+    drawn model.whole t = tt
+    drawn model.split t = tt
+    drawn model.joining t = tt
+    drawn model.closing t = tt
+
+    -- the checks by what the test of the rules finds
+    tested : Bool → List Check
+    tested b =
+        (31 unless (is whole mode || apart mode)) ∷ (21 unless oneTo sides s) ∷ no22 client ∷ (23 unless oneTo (length vs) m) ∷ no24 ch ∷ no25 named client n
+        ∷ no26 mode rules m ∷ (27 when (apart mode && leb 256 kept)) ∷ no30 next ∷ no28 vs m ch ∷ (29 unless b) ∷ []
+
+pub edit-sound : (p : State) (s : ℕ) (client n : ℤ) (m kind : ℕ) (k : ℤ)
+    → (T (not (is blank (modeOf (p .head .mode)))) → T (oneTo (sidesIn (p .head)) s) → holds (rulesOf p) (row (p .values) (offsetOf s) (measuresIn (p .head))) ≡ true)
+    → editIn true p s client n m kind k ≡ editIn false p s client n m kind k
+unfolding editRuling
+edit-sound p s client n m kind k h =
+    ap (λ v. editDecision (p .head) (ruled v (changeIn (madeOf kind k)) (applied (changeOf kind k) (value (row (p .values) (offsetOf s) (measuresIn (p .head))) m)))
+    (getD (p .values) (spotOf s m) (pos 0)) (getD (p .edits) (slotOf (p .head)) noRecord) s (natural client) (natural n) m)
+    (checks-sound (modeOf (p .head .mode)) (sidesIn (p .head)) (rulesOf p) (keptAt 0 (namedIn p (natural n))) (keptIn (p .head)) (p .head .next) (row (p .values) (offsetOf s) (measuresIn (p .head))) s client n m (changeOf kind k) h)
 
 module _ (p : State) (z : Sized p) (s client n m kind k : ℤ) where
   abbrev h : Head
@@ -96,7 +130,7 @@ module _ (p : State) (z : Sized p) (s client n m kind k : ℤ) where
   vs = row (p .values) (offsetOf (natural s)) (measuresIn h)
 
   abbrev Checks : List Check
-  Checks = editChecks mode (sidesIn h) (rulesOf p) (keptAt 0 (namedIn p (natural n))) (keptIn h) (h .next) vs (natural s) client n (natural m) ch
+  Checks = editChecks false mode (sidesIn h) (rulesOf p) (keptAt 0 (namedIn p (natural n))) (keptIn h) (h .next) vs (natural s) client n (natural m) ch
 
   kept-length : length (keptOf h (p .edits)) ≡ keptIn h
   kept-length = length-span 0 (keptIn h) (λ i. keptAt (endIn h - (keptIn h - i)) (getD (p .edits) i noRecord))
@@ -106,11 +140,11 @@ module _ (p : State) (z : Sized p) (s client n m kind k : ℤ) where
 
   -- the decision's checks are the protocol's
   checks-same : first (checks call (view p)) ≡ first Checks
-  unfolding checks further
+  unfolding checks further heldFor holds
   checks-same =
       rw (sides-length p, kept-length, lookup-named p (natural n))
       (cases (oneTo (sidesIn h) (natural s))
-      (λ t. ap (λ ws. first (editChecks mode (sidesIn h) (rulesOf p) (keptAt 0 (namedIn p (natural n))) (keptIn h) (h .next) ws (natural s) client n (natural m) ch)) (ap (λ x. x .values) (side-is (is-yes t))))
+      (λ t. ap (λ ws. first (editChecks false mode (sidesIn h) (rulesOf p) (keptAt 0 (namedIn p (natural n))) (keptIn h) (h .next) ws (natural s) client n (natural m) ch)) (ap (λ x. x .values) (side-is (is-yes t))))
       (λ t. rw t))
 
   abbrev change : Change
@@ -208,6 +242,6 @@ module _ (p : State) (z : Sized p) (s client n m kind k : ℤ) where
       (refl, ap view same, same)
   by fine f = let g = f tt in (refl, plan-same refl refl (let o = number g in omega arith) refl refl (sides-next g) (kept-next g), tt)
 
-  pub edit-meets : let d = editIn p (natural s) client n (natural m) (natural kind) k in Meets call p (record { state = stored p (spotOf (natural s) (natural m)) (slotOf h) d; answer = d .answer })
+  pub edit-meets : let d = editIn false p (natural s) client n (natural m) (natural kind) k in Meets call p (record { state = stored p (spotOf (natural s) (natural m)) (slotOf h) d; answer = d .answer })
   unfolding step editRuling
   edit-meets = let b = by (first Checks) (passed Checks) in record { answer = rw checks-same (b .0); plan = rw checks-same (b .1); same = b .2 }

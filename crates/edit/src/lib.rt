@@ -48,6 +48,7 @@ pub fn edit(p: State, s: i32, client: i32, after: i32, m: i32, kind: i32, consta
         measure,
         exact::number(kind),
         constant,
+        false,
     );
     let head = d.head;
     let value = d.value;

@@ -16,7 +16,8 @@ use Rattle.protocol.specs.History.{Entry, Settling, edited, History, lastSent, 
 use Rattle.guarantee.specs.Guarantee.{InOrder}
 use Rattle.protocol.proofs.Laws.{on, decide, cases, yes-is, is-yes, is-no, both, and-in, which, or-right, or-left, neither, not-not, range, in-range, same-no, Pass, tally-same, tally-less, tally-zero, tally-full, count-map, count-snoc, length-snoc, length-modify, nth-same, nth-other, nth-map, nth-field, all-snoc}
 use Rattle.guarantee.proofs.Kept.{editsOf, editsIn, edits-snoc, edits-sent, edits-settle, edit-found, count-settle, settle-part, lookup-same, lookup-other, lookup-number, lookup-new, lookup-old, lookup-sent, open-sent, unsent-sent, unsent-other, unsent-open, waiting-open, waiting-sent, Within, within-snoc, within-lookup, Rising, rising-le, rising-snoc, bounds, Named, named-sent, named-settle, named-snoc, Reported, reported-snoc, reported-sent, reported-settle, fresh-lookup, fresh-open, settled-count}
-use Rattle.guarantee.proofs.Holding.{only, plan, Holding, replayable-holds}
+use Rattle.guarantee.specs.Holding.{Holding}
+use Rattle.guarantee.proofs.Holding.{only, plan, replayable-holds}
 
 -- ---- the invariant
 

@@ -8,6 +8,7 @@ use lib.Dec.{T, eqb→eq}
 use Rattle.protocol.specs.Lists.{oneTo, natural, all, snoc}
 use Rattle.protocol.specs.Plan.{Side, Mode, blank, whole, split, joining, closing, modeNumber, is, active, Content, Plan, holds, made, fits, effective, absentSide, sideAt, lookup}
 use Rattle.protocol.specs.Calls.{Call, measure, rule, open-plan, split-side, edit, join, send, replay, stop, confirm, install, show, fate-of, left, Verdict, fine, refused, first, checks, further, changeOf, freshSide, reset, onValues, hasArrived, hasConfirmed, replayable, after, Stepped, stepBy, step, start}
+use Rattle.guarantee.specs.Holding.{Holding}
 use Rattle.protocol.proofs.Laws.{cases, is-yes, both, and-in, which, or-right, or-left, range, Fine, Pass, passed, length-modify, all-nth, all-snoc, all-map, all-modify, all-kept, all-one}
 
 -- ---- the mode that a test found
@@ -48,13 +49,6 @@ stepped P c p f g = by (first (checks c p)) (λ k. passed (checks c p) k)
 
 abbrev keepsRules : Content → Side → Bool
 keepsRules d x = holds (d .rules) (x .values)
-
--- From open on every rule holds on every side, and on the base and the draft for as long as there is one. A blank or whole plan has one side.
-pub record Holding (m : Mode) (d : Content) : Type 0 where
-  pub alone : T (is blank m || is whole m) → length (d .sides) ≡ 1
-  pub sides : T (not (is blank m)) → T (all (λ x. holds (d .rules) (x .values)) (d .sides))
-  pub base : T (is split m || active m) → T (holds (d .rules) (d .base))
-  pub draft : T (active m) → T (holds (d .rules) (d .draft))
 
 -- every rule holds after a change that takes effect
 pub replayable-holds : (d : Content) (n : ℕ) → T (replayable d n) → T (holds (d .rules) (made (lookup n (d .kept) .edit .measure) (lookup n (d .kept) .edit .change) (d .draft)))

@@ -3,19 +3,21 @@ use Prim.Native.Nat.{ℕ, zero, suc, _-_, _<_, _≤_, min}
 use native.Mathlib.Omega.{arith}
 use mathlib.Core.Path.{_≡_, refl, sym, ap, _∙_, subst}
 use mathlib.Core.Logic.{_≢_}
-use mathlib.Core.Bool.{Bool, true, false, cond, _&&_, _||_}
+use mathlib.Core.Bool.{Bool, true, false, not, cond, _&&_, _||_}
 use mathlib.Core.List.{List, []}
 use mathlib.Core.Option.{Option, none, some, Option·some-injective, Option·none-ne-some}
 use borrow.Author.Tests.{eqb-true, eqb-false, ne-eqb, ltb-true, ltb-false}
 use lib.Dec.{T, eqb, ltb, leb}
 use lib.IntN.{ℤ}
 use lib.ListN.{length, getD}
-use Rattle.protocol.specs.Lists.{natural, count}
-use Rattle.protocol.specs.Plan.{is, whole, isSettled, measureLimit}
+use Rattle.protocol.specs.Lists.{natural, oneTo, count}
+use Rattle.protocol.specs.Plan.{modeNumber, is, blank, whole, active, holds, isSettled, absentSide, measureLimit}
 use Rattle.protocol.specs.Calls as model
 use Rattle.protocol.specs.Calls.{Call, measure, rule, open-plan, split-side, edit, join, send, replay, stop, confirm, install, show, fate-of, left, Verdict, fine, refused, first, checks, step, stepBy, no, ok}
-use Rattle.protocol.proofs.Laws.{cases, passed, both, or-left, or-right, is-yes, yes-is}
+use Rattle.protocol.proofs.Laws.{cases, passed, both, or-left, or-right, is-yes, yes-is, range, all-nth}
+use Rattle.guarantee.specs.Holding.{Holding}
 use Rattle.guarantee.proofs.Kept.{settled-count}
+use Rattle.guarantee.proofs.Holding.{holding-step}
 use Rattle.format.specs.Sheets.{stepOf, text}
 use Rattle.rows.specs.Rows.{row}
 use Rattle.rows.proofs.Spans.{length-span}
@@ -23,11 +25,15 @@ use Rattle.state.specs.declared.State.{State}
 use Rattle.state.specs.declared.Answer.{Answer}
 use Rattle.state.specs.declared.Answer.the-variants.{Refused, Done, Number, Pair}
 use Rattle.state.specs.declared.Answered.{Answered}
-use Rattle.state.specs.View.{view}
-use Rattle.heads.specs.Heads.{modeOf, keptIn, endIn}
+use Rattle.state.specs.View.{view, rulesOf}
+use Rattle.heads.specs.Heads.{modeOf, sidesIn, offsetOf, measuresIn, keptIn, endIn}
 use Rattle.records.specs.Records.{keptOf, keptAt, noRecord}
 use Rattle.state.specs.Meets.{answerOf, Meets}
-use Rattle.state.proofs.Views.{Sized, sides-length, sides-most}
+use Rattle.state.proofs.Views.{Sized, sides-length, sides-most, side-at}
+use Rattle.ruling.specs.Edits.{editIn}
+use Rattle.edit.proofs.Edits.{edit-sound}
+use Rattle.settling.specs.Replays.{replayIn}
+use Rattle.replay.proofs.Replays.{replay-sound}
 use Rattle.tally.specs.declared.Tallies.{Tallies}
 use Rattle.tally.specs.Tallies.{Counted, tallyAfter, opOf, firstNumber}
 use Rattle.tally.proofs.Counts.{counted-after}
@@ -37,7 +43,7 @@ use Rattle.reads.proofs.Right.{alone-row}
 use Rattle.reader.specs.declared.Line.{Line}
 use Rattle.reader.specs.Reads.{lineIn}
 use Rattle.writer.specs.Writes.{withRow}
-use Rattle.progress.specs.Progress.{isMove, isDraw, movedOp}
+use Rattle.progress.specs.Progress.{isMove, isDraw, movedOp, Sound}
 
 -- ---- the arms' tests exclude each other
 
@@ -177,9 +183,42 @@ module _ {done t : Bool} {l : Option Call} {p q : State} {a : Answer} {f w : ℕ
       let s = k .idle n in
       rw (y, g, h, i) (record { made = λ u. subst (λ x. Made l x q a″ (row (q .values) f″ w″)) (s .0) m; idle = λ u. absurd (is-yes (sym u)); sized = k .sized; from = x; width = z })
 
+-- an arm that is reached untouched finds what held before the line
+pub still : (P : State → Type 0) {done : Bool} {l : Option Call} {p q : State} {a : Answer} {f w : ℕ} → Turned done l p q a f w → done ≡ false → P p → P q
+still P k n c = subst P (sym (k .idle n .0)) c
+
 -- after the last arm
 pub turned : {done : Bool} {l : Option Call} {p q : State} {a : Answer} {f w : ℕ} → Turned done l p q a f w → (done ≡ false → l ≡ none) → Made l p q a (row (q .values) f w)
 turned {done} {l} {p} k h = cases done (λ e. k .made e) (λ e. let s = k .idle e in rw (h e, s .0, s .1, s .2, s .3) (none-made p))
+
+-- ---- where every rule holds, testing those that name the measure is enough
+
+module _ (p : State) where
+  side-holds : Holding (view p .mode) (view p .content) → (s : ℕ) → T (not (is blank (modeOf (p .head .mode)))) → T (oneTo (sidesIn (p .head)) s) → holds (rulesOf p) (row (p .values) (offsetOf s) (measuresIn (p .head))) ≡ true
+  side-holds h s drawn o =
+      let r = range (sidesIn (p .head)) s o in
+      let n = sides-length p in
+      yes-is _ (subst (λ x. T (holds (rulesOf p) (x .values))) (side-at p s (r .0) (r .1)) (all-nth (λ x. holds (rulesOf p) (x .values)) absentSide (view p .content .sides) s (h .sides drawn) (r .0) (omega (arith, r .1, n))))
+
+  pub edit-held : (sound : Bool) → Sound sound p → (s : ℕ) (client n : ℤ) (m kind : ℕ) (k : ℤ) → editIn sound p s client n m kind k ≡ editIn false p s client n m kind k
+  edit-held true h s client n m kind k = edit-sound p s client n m kind k (side-holds (h refl) s)
+  edit-held false h s client n m kind k = refl
+
+  pub replay-held : (sound : Bool) → Sound sound p → (n : ℕ) → replayIn sound p n ≡ replayIn false p n
+  replay-held true h n = replay-sound p n (λ a. yes-is _ (h refl .draft a))
+  replay-held false h n = refl
+
+-- a blank plan says nothing of its rules
+pub blank-holds : (p : State) → modeNumber (modeOf (p .head .mode)) ≡ 0 → Holding (view p .mode) (view p .content)
+blank-holds p e = record { alone = λ w. sides-length p ∙ rw e; sides = λ w. absurd (rw e at w); base = λ w. absurd (rw e at w); draft = λ w. absurd (rw e at w) }
+
+-- and every line keeps it so
+pub sound-made : {sound : Bool} {l : Option Call} {p q : State} {a : Answer} {vs : List ℤ} → Made l p q a vs → Sound sound p → Sound sound q
+sound-made {l = l} {p = p} m h e = subst (λ x. Holding (x .mode) (x .content)) (sym (m .plan)) (by l (h e))
+  where
+    by : (l : Option Call) → Holding (view p .mode) (view p .content) → Holding (stepOf l (view p) .plan .mode) (stepOf l (view p) .plan .content)
+    by none g = g
+    by (some c) g = holding-step c (view p) g
 
 -- ---- the counts after it
 
@@ -222,10 +261,6 @@ kept-most p = let l = length-span 0 (keptIn (p .head)) (λ i. keptAt (endIn (p .
 
 pub settled-few : (p : State) (t : Tallies) → Counted t (keptOf (p .head) (p .edits)) → min (t .settled) 256 ≡ count isSettled (keptOf (p .head) (p .edits))
 settled-few p t h = let c = h .settled in let l = kept-most p in let s = settled-count (keptOf (p .head) (p .edits)) in omega arith
-
--- an arm that is reached untouched finds the counts right
-pub counted-still : {done : Bool} {l : Option Call} {p q : State} {a : Answer} {f w : ℕ} (t : Tallies) → Turned done l p q a f w → done ≡ false → Counted t (keptOf (p .head) (p .edits)) → Counted t (keptOf (q .head) (q .edits))
-counted-still t k n c = subst (λ s. Counted t (keptOf (s .head) (s .edits))) (sym (k .idle n .0)) c
 
 module _ (t : Tallies) (p q : State) (long : length (t .unsent) ≡ 8) (h : Counted t (keptOf (p .head) (p .edits))) where
   pub counted-made : (l : Line) (a : Answer) (vs : List ℤ) → Made (lineIn l) p q a vs → Counted (tallyAfter (movedOp a (l .op)) (natural (l .a)) (is whole (modeOf (p .head .mode))) t) (keptOf (q .head) (q .edits))

@@ -6,6 +6,7 @@ use mathlib.Core.List.{List, [], _∷_, _++_}
 use lib.Dec.{eqb, leb, ltb}
 use lib.ListN.{length, drop}
 use Rattle.protocol.specs.Plan.{Plan}
+use Rattle.guarantee.specs.Holding.{Holding}
 use Rattle.format.specs.Lines.{lines}
 use Rattle.format.specs.Sheets.{text, turn, inFront}
 use Rattle.state.specs.declared.State.{State}
@@ -13,6 +14,10 @@ use Rattle.state.specs.declared.Answer.{Answer}
 use Rattle.state.specs.declared.Answer.the-variants.{Refused, Done, Number, Pair}
 use Rattle.state.specs.View.{view}
 use Rattle.progress.specs.declared.Progress.{Progress}
+
+-- what a run knows of the rules of a plan, if it says so: that they hold
+abbrev pub Sound : Bool → State → Type 0
+Sound b p = b ≡ true → Holding (view p .mode) (view p .content)
 
 -- the calls that part a plan and join it again, and those that draw it up, by their numbers in the order of 01
 abbrev pub isMove : ℕ → Bool

@@ -2,7 +2,7 @@
 ghost use mathlib.Core.Path.{_≡_};
 ghost use Rattle.records.specs.Records.{keptOf};
 ghost use Rattle.tally.specs.Tallies.{Counted};
-ghost use Rattle.progress.specs.Progress.{isMove, isDraw, movedOp, Advanced};
+ghost use Rattle.progress.specs.Progress.{isMove, isDraw, movedOp, Sound, Advanced};
 use frames::Frame;
 use state::Answer;
 use state::State;
@@ -56,16 +56,18 @@ fn draws(op: u32) -> bool
 
 // The loop, with the counts of the kept edits beside the plan. A call is known by its number in the order of 01; its arm decides, from what
 // is lent or from small parts by value, and stores in place. A line that cannot be read is left with 51. The arms stand in a row, not in one chain:
-// where a chain's arms meet, the check carries the variables of all of them.
+// where a chain's arms meet, the check carries the variables of all of them. Where every rule is known to hold (`sound`), every call keeps it so
+// (guarantee's `holding-step`), and an edit or replay tests only the rules that name its measure.
 fn go(
     start: State,
     counts: Tallies,
+    sound: bool,
     reserve: usize,
     sheet: &[u8],
     from: usize,
     area: &mut [u8],
 ) -> Progress
-    requires { ⌜ Counted counts (keptOf (start .head) (start .edits)) ⌝ }
+    requires { ⌜ Counted counts (keptOf (start .head) (start .edits)) × Sound sound start ⌝ }
     ensures { λ r. ⌜ Advanced reserve (now (sheet .entry)) from start (now (area .entry)) r (now (area .exit)) ⌝ }
 {
     let mut p = start;
@@ -119,6 +121,7 @@ fn go(
                 measure,
                 exact::number(line.e),
                 line.f,
+                sound,
             );
             let head = d.head;
             let value = d.value;
@@ -158,6 +161,7 @@ fn go(
                 standing,
                 old,
                 place,
+                sound,
             );
             let amount = d.amount;
             let entry = d.entry;
@@ -270,12 +274,15 @@ fn go(
     }
 }
 
-// Goes on from a line of the sheet, as long as `reserve` bytes of the area are free and each answer fits.
+// Goes on from a line of the sheet, as long as `reserve` bytes of the area are free and each answer fits. The rules of a plan that is handed in
+// blank are tested when it is opened; of another nothing is known.
 pub fn advance(p: State, reserve: usize, sheet: &[u8], from: usize, area: &mut [u8]) -> Progress
     ensures { λ r. ⌜ Advanced reserve (now (sheet .entry)) from p (now (area .entry)) r (now (area .exit)) ⌝ }
 {
     let h = p.head;
+    let mode = h.mode;
+    let sound = heads::mode_number(mode) == 0;
     let edits = p.edits;
     let counts = reads::tallies(edits, h);
-    go(p, counts, reserve, sheet, from, area)
+    go(p, counts, sound, reserve, sheet, from, area)
 }

@@ -47,6 +47,7 @@ pub fn replay(p: State, n: i32) -> Answered
         standing,
         old,
         place,
+        false,
     );
     let amount = d.amount;
     let entry = d.entry;

@@ -1,24 +1,21 @@
 -- Laws of rows, rules as arrays hold them, and the trial of a change. Assumes nothing.
 use Prim.Native.Nat.{ℕ, zero, suc, _+_, _-_, _<_, _≤_, min}
 use native.Mathlib.Omega.{arith}
-use mathlib.Core.Bool.{Bool, true, false, cond, _&&_, _||_}
+use mathlib.Core.Bool.{Bool, true, false, not, cond, _&&_, _||_}
 use mathlib.Core.Path.{_≡_, refl, sym, ap, ap₂, _∙_, subst}
 use mathlib.Core.Logic.{_≢_}
 use mathlib.Core.List.{List, [], _∷_}
-use borrow.Author.Tests.{ltb-true, ltb-false, eqb-true, eqb-false, eq-eqb, ne-eqb}
+use borrow.Author.Tests.{ltb-true, ltb-false, eqb-false}
 use lib.Dec.{T, eqb, ltb}
-use lib.IntN.{ℤ, pos, _+ℤ_}
-use lib.ListN.{length, getD, set, replicate, List·getD-eq-default}
-use lib.Signed.{ltZ}
+use lib.IntN.{ℤ, pos}
+use lib.ListN.{length, getD, set, List·getD-eq-default}
 use Rattle.protocol.specs.Lists.{oneTo, all, nth, modify}
-use Rattle.protocol.specs.Plan.{Rule, Change, inRange, value, ruleHolds, holds, names, firmlyNamed, applied, made, fits, effective}
-use Rattle.protocol.proofs.Laws.{cases, range, is-yes, in-range, nth-same, nth-other}
-use Rattle.rules.specs.declared.Trial.{Trial}
+use Rattle.protocol.specs.Plan.{Rule, Change, inRange, value, ruleHolds, holds, names, firmlyNamed, applied, made, fits}
+use Rattle.protocol.proofs.Laws.{cases, both, range, yes-is, is-yes, in-range, nth-same, nth-other}
 use Rattle.rules.specs.declared.Trial.the-variants.{Effective, OutOfRange, Broken}
-use Rattle.rows.specs.Rows.{span, row, copiedIn}
-use Rattle.rules.specs.Rules.{withValue, pairHolds, holdsAt, holdsIn, namesPair, firmAt, firmIn, rulesIn, trialOf}
-use Rattle.rows.proofs.Copies.{length-copied, copied-inside, copied-outside}
-use Rattle.rows.proofs.Spans.{length-span, span-same, nth-span, nth-past, modify-span, all-span, any-span, getD-blank, getD-set, getD-other}
+use Rattle.rows.specs.Rows.{row}
+use Rattle.rules.specs.Rules.{withValue, pairHolds, holdsAt, holdsIn, namesPair, sparedAt, testedIn, firmAt, firmIn, rulesIn, heldFor, trialOf}
+use Rattle.rows.proofs.Spans.{span-same, nth-span, nth-past, modify-span, all-span, any-span, getD-set, getD-other}
 
 -- ---- values of a row
 
@@ -87,9 +84,34 @@ module _ (lower : List ℕ) (gap : List ℤ) (upper : List ℕ) (firm : List Boo
   unfolding holds holdsIn ruleHolds pairHolds
   holds-is vs = all-span (ruleHolds vs) (holdsAt lower gap upper (value vs)) 0 n _ (λ i. i) (λ k. refl)
 
+  pub tested-is : (sound : Bool) (m : ℕ) (vs : List ℤ) → testedIn sound m lower gap upper n vs ≡ heldFor sound m (rulesIn lower gap upper firm n) vs
+  unfolding testedIn heldFor ruleHolds pairHolds names namesPair
+  tested-is sound m vs =
+      all-span (λ i. sparedAt sound m lower upper i || holdsAt lower gap upper (value vs) i) (λ r. (sound && not (names m r)) || ruleHolds vs r) 0 n (λ i. i) _ (λ k. refl)
+
   pub firm-is : (m : ℕ) → firmlyNamed (rulesIn lower gap upper firm n) m ≡ firmIn lower upper firm n m
   unfolding firmlyNamed firmIn names namesPair
   firm-is m = any-span (λ r. r .firm && names m r) (firmAt lower upper firm m) 0 n _ (λ i. i) (λ k. refl)
+
+-- a rule that does not name the changed measure has the same two values before and after
+spared-one : (m : ℕ) (f : ℤ → ℤ) (r : Rule) (vs : List ℤ) → ruleHolds vs r ≡ true → (not (names m r) || ruleHolds (modify m f vs) r) ≡ ruleHolds (modify m f vs) r
+unfolding ruleHolds names value
+spared-one m f r vs h = cases (eqb (r .lower) m)
+    (λ e. rw e)
+    (λ e. cases (eqb (r .upper) m)
+    (λ u. rw (e, u))
+    (λ u. rw (e, u, nth-other (pos 0) f m vs (r .lower) (eqb-false (r .lower) m e), nth-other (pos 0) f m vs (r .upper) (eqb-false (r .upper) m u), h)))
+
+pub spared-holds : (m : ℕ) (f : ℤ → ℤ) (rs : List Rule) (vs : List ℤ) → holds rs vs ≡ true → heldFor true m rs (modify m f vs) ≡ holds rs (modify m f vs)
+unfolding holds heldFor
+spared-holds m f [] vs h = refl
+spared-holds m f (r ∷ rs) vs h =
+    let b = both (ruleHolds vs r) (all (ruleHolds vs) rs) (is-yes h) in
+    ap₂ (λ a b. a && b) (spared-one m f r vs (yes-is _ (b .0))) (spared-holds m f rs vs (yes-is _ (b .1)))
+
+pub made-spared : (m : ℕ) (ch : Change) (rs : List Rule) (vs : List ℤ) → holds rs vs ≡ true → heldFor true m rs (made m ch vs) ≡ heldFor false m rs (made m ch vs)
+unfolding made heldFor holds
+made-spared m ch rs vs h = spared-holds m (applied ch) rs vs h
 
 -- ---- the trial of a change, from its parts
 
@@ -140,39 +162,3 @@ row-set vs at n (suc j) x a b c d =
 -- a row that ends before, or begins after
 pub row-apart : (vs : List ℤ) (at n i : ℕ) (x : ℤ) → ((k : ℕ) → at ≤ k → k < at + n → k ≢ i) → row (set vs i x) at n ≡ row vs at n
 row-apart vs at n i x h = span-same at n _ _ (λ k p q. getD-other vs i k x (pos 0) (h k p q))
-
--- ---- a row that begins at place 1, where one measure counts as another number
-
-pub padded-row : (vs : List ℤ) (at n k : ℕ) → n ≤ 32 → getD (copiedIn (replicate 33 (pos 0)) vs at 1 n) k (pos 0) ≡ value (row vs at n) k
-padded-row vs at n zero h = copied-outside (replicate 33 (pos 0)) vs at 1 (min n (min (33 - 1) (length vs - at))) 0 (λ i p z. omega arith) ∙ value-none (row vs at n) 0 refl
-padded-row vs at n (suc j) h =
-    let e = min n (min (33 - 1) (length vs - at)) in
-    let f : suc j - 1 ≡ j = omega arith in
-    let o : suc j ≡ 1 + j = omega arith in
-    let zeros = replicate 33 (pos 0) in
-    cases (ltb j e)
-    (λ t. let i = ltb-true j e t in ap (λ l. getD (copiedIn zeros vs at 1 n) l (pos 0)) o ∙ copied-inside zeros vs at 1 e j i (omega arith) ∙ ap (λ l. getD vs (at + l) (pos 0)) (sym f) ∙ sym (value-row vs at n (suc j) (omega arith) (omega arith)))
-    (λ t.
-    let i = ltb-false j e t in
-    copied-outside zeros vs at 1 e (suc j) (λ l p z. omega arith)
-    ∙ getD-blank 33 (suc j) (pos 0)
-    ∙ cases (ltb j n) (λ u. let l = ltb-true j n u in value-beyond vs at n (suc j) (omega arith) (omega arith)) (λ u. let l = ltb-false j n u in value-outside vs at n (suc j) (omega arith) (omega arith)))
-
-pub padded-with : (vs : List ℤ) (at n m k : ℕ) (x : ℤ) → n ≤ 32 → oneTo n m ≡ true → getD (set (copiedIn (replicate 33 (pos 0)) vs at 1 n) m x) k (pos 0) ≡ value (withValue m x (row vs at n)) k
-padded-with vs at n m k x h t =
-    let r = copiedIn (replicate 33 (pos 0)) vs at 1 n in
-    let l = length-copied (replicate 33 (pos 0)) vs at 1 (min n (min (33 - 1) (length vs - at))) in
-    let b = range n m (is-yes t) in
-    cases (eqb k m)
-    (λ e. rw (eqb-true k m e) (getD-set r m x (pos 0) (omega (arith, b .1, l)) ∙ with-same m x (row vs at n) (ap (λ j. oneTo j m) (length-span at n (λ i. getD vs i (pos 0))) ∙ t)))
-    (λ e. getD-other r m k x (pos 0) (eqb-false k m e) ∙ padded-row vs at n k h ∙ with-other m x (row vs at n) k (eqb-false k m e))
-
-pub padded-out : (vs : List ℤ) (at n m k : ℕ) (x : ℤ) → n ≤ 32 → oneTo n m ≡ false → getD (copiedIn (replicate 33 (pos 0)) vs at 1 n) k (pos 0) ≡ value (withValue m x (row vs at n)) k
-padded-out vs at n m k x h t = padded-row vs at n k h ∙ with-out m x (row vs at n) (ap (λ j. oneTo j m) (length-span at n (λ i. getD vs i (pos 0))) ∙ t) k
-
--- the rules are tested on a row read otherwise
-pub holds-read : (lower : List ℕ) (gap : List ℤ) (upper : List ℕ) (n : ℕ) (f : ℕ → ℤ) (vs : List ℤ) → ((k : ℕ) → f k ≡ value vs k) → all (holdsAt lower gap upper f) (span 0 n (λ i. i)) ≡ holdsIn lower gap upper n vs
-unfolding holdsIn pairHolds
-holds-read lower gap upper n f vs h =
-    all-span (holdsAt lower gap upper f) (holdsAt lower gap upper (value vs)) 0 n (λ i. i) (λ i. i)
-    (λ i. ap₂ (λ a b. ltZ (a +ℤ getD gap i (pos 0)) b) (h (getD lower i 0)) (h (getD upper i 0)))

@@ -1,6 +1,6 @@
 -- Rules as arrays hold them, and their tests on a list of values. Assumes nothing.
 use Prim.Native.Nat.{ℕ, _+_, _-_}
-use mathlib.Core.Bool.{Bool, false, cond, _&&_, _||_}
+use mathlib.Core.Bool.{Bool, false, not, cond, _&&_, _||_}
 use mathlib.Core.List.{List}
 use lib.Dec.{eqb}
 use lib.IntN.{ℤ, pos, _+ℤ_}
@@ -28,12 +28,18 @@ unfoldable pub holdsIn : List ℕ → List ℤ → List ℕ → ℕ → List ℤ
 unfolding model.value
 holdsIn lower gap upper n vs = all (holdsAt lower gap upper (model.value vs)) (span 0 n (λ i. i))
 
--- measure k of a row that begins at place 1
-abbrev pub paddedValue : List ℤ → ℕ → ℤ
-paddedValue vs k = getD vs k (pos 0)
-
 unfoldable pub namesPair : ℕ → ℕ → ℕ → Bool
 namesPair a b m = eqb a m || eqb b m
+
+-- A rule that need not be tested after a change of measure m: one that does not name it, where all held before (`sound`).
+abbrev pub sparedAt : Bool → ℕ → List ℕ → List ℕ → ℕ → Bool
+sparedAt sound m lower upper i = sound && not (namesPair (getD lower i 0) (getD upper i 0) m)
+
+-- the others of the first n, tested
+unfoldable pub testedIn : Bool → ℕ → List ℕ → List ℤ → List ℕ → ℕ → List ℤ → Bool
+unfolding model.value
+testedIn sound m lower gap upper n vs =
+    all (λ i. sparedAt sound m lower upper i || holdsAt lower gap upper (model.value vs) i) (span 0 n (λ i. i))
 
 abbrev pub firmAt : List ℕ → List ℕ → List Bool → ℕ → ℕ → Bool
 firmAt lower upper firm m i = getD firm i false && namesPair (getD lower i 0) (getD upper i 0) m
@@ -46,7 +52,12 @@ abbrev pub rulesIn : List ℕ → List ℤ → List ℕ → List Bool → ℕ �
 rulesIn lower gap upper firm n =
     span 0 n (λ i. record { lower = getD lower i 0; gap = getD gap i (pos 0); upper = getD upper i 0; firm = getD firm i false })
 
--- a change tried on a list of values, against a test of all rules
+-- those of them that need a test, tested
+unfoldable pub heldFor : Bool → ℕ → List model.Rule → List ℤ → Bool
+unfolding model.names model.ruleHolds
+heldFor sound m rs vs = all (λ r. (sound && not (model.names m r)) || model.ruleHolds vs r) rs
+
+-- a change tried on a list of values, against a test of the rules
 unfoldable pub trialOf : (List ℤ → Bool) → ℕ → model.Change → List ℤ → Trial
 unfolding model.fits model.made model.applied model.value
 trialOf test m ch vs =

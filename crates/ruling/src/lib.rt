@@ -107,7 +107,8 @@ fn full(mode: Mode, kept: u32) -> bool
     false
 }
 
-// The checks on the change: 26, 27, 30, 28, 29.
+// The checks on the change: 26, 27, 30, 28, 29. A caller that knows that all rules hold on the row says so (`sound`): then only those
+// that name the measure are tested.
 fn change_ruling<'a>(
     h: Head,
     lower: &'a [u32; 64],
@@ -118,8 +119,9 @@ fn change_ruling<'a>(
     at: usize,
     m: u32,
     change: Change,
+    sound: bool,
 ) -> Ruling
-    ensures { λ r. ⌜ r ≡ changeRuling h (now (lower .entry)) (now (gap .entry)) (now (upper .entry)) (now (firm .entry)) (now (values .entry)) at m change ⌝ }
+    ensures { λ r. ⌜ r ≡ changeRuling sound h (now (lower .entry)) (now (gap .entry)) (now (upper .entry)) (now (firm .entry)) (now (values .entry)) at m change ⌝ }
 {
     let mode = h.mode;
     if frozen(mode, lower, upper, firm, h.rules, m) {
@@ -141,6 +143,7 @@ fn change_ruling<'a>(
         h.measures,
         m,
         change,
+        sound,
     );
     match tried {
         Trial::Effective(x) => Ruling::Granted(change, x),
@@ -164,8 +167,9 @@ fn edit_ruling<'a>(
     m: u32,
     kind: u32,
     constant: i32,
+    sound: bool,
 ) -> Ruling
-    ensures { λ r. ⌜ r ≡ editRuling h (now (lower .entry)) (now (gap .entry)) (now (upper .entry)) (now (firm .entry)) (now (values .entry)) named s client after m kind constant ⌝ }
+    ensures { λ r. ⌜ r ≡ editRuling sound h (now (lower .entry)) (now (gap .entry)) (now (upper .entry)) (now (firm .entry)) (now (values .entry)) named s client after m kind constant ⌝ }
 {
     let mode = h.mode;
     if !editable(mode) {
@@ -197,6 +201,7 @@ fn edit_ruling<'a>(
         heads::offset(s),
         m,
         change,
+        sound,
     )
 }
 
@@ -296,8 +301,9 @@ pub fn decide_edit<'a>(
     m: u32,
     kind: u32,
     constant: i32,
+    sound: bool,
 ) -> Decision
-    ensures { λ r. ⌜ r ≡ editDecision h (editRuling h (now (lower .entry)) (now (gap .entry)) (now (upper .entry)) (now (firm .entry)) (now (values .entry)) named s client after m kind constant) old standing s (natural client) (natural after) m ⌝ }
+    ensures { λ r. ⌜ r ≡ editDecision h (editRuling sound h (now (lower .entry)) (now (gap .entry)) (now (upper .entry)) (now (firm .entry)) (now (values .entry)) named s client after m kind constant) old standing s (natural client) (natural after) m ⌝ }
 {
     let ruling = edit_ruling(
         h,
@@ -313,6 +319,7 @@ pub fn decide_edit<'a>(
         m,
         kind,
         constant,
+        sound,
     );
     edit_decision(
         h,

@@ -32,7 +32,8 @@ fn is_waiting(e: EditRecord) -> bool
     records::fate_number(f) == 2
 }
 
-// A change tried on the draft: whether it takes effect, and the value at its place then.
+// A change tried on the draft: whether it takes effect, and the value at its place then. A caller that knows that all rules hold on the
+// draft says so (`sound`): then only those that name the measure are tested.
 fn try_draft<'a>(
     h: Head,
     lower: &'a [u32; 64],
@@ -42,11 +43,23 @@ fn try_draft<'a>(
     m: u32,
     change: Change,
     old: i32,
+    sound: bool,
 ) -> Outcome
-    ensures { λ r. ⌜ r ≡ draftOutcome h (now (lower .entry)) (now (gap .entry)) (now (upper .entry)) (now (draft .entry)) m change old ⌝ }
+    ensures { λ r. ⌜ r ≡ draftOutcome sound h (now (lower .entry)) (now (gap .entry)) (now (upper .entry)) (now (draft .entry)) m change old ⌝ }
 {
     let n = rows::capped(h.drafted, 32);
-    let tried = rules::try_change(lower, gap, upper, h.rules, draft, 0, h.drafted, m, change);
+    let tried = rules::try_change(
+        lower,
+        gap,
+        upper,
+        h.rules,
+        draft,
+        0,
+        h.drafted,
+        m,
+        change,
+        sound,
+    );
     match tried {
         Trial::Effective(x) => {
             if rows::one_to(n, m) {
@@ -70,8 +83,9 @@ fn replay_outcome<'a>(
     e: EditRecord,
     earlier: EditRecord,
     old: i32,
+    sound: bool,
 ) -> Outcome
-    ensures { λ r. ⌜ r ≡ replayOutcome h (now (lower .entry)) (now (gap .entry)) (now (upper .entry)) (now (draft .entry)) missing e earlier old ⌝ }
+    ensures { λ r. ⌜ r ≡ replayOutcome sound h (now (lower .entry)) (now (gap .entry)) (now (upper .entry)) (now (draft .entry)) missing e earlier old ⌝ }
 {
     let mode = h.mode;
     if !heads::is_active(mode) {
@@ -87,7 +101,7 @@ fn replay_outcome<'a>(
         return Outcome::Refused(36);
     }
     let change = e.change;
-    try_draft(h, lower, gap, upper, draft, e.measure, change, old)
+    try_draft(h, lower, gap, upper, draft, e.measure, change, old, sound)
 }
 
 fn settled_fate(accepted: bool) -> Fate
@@ -152,9 +166,10 @@ pub fn decide_replay<'a>(
     standing: EditRecord,
     old: i32,
     place: u32,
+    sound: bool,
 ) -> Decision
-    ensures { λ r. ⌜ r ≡ replayDecision (replayOutcome h (now (lower .entry)) (now (gap .entry)) (now (upper .entry)) (now (draft .entry)) missing e earlier old) standing old place ⌝ }
+    ensures { λ r. ⌜ r ≡ replayDecision (replayOutcome sound h (now (lower .entry)) (now (gap .entry)) (now (upper .entry)) (now (draft .entry)) missing e earlier old) standing old place ⌝ }
 {
-    let outcome = replay_outcome(h, lower, gap, upper, draft, missing, e, earlier, old);
+    let outcome = replay_outcome(h, lower, gap, upper, draft, missing, e, earlier, old, sound);
     replay_decision(outcome, standing, old, place)
 }

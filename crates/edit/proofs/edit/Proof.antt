@@ -1,4 +1,5 @@
 use native.Mathlib.Omega.{arith}
+use mathlib.Core.Bool.{false}
 use lib.IntN.{pos}
 use lib.ListN.{getD}
 use mir.Facts.{toZ-ofZ}
@@ -87,7 +88,7 @@ returns c =
     let s = (c .before .before .before .before .before .before .before .before .before .before .before .before .before .before .before .before .before .before .before .before .before .before .before .before) in
     let p = s .args .t1 in
     let d = (c .before .before .before .decide-edit .result) in
-    let g = edit-decided p (s .args .s) (s .args .client) (s .args .after) (s .args .m) (s .args .kind) (s .args .constant) (toZ-ofZ (s .fits .s)) (toZ-ofZ (s .fits .client)) (toZ-ofZ (s .fits .after)) (toZ-ofZ (s .fits .m)) (toZ-ofZ (s .fits .kind)) (toZ-ofZ (s .fits .constant))
+    let g = edit-decided false p (s .args .s) (s .args .client) (s .args .after) (s .args .m) (s .args .kind) (s .args .constant) (toZ-ofZ (s .fits .s)) (toZ-ofZ (s .fits .client)) (toZ-ofZ (s .fits .after)) (toZ-ofZ (s .fits .m)) (toZ-ofZ (s .fits .kind)) (toZ-ofZ (s .fits .constant))
     (c .before .before .before .before .before .before .before .before .before .before .before .before .before .before .before .before .before .before .before .before .before .before .number .ensures) (c .before .before .before .before .before .before .before .before .before .before .before .before .before .before .before .before .before .before .before .before .before .position .ensures .0) (c .before .before .before .before .before .before .before .before .before .before .before .before .before .before .before .before .before .before .before .before .place .ensures .0) (c .before .before .before .before .before .before .before .before .before .before .before .before .before .before .before .before .before .before .found .ensures) (c .before .before .before .before .before .before .before .before .before .before .before .before .before .before .before .before .before .number2 .ensures) (c .before .before .before .before .before .before .before .before .before .before .before .before .before .before .before .before .number3 .ensures) (c .before .before .before .before .before .before .before .before .before .before .before .before .before .before .before .spot .ensures .0) (c .before .before .before .before .before .before .before .before .before .before .before .before .before .before .capped .ensures)
     (toZ-ofZ (fits32 (getD (p .values) ((c .before .before .before .before .before .before .before .before .before .before .before .before .before .before .before .spot .result)) (pos 0)) ((c .before .before .before .before .before .before .before .before .before .before .before .before .before .old .given)))) (c .before .before .before .before .number4 .ensures) (c .before .before .before .decide-edit .ensures) in
     let value = toZ-ofZ (fits32 (d .value) ((c .before .struct-told .given .1 .0 .1))) in

@@ -53,9 +53,9 @@ use Rattle.reader.proofs.Calls.{line-length}
 use Rattle.tally.specs.declared.Tallies.{Tallies}
 use Rattle.tally.specs.Tallies.{Counted, tallyAfter}
 use Rattle.tally.proofs.Counts.{tallied-long}
-use Rattle.progress.specs.Progress.{isMove, isDraw, movedOp, Advanced}
+use Rattle.progress.specs.Progress.{isMove, isDraw, movedOp, Sound, Advanced}
 use Rattle.progress.proofs.Running.{Going, over, paused, unfit, next-line, begins, lent-rest, put-back}
-use Rattle.progress.proofs.Turning.{isHot, off-reads, off-send, off-moves, off-draws, line-edit, line-replay, line-reads, line-send, line-moves, line-draws, line-left, settled-few, Made, meets-made, performs-made, Turned, untouched, passed-by, taken, read-out, turned, counted-still, counted-made, text-some, fitted-put, unfitted-put}
+use Rattle.progress.proofs.Turning.{isHot, off-reads, off-send, off-moves, off-draws, line-edit, line-replay, line-reads, line-send, line-moves, line-draws, line-left, settled-few, Made, meets-made, performs-made, Turned, untouched, passed-by, taken, read-out, turned, still, edit-held, replay-held, sound-made, counted-made, text-some, fitted-put, unfitted-put}
 use Rattle.progress.proofs.Rows.{lent-row}
 use Rattle.progress.proofs.go.Statement.{statement}
 use Rattle.progress.proofs.go.Tie as tie
@@ -85,10 +85,10 @@ use Rattle.tally.proofs.tallied.Reads as tallied-reads
 use Rattle.writer.proofs.put.Reads as put-reads
 
 abbrev Inv-loop : tie.InvT-loop
-Inv-loop reserve sheet from area₀ p₀ t₀ at₀ i₀ area p t at i = Going reserve sheet from area₀ p₀ area p t at i
+Inv-loop sound reserve sheet from area₀ p₀ t₀ at₀ i₀ area p t at i = Sound sound p × Going reserve sheet from area₀ p₀ area p t at i
 
 abbrev μ-loop : tie.MeasureT-loop
-μ-loop reserve sheet from area₀ p₀ t₀ at₀ i₀ area p t at i = length sheet - i
+μ-loop sound reserve sheet from area₀ p₀ t₀ at₀ i₀ area p t at i = length sheet - i
 
 unless : (b : Bool) → not b ≡ false → b ≡ true
 unless true e = refl
@@ -169,14 +169,15 @@ call-is c = read-is-line ((c .before .before)) .0
 
 -- what was decided is the edit's decision in this state, and the places are those of its stores
 edit-is : (c : tie.After-entry Inv-loop μ-loop) → let p = ((c .before .before .before .before .before .before .before .before .before .before .before .before .before .before .before .before .before .before .before .before .before .before .before .before .before .before .before .before .before .before .before .before .before .before .before .before .before .before .before .loop) .p) in let l = ((c .before .before .before .before .before .before .before .before .before .before .before .before .before .before .before .before .before .before .before .before .before .before .before .before .before .before .before .before .before .before .before .before .before .before .before .read-line) .result) in
-    (((c .before .before .before .decide-edit) .result) ≡ editIn p (natural (l .a)) (l .b) (l .c) (natural (l .d)) (natural (l .e)) (l .f)) × (((c .before .before .before .before .before .before .before .before .before .before .before .before .before .before .before .before .before .before .before .before .spot) .result) ≡ spotOf (natural (l .a)) (natural (l .d))) × (((c .before .before .before .before .before .before .before .before .before .before .before .before .before .before .before .before .before .before .before .capped) .result) ≡ slotOf (p .head))
+    (((c .before .before .before .decide-edit) .result) ≡ editIn false p (natural (l .a)) (l .b) (l .c) (natural (l .d)) (natural (l .e)) (l .f)) × (((c .before .before .before .before .before .before .before .before .before .before .before .before .before .before .before .before .before .before .before .before .spot) .result) ≡ spotOf (natural (l .a)) (natural (l .d))) × (((c .before .before .before .before .before .before .before .before .before .before .before .before .before .before .before .before .before .before .before .capped) .result) ≡ slotOf (p .head))
 edit-is c =
     let p = ((c .before .before .before .before .before .before .before .before .before .before .before .before .before .before .before .before .before .before .before .before .before .before .before .before .before .before .before .before .before .before .before .before .before .before .before .before .before .before .before .loop) .p) in
     let l = ((c .before .before .before .before .before .before .before .before .before .before .before .before .before .before .before .before .before .before .before .before .before .before .before .before .before .before .before .before .before .before .before .before .before .before .before .read-line) .result) in
     let t = ((c .before .before .before .before .before .before .before .before .before .before .before .before .before .before .before .before .before .before .before .before .before .before .before .before .before .before .before .before .before .before .before .before .before .struct-told) .given) in
-    edit-decided p (l .a) (l .b) (l .c) (l .d) (l .e) (l .f) (toZ-ofZ (fits32 (l .a) (t .1 .0 .1))) (toZ-ofZ (fits32 (l .b) (t .1 .1 .0 .1))) (toZ-ofZ (fits32 (l .c) (t .1 .1 .1 .0 .1))) (toZ-ofZ (fits32 (l .d) (t .1 .1 .1 .1 .0 .1))) (toZ-ofZ (fits32 (l .e) (t .1 .1 .1 .1 .1 .0 .1))) (toZ-ofZ (fits32 (l .f) (t .1 .1 .1 .1 .1 .1 .0 .1)))
+    let g = edit-decided ((c .before .before .before .before .before .before .before .before .before .before .before .before .before .before .before .before .before .before .before .before .before .before .before .before .before .before .before .before .before .before .before .before .before .before .before .before .before .before .before .before .before .before .args) .sound) p (l .a) (l .b) (l .c) (l .d) (l .e) (l .f) (toZ-ofZ (fits32 (l .a) (t .1 .0 .1))) (toZ-ofZ (fits32 (l .b) (t .1 .1 .0 .1))) (toZ-ofZ (fits32 (l .c) (t .1 .1 .1 .0 .1))) (toZ-ofZ (fits32 (l .d) (t .1 .1 .1 .1 .0 .1))) (toZ-ofZ (fits32 (l .e) (t .1 .1 .1 .1 .1 .0 .1))) (toZ-ofZ (fits32 (l .f) (t .1 .1 .1 .1 .1 .1 .0 .1)))
     ((c .before .before .before .before .before .before .before .before .before .before .before .before .before .before .before .before .before .before .before .before .before .before .before .before .before .before .number2) .ensures) ((c .before .before .before .before .before .before .before .before .before .before .before .before .before .before .before .before .before .before .before .before .before .before .before .before .before .position) .ensures .0) ((c .before .before .before .before .before .before .before .before .before .before .before .before .before .before .before .before .before .before .before .before .before .before .before .before .place) .ensures .0) ((c .before .before .before .before .before .before .before .before .before .found) .ensures) ((c .before .before .before .before .before .before .before .before .before .before .before .before .before .before .before .before .before .before .before .before .before .before .before .before .before .before .before .before .before .before .before .before .number) .ensures) ((c .before .before .before .before .before .before .before .before .before .before .before .before .before .before .before .before .before .before .before .before .before .number3) .ensures) ((c .before .before .before .before .before .before .before .before .before .before .before .before .before .before .before .before .before .before .before .before .spot) .ensures .0) ((c .before .before .before .before .before .before .before .before .before .before .before .before .before .before .before .before .before .before .before .capped) .ensures)
-    (toZ-ofZ (fits32 (getD (p .values) (((c .before .before .before .before .before .before .before .before .before .before .before .before .before .before .before .before .before .before .before .before .spot) .result)) (pos 0)) (((c .before .before .before .before .before .before .before .before .before .before .before .before .before .before .before .before .before .before .old) .given)))) ((c .before .before .before .before .before .before .before .number4) .ensures) ((c .before .before .before .decide-edit) .ensures)
+    (toZ-ofZ (fits32 (getD (p .values) (((c .before .before .before .before .before .before .before .before .before .before .before .before .before .before .before .before .before .before .before .before .spot) .result)) (pos 0)) (((c .before .before .before .before .before .before .before .before .before .before .before .before .before .before .before .before .before .before .old) .given)))) ((c .before .before .before .before .before .before .before .number4) .ensures) ((c .before .before .before .decide-edit) .ensures) in
+    (g .0 ∙ edit-held p ((c .before .before .before .before .before .before .before .before .before .before .before .before .before .before .before .before .before .before .before .before .before .before .before .before .before .before .before .before .before .before .before .before .before .before .before .before .before .before .before .before .before .before .args) .sound) ((c .before .before .before .before .before .before .before .before .before .before .before .before .before .before .before .before .before .before .before .before .before .before .before .before .before .before .before .before .before .before .before .before .before .before .before .before .before .before .before .loop) .inv .0) (natural (l .a)) (l .b) (l .c) (natural (l .d)) (natural (l .e)) (l .f), g .1, g .2)
 
 edit-arm : (c : tie.After-entry Inv-loop μ-loop) → let p = ((c .before .before .before .before .before .before .before .before .before .before .before .before .before .before .before .before .before .before .before .before .before .before .before .before .before .before .before .before .before .before .before .before .before .before .before .before .before .before .before .loop) .p) in let d = ((c .before .before .before .decide-edit) .result) in
     let q = stored p (((c .before .before .before .before .before .before .before .before .before .before .before .before .before .before .before .before .before .before .before .before .spot) .result)) (((c .before .before .before .before .before .before .before .before .before .before .before .before .before .before .before .before .before .before .before .capped) .result)) (record { head = d .head; value = toZ w32 (ofZ w32 (d .value)); entry = d .entry; answer = d .answer }) in
@@ -187,7 +188,7 @@ edit-arm c =
     let d = ((c .before .before .before .decide-edit) .result) in
     let g = edit-is c in
     let value = toZ-ofZ (fits32 (d .value) (((c .before .struct-told8) .given .1 .0 .1))) in
-    (rw (line-edit l (((c .before .before .before .before .before .before .before .before .before .before .before .before .before .before .before .before .before .before .before .before .before .before .before .before .before .before .before .before .before .if2) .taken))) (meets-made _ p _ (rw (value, g .1, g .2, g .0) (edit-meets p (((c .before .before .before .before .before .before .before .before .before .before .before .before .before .before .before .before .before .before .before .before .before .before .before .before .before .before .before .before .before .before .before .before .before .before .before .before .before .before .before .loop) .inv .sized)) (l .a) (l .b) (l .c) (l .d) (l .e) (l .f)))), edit-sized p (((c .before .before .before .before .before .before .before .before .before .before .before .before .before .before .before .before .before .before .before .before .spot) .result)) (((c .before .before .before .before .before .before .before .before .before .before .before .before .before .before .before .before .before .before .before .capped) .result)) (record { head = d .head; value = toZ w32 (ofZ w32 (d .value)); entry = d .entry; answer = d .answer }) (((c .before .before .before .before .before .before .before .before .before .before .before .before .before .before .before .before .before .before .before .before .before .before .before .before .before .before .before .before .before .before .before .before .before .before .before .before .before .before .before .loop) .inv .sized)))
+    (rw (line-edit l (((c .before .before .before .before .before .before .before .before .before .before .before .before .before .before .before .before .before .before .before .before .before .before .before .before .before .before .before .before .before .if2) .taken))) (meets-made _ p _ (rw (value, g .1, g .2, g .0) (edit-meets p (((c .before .before .before .before .before .before .before .before .before .before .before .before .before .before .before .before .before .before .before .before .before .before .before .before .before .before .before .before .before .before .before .before .before .before .before .before .before .before .before .loop) .inv .1 .sized)) (l .a) (l .b) (l .c) (l .d) (l .e) (l .f)))), edit-sized p (((c .before .before .before .before .before .before .before .before .before .before .before .before .before .before .before .before .before .before .before .before .spot) .result)) (((c .before .before .before .before .before .before .before .before .before .before .before .before .before .before .before .before .before .before .before .capped) .result)) (record { head = d .head; value = toZ w32 (ofZ w32 (d .value)); entry = d .entry; answer = d .answer }) (((c .before .before .before .before .before .before .before .before .before .before .before .before .before .before .before .before .before .before .before .before .before .before .before .before .before .before .before .before .before .before .before .before .before .before .before .before .before .before .before .loop) .inv .1 .sized)))
 
 -- a whole plan's records stay as they are
 whole-arm : (c : tie.After-entry Inv-loop μ-loop) → eqb (((c .before .before .before .before .before .before .before .before .before .before .before .before .before .before .before .before .before .before .before .before .before .before .before .before .before .before .before .before .before .before .mode-number) .result)) 1 ≡ true → let p = ((c .before .before .before .before .before .before .before .before .before .before .before .before .before .before .before .before .before .before .before .before .before .before .before .before .before .before .before .before .before .before .before .before .before .before .before .before .before .before .before .loop) .p) in let d = ((c .before .before .before .decide-edit) .result) in
@@ -198,12 +199,12 @@ whole-arm c w =
     let d = ((c .before .before .before .decide-edit) .result) in
     let l = ((c .before .before .before .before .before .before .before .before .before .before .before .before .before .before .before .before .before .before .before .before .before .before .before .before .before .before .before .before .before .before .before .before .before .before .before .read-line) .result) in
     let g = edit-is c in
-    let e = ap (λ x. x .entry) (g .0) ∙ whole-edit p (natural (l .a)) (l .b) (l .c) (natural (l .d)) (natural (l .e)) (l .f) (ap (λ n. eqb n 1) (sym (((c .before .before .before .before .before .before .before .before .before .before .before .before .before .before .before .before .before .before .before .before .before .before .before .before .before .before .before .before .before .before .mode-number)) .ensures)) ∙ w) ∙ ap (λ j. getD (p .edits) j noRecord) (sym (g .2)) in
+    let e = ap (λ x. x .entry) (g .0) ∙ whole-edit false p (natural (l .a)) (l .b) (l .c) (natural (l .d)) (natural (l .e)) (l .f) (ap (λ n. eqb n 1) (sym (((c .before .before .before .before .before .before .before .before .before .before .before .before .before .before .before .before .before .before .before .before .before .before .before .before .before .before .before .before .before .before .mode-number)) .ensures)) ∙ w) ∙ ap (λ j. getD (p .edits) j noRecord) (sym (g .2)) in
     whole-stored p (((c .before .before .before .before .before .before .before .before .before .before .before .before .before .before .before .before .before .before .before .before .spot) .result)) (((c .before .before .before .before .before .before .before .before .before .before .before .before .before .before .before .before .before .before .before .capped) .result)) (record { head = d .head; value = toZ w32 (ofZ w32 (d .value)); entry = d .entry; answer = d .answer }) e
 
 turned2 : (c : tie.Joined2 Inv-loop μ-loop) → Turned (eqb ((c .before .before .before .before .before .before .read-line) .result .op) 5 || false) (lineIn ((c .before .before .before .before .before .before .read-line) .result)) ((c .before .before .before .before .before .before .before .before .before .before .loop) .p) ((c .if2) .p) ((c .if2) .answer) 0 0
 turned2 c =
-    let k = untouched (lineIn ((c .before .before .before .before .before .before .read-line) .result)) ((c .before .before .before .before .before .before .before .before .before .before .loop) .p) ((c .before .before .before .before .before .before .before .before .before .before .loop) .inv .sized) in
+    let k = untouched (lineIn ((c .before .before .before .before .before .before .read-line) .result)) ((c .before .before .before .before .before .before .before .before .before .before .loop) .p) ((c .before .before .before .before .before .before .before .before .before .before .loop) .inv .1 .sized) in
     on ((c .if2) .came)
     (λ w. let place : tie.After-entry Inv-loop μ-loop = record { before = record { before = record { before = record { before = record { before = record { before = record { before = record { before = record { before = record { before = record { before = record { before = record { before = record { before = record { before = record { before = record { before = record { before = record { before = record { before = record { before = record { before = record { before = record { before = record { before = record { before = record { before = record { before = record { before = record { before = (c .before); if2 = w .0 }; h2 = w .1 }; struct-told2 = w .2 }; number2 = w .3 }; position = w .4 }; place = w .5 }; seen = w .6 }; struct-told3 = w .7 }; number3 = w .8 }; spot = w .9 }; capped = w .10 }; old = w .11 }; standing = w .12 }; p = w .13 }; decide-edit-arg = w .14 }; decide-edit-arg2 = w .15 }; decide-edit-arg3 = w .16 }; decide-edit-arg4 = w .17 }; decide-edit-arg5 = w .18 }; decide-edit-arg6 = w .19 }; found = w .20 }; struct-told4 = w .21 }; number4 = w .22 }; struct-told5 = w .23 }; struct-told6 = w .24 }; struct-told7 = w .25 }; decide-edit = w .26 }; head = w .27 }; struct-told8 = w .28 }; entry = w .29 } in taken k (eq-eqb _ 5 (w .0 .taken)) refl (w .31) (w .32) refl refl (edit-arm place .0) (edit-arm place .1))
     (λ z. on z
@@ -211,7 +212,7 @@ turned2 c =
     (λ w. passed-by k (ne-eqb _ 5 (w .0 .left)) (w .1) (w .2) refl refl))
 
 counted2 : (c : tie.Joined2 Inv-loop μ-loop) → (eqb ((c .before .before .before .before .before .before .read-line) .result .op) 5 || false) ≡ false → Counted ((c .before .before .before .before .before .before .before .before .before .before .loop) .t) (keptOf (((c .if2) .p) .head) (((c .if2) .p) .edits))
-counted2 c n = counted-still ((c .before .before .before .before .before .before .before .before .before .before .loop) .t) (turned2 c) n ((c .before .before .before .before .before .before .before .before .before .before .loop) .inv .counted)
+counted2 c n = still (λ s. Counted ((c .before .before .before .before .before .before .before .before .before .before .loop) .t) (keptOf (s .head) (s .edits))) (turned2 c) n ((c .before .before .before .before .before .before .before .before .before .before .loop) .inv .1 .counted)
 
 -- ---- a replay
 
@@ -222,11 +223,11 @@ replay-arm c =
     let p = ((c .before .before .before .before .before .before .before .before .before .before .before .before .before .before .before .before .before .before .before .before .before .before .before .before .before .if2) .p) in
     let l = ((c .before .before .before .before .before .before .before .before .before .before .before .before .before .before .before .before .before .before .before .before .before .before .before .before .before .before .before .before .before .before .before .read-line) .result) in
     let d = ((c .before .before .decide-replay) .result) in
-    let g = replay-decided p (l .a) (toZ-ofZ (fits32 (l .a) (((c .before .before .before .before .before .before .before .before .before .before .before .before .before .before .before .before .before .before .before .before .before .before .before .before .before .before .before .before .before .struct-told) .given .1 .0 .1)))) ((c .before .before .before .before .before .before .before .before .before .before .before .before .before .before .before .before .before .before .before .before .before .before .before .before .before .before .before .before .number) .ensures) ((c .before .before .before .before .before .before .before .before .before .before .before .before .before .before .before .before .before .before .before .before .before .before .position2) .ensures .0) ((c .before .before .before .before .before .before .before .before .before .before .before .before .before .before .before .before .before .before .before .before .before .place2) .ensures .0) ((c .before .before .before .before .before .before .before .before .before .before .before .before .before .before .before .before .before .before .before .found2) .ensures)
+    let g = replay-decided ((c .before .before .before .before .before .before .before .before .before .before .before .before .before .before .before .before .before .before .before .before .before .before .before .before .before .before .before .before .before .before .before .before .before .before .before .before .before .before .args) .sound) p (l .a) (toZ-ofZ (fits32 (l .a) (((c .before .before .before .before .before .before .before .before .before .before .before .before .before .before .before .before .before .before .before .before .before .before .before .before .before .before .before .before .before .struct-told) .given .1 .0 .1)))) ((c .before .before .before .before .before .before .before .before .before .before .before .before .before .before .before .before .before .before .before .before .before .before .before .before .before .before .before .before .number) .ensures) ((c .before .before .before .before .before .before .before .before .before .before .before .before .before .before .before .before .before .before .before .before .before .before .position2) .ensures .0) ((c .before .before .before .before .before .before .before .before .before .before .before .before .before .before .before .before .before .before .before .before .before .place2) .ensures .0) ((c .before .before .before .before .before .before .before .before .before .before .before .before .before .before .before .before .before .before .before .found2) .ensures)
     ((c .before .before .before .before .before .before .before .before .before .before .before .before .before .before .before .before .before .before .position3) .ensures .0) ((c .before .before .before .before .before .before .before .before .before .before .before .before .before .before .before .before .before .place3) .ensures .0) ((c .before .before .before .before .before .before .before .before .before .before .before .before .before .before .before .found3) .ensures) ((c .before .before .before .before .before .before .before .before .before .before .before .before .unset) .ensures .0) (((c .before .before .before .before .before .before .before .before .before .before .before .capped2) .ensures) ∙ settled-few p (((c .before .before .before .before .before .before .before .before .before .before .before .before .before .before .before .before .before .before .before .before .before .before .before .before .before .before .before .before .before .before .before .before .before .before .before .loop) .t)) ((counted2 ((c .before .before .before .before .before .before .before .before .before .before .before .before .before .before .before .before .before .before .before .before .before .before .before .before .before)) (ap (λ n. eqb n 5 || false) ((c .before .before .before .before .before .before .before .before .before .before .before .before .before .before .before .before .before .before .before .before .before .before .before .before .if4) .taken)))))
     ((c .before .before .before .before .before .before .before .before .before .before .point) .ensures .0) (toZ-ofZ (fits32 (getD (p .draft) (((c .before .before .before .before .before .before .before .before .before .before .point) .result)) (pos 0)) (((c .before .before .before .before .before .before .before .before .before .old2) .given)))) ((c .before .before .decide-replay) .ensures) in
     let amount = toZ-ofZ (fits32 (d .amount) (((c .before .struct-told9) .given .0 .1))) in
-    (rw (line-replay l (((c .before .before .before .before .before .before .before .before .before .before .before .before .before .before .before .before .before .before .before .before .before .before .before .before .if4) .taken))) (meets-made _ p _ (rw (amount, g .1, g .2, g .0) (replay-meets p ((turned2 ((c .before .before .before .before .before .before .before .before .before .before .before .before .before .before .before .before .before .before .before .before .before .before .before .before .before)) .sized)) (l .a)))), replay-sized p (((c .before .before .before .before .before .before .before .before .before .before .point) .result)) (((c .before .before .before .before .before .before .before .before .before .before .before .before .before .before .before .before .before .before .before .before .before .place2) .result)) (record { amount = toZ w32 (ofZ w32 (d .amount)); entry = d .entry; answer = d .answer }) ((turned2 ((c .before .before .before .before .before .before .before .before .before .before .before .before .before .before .before .before .before .before .before .before .before .before .before .before .before)) .sized)))
+    (rw (line-replay l (((c .before .before .before .before .before .before .before .before .before .before .before .before .before .before .before .before .before .before .before .before .before .before .before .before .if4) .taken))) (meets-made _ p _ (rw (amount, g .1, g .2, g .0 ∙ replay-held p ((c .before .before .before .before .before .before .before .before .before .before .before .before .before .before .before .before .before .before .before .before .before .before .before .before .before .before .before .before .before .before .before .before .before .before .before .before .before .before .args) .sound) (still (Sound ((c .before .before .before .before .before .before .before .before .before .before .before .before .before .before .before .before .before .before .before .before .before .before .before .before .before .before .before .before .before .before .before .before .before .before .before .before .before .before .args) .sound)) (turned2 ((c .before .before .before .before .before .before .before .before .before .before .before .before .before .before .before .before .before .before .before .before .before .before .before .before .before))) (ap (λ n. eqb n 5 || false) ((c .before .before .before .before .before .before .before .before .before .before .before .before .before .before .before .before .before .before .before .before .before .before .before .before .if4) .taken)) ((c .before .before .before .before .before .before .before .before .before .before .before .before .before .before .before .before .before .before .before .before .before .before .before .before .before .before .before .before .before .before .before .before .before .before .before .loop) .inv .0)) (natural (l .a))) (replay-meets p ((turned2 ((c .before .before .before .before .before .before .before .before .before .before .before .before .before .before .before .before .before .before .before .before .before .before .before .before .before)) .sized)) (l .a)))), replay-sized p (((c .before .before .before .before .before .before .before .before .before .before .point) .result)) (((c .before .before .before .before .before .before .before .before .before .before .before .before .before .before .before .before .before .before .before .before .before .place2) .result)) (record { amount = toZ w32 (ofZ w32 (d .amount)); entry = d .entry; answer = d .answer }) ((turned2 ((c .before .before .before .before .before .before .before .before .before .before .before .before .before .before .before .before .before .before .before .before .before .before .before .before .before)) .sized)))
 
 turned4 : (c : tie.Joined4 Inv-loop μ-loop) → Turned (eqb ((c .before .before .before .before .before .before .before .read-line) .result .op) 8 || (eqb ((c .before .before .before .before .before .before .before .read-line) .result .op) 5 || false)) (lineIn ((c .before .before .before .before .before .before .before .read-line) .result)) ((c .before .before .before .before .before .before .before .before .before .before .before .loop) .p) ((c .if4) .p) ((c .if4) .answer) 0 0
 turned4 c =
@@ -236,7 +237,7 @@ turned4 c =
     (λ w. passed-by k (ne-eqb _ 8 (w .0 .left)) (w .1) (w .2) refl refl)
 
 counted4 : (c : tie.Joined4 Inv-loop μ-loop) → (eqb ((c .before .before .before .before .before .before .before .read-line) .result .op) 8 || (eqb ((c .before .before .before .before .before .before .before .read-line) .result .op) 5 || false)) ≡ false → Counted ((c .before .before .before .before .before .before .before .before .before .before .before .loop) .t) (keptOf (((c .if4) .p) .head) (((c .if4) .p) .edits))
-counted4 c n = counted-still ((c .before .before .before .before .before .before .before .before .before .before .before .loop) .t) (turned4 c) n ((c .before .before .before .before .before .before .before .before .before .before .before .loop) .inv .counted)
+counted4 c n = still (λ s. Counted ((c .before .before .before .before .before .before .before .before .before .before .before .loop) .t) (keptOf (s .head) (s .edits))) (turned4 c) n ((c .before .before .before .before .before .before .before .before .before .before .before .loop) .inv .1 .counted)
 
 -- ---- a call that only reads
 
@@ -265,7 +266,7 @@ turned5 c =
     (λ w. passed-by k (le-ltb 11 _ (w .0 .left)) refl (w .1) (w .2) (w .3))
 
 counted5 : (c : tie.Joined5 Inv-loop μ-loop) → (ltb 11 ((c .before .before .before .before .before .before .before .before .read-line) .result .op) || (eqb ((c .before .before .before .before .before .before .before .before .read-line) .result .op) 8 || (eqb ((c .before .before .before .before .before .before .before .before .read-line) .result .op) 5 || false))) ≡ false → Counted ((c .before .before .before .before .before .before .before .before .before .before .before .before .loop) .t) (keptOf (((c .before .if4) .p) .head) (((c .before .if4) .p) .edits))
-counted5 c n = counted-still ((c .before .before .before .before .before .before .before .before .before .before .before .before .loop) .t) (turned5 c) n ((c .before .before .before .before .before .before .before .before .before .before .before .before .loop) .inv .counted)
+counted5 c n = still (λ s. Counted ((c .before .before .before .before .before .before .before .before .before .before .before .before .loop) .t) (keptOf (s .head) (s .edits))) (turned5 c) n ((c .before .before .before .before .before .before .before .before .before .before .before .before .loop) .inv .1 .counted)
 
 -- ---- a send
 
@@ -299,7 +300,7 @@ turned6 c =
     (λ w. passed-by k (ne-eqb _ 7 (w .0 .left)) (w .1) (w .2) refl refl)
 
 counted6 : (c : tie.Joined6 Inv-loop μ-loop) → (eqb ((c .before .before .before .before .before .before .before .before .before .read-line) .result .op) 7 || (ltb 11 ((c .before .before .before .before .before .before .before .before .before .read-line) .result .op) || (eqb ((c .before .before .before .before .before .before .before .before .before .read-line) .result .op) 8 || (eqb ((c .before .before .before .before .before .before .before .before .before .read-line) .result .op) 5 || false)))) ≡ false → Counted ((c .before .before .before .before .before .before .before .before .before .before .before .before .before .loop) .t) (keptOf (((c .if6) .p) .head) (((c .if6) .p) .edits))
-counted6 c n = counted-still ((c .before .before .before .before .before .before .before .before .before .before .before .before .before .loop) .t) (turned6 c) n ((c .before .before .before .before .before .before .before .before .before .before .before .before .before .loop) .inv .counted)
+counted6 c n = still (λ s. Counted ((c .before .before .before .before .before .before .before .before .before .before .before .before .before .loop) .t) (keptOf (s .head) (s .edits))) (turned6 c) n ((c .before .before .before .before .before .before .before .before .before .before .before .before .before .loop) .inv .1 .counted)
 
 -- ---- a call on the frame
 
@@ -392,7 +393,7 @@ unfolding turn
 left-is c = (joined ((c .before .before .before .before .before .before .before .before .before .before))) .0 .plan ∙ ap (λ o. stepOf o (view (((c .before .before .before .before .before .before .before .before .before .before .before .before .before .before .before .before .before .before .before .before .before .before .before .before .before .before .before .loop) .p))) .plan) (call-is ((c .before .before .before .before .before .before .before .before .before .before .before .before .before .before .before .before .before .before .before .before .before)))
 
 enough : (c : tie.After-put Inv-loop μ-loop) → ((c .before .before .before .before .before .before .before .before .before .before .before .before .before .before .before .before .before .before .before .before .before .before .before .before .before .before .before .before .before .before .args) .reserve) ≤ length (((c .before .before .before .before .before .before .before .before .before .before .before .before .before .before .before .before .before .before .before .before .before .before .before .before .before .before .before .before .before .before .args) .area .now)) - ((c .before .before .before .before .before .before .before .before .before .before .before .before .before .before .before .before .before .before .before .before .before .before .before .before .before .before .before .loop) .at)
-enough c = subst (λ n. ((c .before .before .before .before .before .before .before .before .before .before .before .before .before .before .before .before .before .before .before .before .before .before .before .before .before .before .before .before .before .before .args) .reserve) ≤ n - ((c .before .before .before .before .before .before .before .before .before .before .before .before .before .before .before .before .before .before .before .before .before .before .before .before .before .before .before .loop) .at)) (((c .before .before .before .before .before .before .before .before .before .before .before .before .before .before .before .before .before .before .before .before .before .before .before .before .before .before .before .loop) .inv .same)) (((c .before .before .before .before .before .before .before .before .before .before .before .before .before .before .before .before .before .before .before .before .before .before .before .before .before .if1) .left))
+enough c = subst (λ n. ((c .before .before .before .before .before .before .before .before .before .before .before .before .before .before .before .before .before .before .before .before .before .before .before .before .before .before .before .before .before .before .args) .reserve) ≤ n - ((c .before .before .before .before .before .before .before .before .before .before .before .before .before .before .before .before .before .before .before .before .before .before .before .before .before .before .before .loop) .at)) (((c .before .before .before .before .before .before .before .before .before .before .before .before .before .before .before .before .before .before .before .before .before .before .before .before .before .before .before .loop) .inv .1 .same)) (((c .before .before .before .before .before .before .before .before .before .before .before .before .before .before .before .before .before .before .before .before .before .before .before .before .before .if1) .left))
 
 -- the counts after the line
 tallies-are : (c : tie.After-put Inv-loop μ-loop) → let l = ((c .before .before .before .before .before .before .before .before .before .before .before .before .before .before .before .before .before .before .before .before .before .before .before .read-line) .result) in ((c .before .before .before .before .before .before .before .before .tallied) .result) ≡ tallyAfter (movedOp (((c .before .before .before .before .before .before .before .before .before .before .if8) .answer)) (l .op)) (natural (l .a)) (is whole (modeOf (((c .before .before .before .before .before .before .before .before .before .before .before .before .before .before .before .before .before .before .before .before .before .before .before .before .before .before .before .loop) .p .head .mode)))) (((c .before .before .before .before .before .before .before .before .before .before .before .before .before .before .before .before .before .before .before .before .before .before .before .before .before .before .before .loop) .t))
@@ -405,10 +406,10 @@ counted-now c =
     let l = ((c .before .before .before .before .before .before .before .before .before .before .before .before .before .before .before .before .before .before .before .before .before .before .before .read-line) .result) in
     let p = ((c .before .before .before .before .before .before .before .before .before .before .before .before .before .before .before .before .before .before .before .before .before .before .before .before .before .before .before .loop) .p) in
     let m = (joined ((c .before .before .before .before .before .before .before .before .before .before))) .0 in
-    subst (λ t. Counted t (keptOf (((c .before .before .before .before .before .before .before .before .before .before .if8) .p .head)) (((c .before .before .before .before .before .before .before .before .before .before .if8) .p .edits)))) (sym (tallies-are c)) (counted-made (((c .before .before .before .before .before .before .before .before .before .before .before .before .before .before .before .before .before .before .before .before .before .before .before .before .before .before .before .loop) .t)) p (((c .before .before .before .before .before .before .before .before .before .before .if8) .p)) (((c .before .before .before .before .before .before .before .before .before .before .before .before .before .before .before .before .before .before .before .before .before .before .before .before .before .before .before .loop) .inv .long)) (((c .before .before .before .before .before .before .before .before .before .before .before .before .before .before .before .before .before .before .before .before .before .before .before .before .before .before .before .loop) .inv .counted)) l (((c .before .before .before .before .before .before .before .before .before .before .if8) .answer)) _ m)
+    subst (λ t. Counted t (keptOf (((c .before .before .before .before .before .before .before .before .before .before .if8) .p .head)) (((c .before .before .before .before .before .before .before .before .before .before .if8) .p .edits)))) (sym (tallies-are c)) (counted-made (((c .before .before .before .before .before .before .before .before .before .before .before .before .before .before .before .before .before .before .before .before .before .before .before .before .before .before .before .loop) .t)) p (((c .before .before .before .before .before .before .before .before .before .before .if8) .p)) (((c .before .before .before .before .before .before .before .before .before .before .before .before .before .before .before .before .before .before .before .before .before .before .before .before .before .before .before .loop) .inv .1 .long)) (((c .before .before .before .before .before .before .before .before .before .before .before .before .before .before .before .before .before .before .before .before .before .before .before .before .before .before .before .loop) .inv .1 .counted)) l (((c .before .before .before .before .before .before .before .before .before .before .if8) .answer)) _ m)
 
 long-now : (c : tie.After-put Inv-loop μ-loop) → length (((c .before .before .before .before .before .before .before .before .tallied) .result .unsent)) ≡ 8
-long-now c = ap (λ t. length (t .unsent)) (tallies-are c) ∙ tallied-long (movedOp (((c .before .before .before .before .before .before .before .before .before .before .if8) .answer)) (((c .before .before .before .before .before .before .before .before .before .before .before .before .before .before .before .before .before .before .before .before .before .before .before .read-line) .result .op))) (natural (((c .before .before .before .before .before .before .before .before .before .before .before .before .before .before .before .before .before .before .before .before .before .before .before .read-line) .result .a))) (is whole (modeOf (((c .before .before .before .before .before .before .before .before .before .before .before .before .before .before .before .before .before .before .before .before .before .before .before .before .before .before .before .loop) .p .head .mode)))) (((c .before .before .before .before .before .before .before .before .before .before .before .before .before .before .before .before .before .before .before .before .before .before .before .before .before .before .before .loop) .t)) (((c .before .before .before .before .before .before .before .before .before .before .before .before .before .before .before .before .before .before .before .before .before .before .before .before .before .before .before .loop) .inv .long))
+long-now c = ap (λ t. length (t .unsent)) (tallies-are c) ∙ tallied-long (movedOp (((c .before .before .before .before .before .before .before .before .before .before .if8) .answer)) (((c .before .before .before .before .before .before .before .before .before .before .before .before .before .before .before .before .before .before .before .before .before .before .before .read-line) .result .op))) (natural (((c .before .before .before .before .before .before .before .before .before .before .before .before .before .before .before .before .before .before .before .before .before .before .before .read-line) .result .a))) (is whole (modeOf (((c .before .before .before .before .before .before .before .before .before .before .before .before .before .before .before .before .before .before .before .before .before .before .before .before .before .before .before .loop) .p .head .mode)))) (((c .before .before .before .before .before .before .before .before .before .before .before .before .before .before .before .before .before .before .before .before .before .before .before .before .before .before .before .loop) .t)) (((c .before .before .before .before .before .before .before .before .before .before .before .before .before .before .before .before .before .before .before .before .before .before .before .before .before .before .before .loop) .inv .1 .long))
 
 -- what was put, and how many bytes
 room-is : (c : tie.After-put Inv-loop μ-loop) → take (length (((c .before .before .before .before .before .before .before .before .before .before .before .before .before .before .before .before .before .before .before .before .before .before .before .before .before .before .before .loop) .area)) - ((c .before .before .before .before .before .before .before .before .before .before .before .before .before .before .before .before .before .before .before .before .before .before .before .before .before .before .before .loop) .at)) (drop (((c .before .before .before .before .before .before .before .before .before .before .before .before .before .before .before .before .before .before .before .before .before .before .before .before .before .before .before .loop) .at)) (((c .before .before .before .before .before .before .before .before .before .before .before .before .before .before .before .before .before .before .before .before .before .before .before .before .before .before .before .loop) .area))) ≡ drop (((c .before .before .before .before .before .before .before .before .before .before .before .before .before .before .before .before .before .before .before .before .before .before .before .before .before .before .before .loop) .at)) (((c .before .before .before .before .before .before .before .before .before .before .before .before .before .before .before .before .before .before .before .before .before .before .before .before .before .before .before .loop) .area))
@@ -428,7 +429,7 @@ area-fits : (c : tie.After-put Inv-loop μ-loop) → Fits w64 (length (((c .befo
 area-fits c = lent-fits ((c .before .before .before .before .before .before .before .before .before .before .before .before .before .before .before .before .before .before .before .before .before .before .before .before .before .before .before .before))
 
 at-fits : (c : tie.After-put Inv-loop μ-loop) → ((c .put .result) ≡ 0 → ⊥) → Fits w64 (((c .before .before .before .before .before .before .before .before .before .before .before .before .before .before .before .before .before .before .before .before .before .before .before .before .before .before .before .loop) .at) + (c .put .result))
-at-fits c h = fits-le (put-most _ _ (length (told c)) (length (drop (((c .before .before .before .before .before .before .before .before .before .before .before .before .before .before .before .before .before .before .before .before .before .before .before .before .before .before .before .loop) .at)) (((c .before .before .before .before .before .before .before .before .before .before .before .before .before .before .before .before .before .before .before .before .before .before .before .before .before .before .before .loop) .area)))) (length (((c .before .before .before .before .before .before .before .before .before .before .before .before .before .before .before .before .before .before .before .before .before .before .before .before .before .before .before .loop) .area))) _ (count-is c h) (fits-now c h) (length-drop (((c .before .before .before .before .before .before .before .before .before .before .before .before .before .before .before .before .before .before .before .before .before .before .before .before .before .before .before .loop) .at)) (((c .before .before .before .before .before .before .before .before .before .before .before .before .before .before .before .before .before .before .before .before .before .before .before .before .before .before .before .loop) .area))) (((c .before .before .before .before .before .before .before .before .before .before .before .before .before .before .before .before .before .before .before .before .before .before .before .before .before .before .before .loop) .inv .same)) (((c .before .before .before .before .before .before .before .before .before .before .before .before .before .before .before .before .before .before .before .before .before .before .before .before .before .before .before .loop) .inv .most))) (area-fits c)
+at-fits c h = fits-le (put-most _ _ (length (told c)) (length (drop (((c .before .before .before .before .before .before .before .before .before .before .before .before .before .before .before .before .before .before .before .before .before .before .before .before .before .before .before .loop) .at)) (((c .before .before .before .before .before .before .before .before .before .before .before .before .before .before .before .before .before .before .before .before .before .before .before .before .before .before .before .loop) .area)))) (length (((c .before .before .before .before .before .before .before .before .before .before .before .before .before .before .before .before .before .before .before .before .before .before .before .before .before .before .before .loop) .area))) _ (count-is c h) (fits-now c h) (length-drop (((c .before .before .before .before .before .before .before .before .before .before .before .before .before .before .before .before .before .before .before .before .before .before .before .before .before .before .before .loop) .at)) (((c .before .before .before .before .before .before .before .before .before .before .before .before .before .before .before .before .before .before .before .before .before .before .before .before .before .before .before .loop) .area))) (((c .before .before .before .before .before .before .before .before .before .before .before .before .before .before .before .before .before .before .before .before .before .before .before .before .before .before .before .loop) .inv .1 .same)) (((c .before .before .before .before .before .before .before .before .before .before .before .before .before .before .before .before .before .before .before .before .before .before .before .before .before .before .before .loop) .inv .1 .most))) (area-fits c)
 
 -- the rest of the area as it was lent, and after
 abbrev after : tie.After-put Inv-loop μ-loop → List ℕ
@@ -447,32 +448,32 @@ going-on : (c : tie.After-put Inv-loop μ-loop) → ((c .put .result) ≡ 0 → 
     → Going (((c .before .before .before .before .before .before .before .before .before .before .before .before .before .before .before .before .before .before .before .before .before .before .before .before .before .before .before .before .before .before .args) .reserve)) (((c .before .before .before .before .before .before .before .before .before .before .before .before .before .before .before .before .before .before .before .before .before .before .before .before .before .before .before .before .before .before .args) .sheet .now)) (((c .before .before .before .before .before .before .before .before .before .before .before .before .before .before .before .before .before .before .before .before .before .before .before .before .before .before .before .before .before .before .args) .from)) (((c .before .before .before .before .before .before .before .before .before .before .before .before .before .before .before .before .before .before .before .before .before .before .before .before .before .before .before .before .before .before .args) .area .now)) (((c .before .before .before .before .before .before .before .before .before .before .before .before .before .before .before .before .before .before .before .before .before .before .before .before .before .before .before .before .before .before .args) .start)) (putMid (((c .before .before .before .before .before .before .before .before .before .before .before .before .before .before .before .before .before .before .before .before .before .before .before .before .before .before .before .loop) .at)) (length (((c .before .before .before .before .before .before .before .before .before .before .before .before .before .before .before .before .before .before .before .before .before .before .before .before .before .before .before .loop) .area)) - ((c .before .before .before .before .before .before .before .before .before .before .before .before .before .before .before .before .before .before .before .before .before .before .before .before .before .before .before .loop) .at)) (((c .before .before .before .before .before .before .before .before .before .before .before .before .before .before .before .before .before .before .before .before .before .before .before .before .before .before .before .loop) .area)) (after c)) (((c .before .before .before .before .before .before .before .before .before .before .if8) .p)) (((c .before .before .before .before .before .before .before .before .tallied) .result)) (((c .before .before .before .before .before .before .before .before .before .before .before .before .before .before .before .before .before .before .before .before .before .before .before .before .before .before .before .loop) .at) + (c .put .result)) ((((c .before .before .before .before .before .before .before .before .before .before .before .before .before .before .before .before .before .before .before .before .before .before .before .before .before .before .before .loop) .i) + ((c .before .before .before .before .before .before .before .before .before .before .before .before .before .before .before .before .before .before .before .before .before .before .before .read-line) .result .end)) + 1)
 going-on c h =
     moved (area-after c h) (ap (λ n. ((c .before .before .before .before .before .before .before .before .before .before .before .before .before .before .before .before .before .before .before .before .before .before .before .before .before .before .before .loop) .at) + n) (count-is c h)) (ap (λ n. n + 1) (end-is ((c .before .before .before .before .before .before .before .before .before .before .before .before .before .before .before .before .before .before .before .before .before .before .before))))
-    (next-line _ _ _ _ _ _ _ _ _ _ (((c .before .before .before .before .before .before .before .before .before .before .before .before .before .before .before .before .before .before .before .before .before .before .before .before .before .before .before .loop) .inv)) (((c .before .before .before .before .before .before .before .before .before .before .before .before .before .before .before .before .before .before .before .before .before .before .before .before .before .before .loop-test) .taken)) (enough c) (((c .before .before .before .before .before .before .before .before .before .before .if8) .p)) (((c .before .before .before .before .before .before .before .before .tallied) .result)) (told c) (told-is c) (left-is c) (fits-now c h) ((joined ((c .before .before .before .before .before .before .before .before .before .before))) .1) (long-now c) (counted-now c))
+    (next-line _ _ _ _ _ _ _ _ _ _ (((c .before .before .before .before .before .before .before .before .before .before .before .before .before .before .before .before .before .before .before .before .before .before .before .before .before .before .before .loop) .inv .1)) (((c .before .before .before .before .before .before .before .before .before .before .before .before .before .before .before .before .before .before .before .before .before .before .before .before .before .before .loop-test) .taken)) (enough c) (((c .before .before .before .before .before .before .before .before .before .before .if8) .p)) (((c .before .before .before .before .before .before .before .before .tallied) .result)) (told c) (told-is c) (left-is c) (fits-now c h) ((joined ((c .before .before .before .before .before .before .before .before .before .before))) .1) (long-now c) (counted-now c))
 
 ending : (c : tie.After-put Inv-loop μ-loop) → (c .put .result) ≡ 0
     → Advanced (((c .before .before .before .before .before .before .before .before .before .before .before .before .before .before .before .before .before .before .before .before .before .before .before .before .before .before .before .before .before .before .args) .reserve)) (((c .before .before .before .before .before .before .before .before .before .before .before .before .before .before .before .before .before .before .before .before .before .before .before .before .before .before .before .before .before .before .args) .sheet .now)) (((c .before .before .before .before .before .before .before .before .before .before .before .before .before .before .before .before .before .before .before .before .before .before .before .before .before .before .before .before .before .before .args) .from)) (((c .before .before .before .before .before .before .before .before .before .before .before .before .before .before .before .before .before .before .before .before .before .before .before .before .before .before .before .before .before .before .args) .start)) (((c .before .before .before .before .before .before .before .before .before .before .before .before .before .before .before .before .before .before .before .before .before .before .before .before .before .before .before .before .before .before .args) .area .now)) (record { state = ((c .before .before .before .before .before .before .before .before .before .before .if8) .p); next = (((c .before .before .before .before .before .before .before .before .before .before .before .before .before .before .before .before .before .before .before .before .before .before .before .before .before .before .before .loop) .i) + ((c .before .before .before .before .before .before .before .before .before .before .before .before .before .before .before .before .before .before .before .before .before .before .before .read-line) .result .end)) + 1; written = ((c .before .before .before .before .before .before .before .before .before .before .before .before .before .before .before .before .before .before .before .before .before .before .before .before .before .before .before .loop) .at); ended = true }) (putMid (((c .before .before .before .before .before .before .before .before .before .before .before .before .before .before .before .before .before .before .before .before .before .before .before .before .before .before .before .loop) .at)) (length (((c .before .before .before .before .before .before .before .before .before .before .before .before .before .before .before .before .before .before .before .before .before .before .before .before .before .before .before .loop) .area)) - ((c .before .before .before .before .before .before .before .before .before .before .before .before .before .before .before .before .before .before .before .before .before .before .before .before .before .before .before .loop) .at)) (((c .before .before .before .before .before .before .before .before .before .before .before .before .before .before .before .before .before .before .before .before .before .before .before .before .before .before .before .loop) .area)) (after c))
 ending c e =
     ended-at (area-same c e) (ap (λ n. n + 1) (end-is ((c .before .before .before .before .before .before .before .before .before .before .before .before .before .before .before .before .before .before .before .before .before .before .before))))
-    (unfit _ _ _ _ _ _ _ _ _ _ (((c .before .before .before .before .before .before .before .before .before .before .before .before .before .before .before .before .before .before .before .before .before .before .before .before .before .before .before .loop) .inv)) (((c .before .before .before .before .before .before .before .before .before .before .before .before .before .before .before .before .before .before .before .before .before .before .before .before .before .before .loop-test) .taken)) (enough c) (((c .before .before .before .before .before .before .before .before .before .before .if8) .p)) (((c .before .before .before .before .before .before .before .before .tallied) .result)) (told c) (told-is c) (left-is c) (unfit-now c e))
+    (unfit _ _ _ _ _ _ _ _ _ _ (((c .before .before .before .before .before .before .before .before .before .before .before .before .before .before .before .before .before .before .before .before .before .before .before .before .before .before .before .loop) .inv .1)) (((c .before .before .before .before .before .before .before .before .before .before .before .before .before .before .before .before .before .before .before .before .before .before .before .before .before .before .loop-test) .taken)) (enough c) (((c .before .before .before .before .before .before .before .before .before .before .if8) .p)) (((c .before .before .before .before .before .before .before .before .tallied) .result)) (told c) (told-is c) (left-is c) (unfit-now c e))
 
 -- the area's length stays
 same-after : (c : tie.After-put Inv-loop μ-loop) → (c .put .result) ≡ 0 → length (putMid (((c .before .before .before .before .before .before .before .before .before .before .before .before .before .before .before .before .before .before .before .before .before .before .before .before .before .before .before .loop) .at)) (length (((c .before .before .before .before .before .before .before .before .before .before .before .before .before .before .before .before .before .before .before .before .before .before .before .before .before .before .before .loop) .area)) - ((c .before .before .before .before .before .before .before .before .before .before .before .before .before .before .before .before .before .before .before .before .before .before .before .before .before .before .before .loop) .at)) (((c .before .before .before .before .before .before .before .before .before .before .before .before .before .before .before .before .before .before .before .before .before .before .before .before .before .before .before .loop) .area)) (after c)) ≡ length (((c .before .before .before .before .before .before .before .before .before .before .before .before .before .before .before .before .before .before .before .before .before .before .before .before .before .before .before .before .before .before .args) .area .now))
-same-after c e = ap length (area-same c e) ∙ ((c .before .before .before .before .before .before .before .before .before .before .before .before .before .before .before .before .before .before .before .before .before .before .before .before .before .before .before .loop) .inv .same)
+same-after c e = ap length (area-same c e) ∙ ((c .before .before .before .before .before .before .before .before .before .before .before .before .before .before .before .before .before .before .before .before .before .before .before .before .before .before .before .loop) .inv .1 .same)
 
 loop-holds : tie.Need-loop-holds Inv-loop μ-loop
 loop-holds c =
     let s = ((c .before .before)) in
-    begins (s .args .reserve) (s .args .sheet .now) (s .args .from) (s .args .area .now) (s .args .start) (s .args .counts) (owned-sized (s .args .start) (s .good .0)) (counts-long s) (s .pre)
+    (s .pre .1, begins (s .args .reserve) (s .args .sheet .now) (s .args .from) (s .args .area .now) (s .args .start) (s .args .counts) (owned-sized (s .args .start) (s .good .0)) (counts-long s) (s .pre .0))
 
 sub-if1 : tie.Need-sub-if1 Inv-loop μ-loop
-sub-if1 c = let g = ((c .before .loop) .inv) in le-same (g .most) (g .same)
+sub-if1 c = let g = ((c .before .loop) .inv .1) in le-same (g .most) (g .same)
 
 same-length : tie.Need-same-length Inv-loop μ-loop
-same-length c = ((c .before .before .loop) .inv .same)
+same-length c = ((c .before .before .loop) .inv .1 .same)
 
 returns : tie.Need-returns Inv-loop μ-loop
 returns c =
-    paused _ _ _ _ _ _ _ _ _ _ (((c .before .before .loop) .inv)) (((c .before .loop-test) .taken)) (subst (λ n. n - ((c .before .before .loop) .at) < ((c .before .before .before .before .before .args) .reserve)) (((c .before .before .loop) .inv .same)) ((c .if1 .taken)))
+    paused _ _ _ _ _ _ _ _ _ _ (((c .before .before .loop) .inv .1)) (((c .before .loop-test) .taken)) (subst (λ n. n - ((c .before .before .loop) .at) < ((c .before .before .before .before .before .args) .reserve)) (((c .before .before .loop) .inv .1 .same)) ((c .if1 .taken)))
 
 sub-read-line : tie.Need-sub-read-line Inv-loop μ-loop
 sub-read-line c = let h = ((c .before .loop-test) .taken) in omega (arith, h)
@@ -704,11 +705,11 @@ part-put-end c =
 
 sub-put-2 : tie.Need-sub-put-2 Inv-loop μ-loop
 sub-put-2 c =
-    let g = ((c .before .before .before .before .before .before .before .before .before .before .before .before .before .before .before .before .before .before .before .before .before .before .before .before .before .loop) .inv) in le-same (g .most) (g .same)
+    let g = ((c .before .before .before .before .before .before .before .before .before .before .before .before .before .before .before .before .before .before .before .before .before .before .before .before .before .loop) .inv .1) in le-same (g .most) (g .same)
 
 part-put-start-2 : tie.Need-part-put-start-2 Inv-loop μ-loop
 part-put-start-2 c =
-    let g = ((c .before .before .before .before .before .before .before .before .before .before .before .before .before .before .before .before .before .before .before .before .before .before .before .before .before .loop) .inv) in le-same (g .most) (g .same)
+    let g = ((c .before .before .before .before .before .before .before .before .before .before .before .before .before .before .before .before .before .before .before .before .before .before .before .before .before .loop) .inv .1) in le-same (g .most) (g .same)
 
 part-put-end-2 : tie.Need-part-put-end-2 Inv-loop μ-loop
 part-put-end-2 c = le-self _
@@ -716,8 +717,8 @@ part-put-end-2 c = le-self _
 put-requires : tie.Need-put-requires Inv-loop μ-loop
 put-requires c κs = search needs
 
-add-t179 : tie.Need-add-t179 Inv-loop μ-loop
-add-t179 c =
+add-t180 : tie.Need-add-t180 Inv-loop μ-loop
+add-t180 c =
     end-fits ((c .before .before .before .before .before .before .before .before .before .before .before .before .before .before .before .before .before .before .before .before .before .before .before .before .before .before))
 
 same-length-2 : tie.Need-same-length-2 Inv-loop μ-loop
@@ -738,13 +739,13 @@ loop-less c =
     nearer ((c .before .before .before .before .before .before .before .before .before .before .before .before .before .before .before .before .before .before .before .before .before .before .before .before .before .before))
 
 loop-again : tie.Need-loop-again Inv-loop μ-loop
-loop-again c = going-on ((c .before .before .before)) ((c .if9 .left))
+loop-again c = (sound-made (joined ((c .before .before .before .before .before .before .before .before .before .before .before .before .before)) .0) ((c .before .before .before .before .before .before .before .before .before .before .before .before .before .before .before .before .before .before .before .before .before .before .before .before .before .before .before .before .before .before .loop) .inv .0), going-on ((c .before .before .before)) ((c .if9 .left)))
 
 same-length-3 : tie.Need-same-length-3 Inv-loop μ-loop
-same-length-3 c = ((c .before .loop) .inv .same)
+same-length-3 c = ((c .before .loop) .inv .1 .same)
 
 returns-3 : tie.Need-returns-3 Inv-loop μ-loop
-returns-3 c = over _ _ _ _ _ _ _ _ _ _ (((c .before .loop) .inv)) ((c .loop-test .left))
+returns-3 c = over _ _ _ _ _ _ _ _ _ _ (((c .before .loop) .inv .1)) ((c .loop-test .left))
 
 pub go-spec : {M : Type 1} → statement M
 go-spec =
@@ -833,7 +834,7 @@ go-spec =
     part-put-start-2
     part-put-end-2
     put-requires
-    add-t179
+    add-t180
     same-length-2
     returns-2
     add-at

@@ -1,40 +1,169 @@
-use Prim.Native.Nat.{min}
-use mathlib.Core.Path.{ap, _∙_}
-use mir.Facts.{toZ-ofZ}
-use Rattle.protocol.specs.Plan.{value}
-use Rattle.rows.specs.Rows.{row}
-use Rattle.rules.specs.Rules.{withValue, holdsIn, paddedValue}
-use Rattle.rules.proofs.Rows.{holds-read}
 use borrow.Author.Needs.{needs}
+use native.Mathlib.Omega.{arith}
+use Prim.Native.Nat.{ℕ, _-_, min}
+use mathlib.Core.Bool.{Bool, true, _||_}
+use mathlib.Core.Path.{_≡_, sym, ap, ap₂, _∙_}
+use lib.IntN.{pos, _+ℤ_}
+use lib.ListN.{getD}
+use lib.Signed.{ltZ}
+use mir.Syntax.{w32}
+use mir.Val.{toZ, ofZ}
+use mir.Facts.{toZ-ofZ}
+use borrow.Author.Tests.{not-true, not-false}
+use Rattle.exact.proofs.Ints.{fits32}
+use Rattle.protocol.specs.Lists.{all}
+use Rattle.protocol.specs.Plan.{value}
+use Rattle.protocol.proofs.Laws.{on}
+use Rattle.rows.specs.Rows.{row}
+use Rattle.rows.proofs.Spans.{Walked, walk-begin, all-next, all-stop, all-over}
+use Rattle.rules.specs.Rules.{withValue, pairHolds, holdsAt, sparedAt, testedIn}
 use Rattle.rules.proofs.rules_hold.Statement.{statement}
 use Rattle.rules.proofs.rules_hold.Tie as tie
 use Rattle.rules.proofs.rules_hold.Reads as reads
 use Rattle.rules.proofs.rules_hold.Lts as lts
-use Rattle.rules.proofs.padded.Reads as padded-reads
-use Rattle.rules.proofs.row_holds.Reads as row-holds-reads
+use Rattle.rows.proofs.capped.Reads as capped-reads
+use Rattle.rules.proofs.less_by.Reads as less-by-reads
+use Rattle.rules.proofs.spared.Reads as spared-reads
+use Rattle.rules.proofs.value_with.Reads as value-with-reads
 
-returns : tie.Need-returns
-unfolding holdsIn
-returns c = rw (c .if1 .taken)
+abbrev Inv-loop : tie.InvT-loop
+Inv-loop lower gap upper k values at n m x sound end size i₀ i =
+    Walked (all (λ j. sparedAt sound m lower upper j || holdsAt lower gap upper (value (withValue m (toZ w32 x) (row values at size))) j)) (λ j. j) (min k 64) i
 
-padded-requires : tie.Need-padded-requires
-padded-requires c κs = search needs
+abbrev μ-loop : tie.MeasureT-loop
+μ-loop lower gap upper k values at n m x sound end size i₀ i = end - i
 
-slice-aggregate-row-holds : tie.Need-slice-aggregate-row-holds
-slice-aggregate-row-holds c = search needs
+-- the row that is tested is the one given
+exactly : (c : tie.After-capped2 Inv-loop μ-loop) → let a = (c .before .before .args) in
+    testedIn (a .sound) (a .m) (a .lower .now) (a .gap .now) (a .upper .now) (min (a .k) 64) (withValue (a .m) (toZ w32 (ofZ w32 (a .x))) (row (a .values .now) (a .at) ((c .capped2 .result))))
+    ≡ testedIn (a .sound) (a .m) (a .lower .now) (a .gap .now) (a .upper .now) (min (a .k) 64) (withValue (a .m) (a .x) (row (a .values .now) (a .at) (min (a .n) 32)))
+exactly c =
+    let s = (c .before .before) in
+    let a = s .args in
+    ap₂ (λ y n. testedIn (a .sound) (a .m) (a .lower .now) (a .gap .now) (a .upper .now) (min (a .k) 64) (withValue (a .m) y (row (a .values .now) (a .at) n))) (toZ-ofZ (s .fits .x)) ((c .capped2 .ensures))
 
-row-holds-requires : tie.Need-row-holds-requires
-row-holds-requires c κs = search needs
+-- the rule at hand: whether it is spared, and whether it holds
+module _ (c : tie.After-spared Inv-loop μ-loop) where
+  abbrev start : tie.Start Inv-loop μ-loop
+  start = c .before .before .before .before .before .before .before
 
-returns-2 : tie.Need-returns-2
-returns-2 c =
-    let a = (c .before .before .before .before .args) in
-    let vs = row (a .values .now) (a .at) (min (a .n) 32) in
-    (c .row-holds .ensures)
-    ∙ holds-read (a .lower .now) (a .gap .now) (a .upper .now) (min (a .k) 64) (paddedValue (c .before .before .padded .result)) (withValue (a .m) (a .x) vs)
-    (λ k. (c .before .before .padded .ensures) k ∙ ap (λ y. value (withValue (a .m) y vs) k) (toZ-ofZ (c .before .before .before .before .fits .x)))
+  abbrev at-hand : ℕ
+  at-hand = c .before .before .before .before .loop .i
+
+  abbrev skips : Bool
+  skips = sparedAt (start .args .sound) (start .args .m) (start .args .lower .now) (start .args .upper .now) at-hand
+
+  abbrev obeys : Bool
+  obeys = holdsAt (start .args .lower .now) (start .args .gap .now) (start .args .upper .now) (value (withValue (start .args .m) (toZ w32 (ofZ w32 (start .args .x))) (row (start .args .values .now) (start .args .at) (c .before .before .before .before .before .capped2 .result)))) at-hand
+
+  skipped : c .spared .result ≡ skips
+  skipped = c .spared .ensures
+
+tested : (c : tie.After-less-by Inv-loop μ-loop) → (c .less-by .result) ≡ obeys (c .before .before .before .before .before)
+unfolding pairHolds
+tested c =
+    let a = (c .before .before .before .before .before .before .before .before .before .before .before .before .args) in
+    let low = (c .before .before .value-with) in
+    let high = (c .before .value-with2) in
+    (c .less-by .ensures)
+    ∙ ap₂ ltZ
+    (ap₂ _+ℤ_ (toZ-ofZ (fits32 (low .result) (low .ok)) ∙ low .ensures) (toZ-ofZ (fits32 (getD (a .gap .now) (at-hand (c .before .before .before .before .before)) (pos 0)) (c .before .before .before .g .given))))
+    (toZ-ofZ (fits32 (high .result) (high .ok)) ∙ high .ensures)
+
+passes : (c : tie.Joined1 Inv-loop μ-loop) → (skips (c .before) || obeys (c .before)) ≡ true
+passes c =
+    on (c .if1 .came)
+    (λ w.
+    let p : tie.After-less-by Inv-loop μ-loop =
+    record {
+      before = record { before = record { before = record { before = record { before = c .before; if1 = w .0 }; g = w .1 }; value-with = w .2 }; value-with2 = w .3 };
+      less-by = w .4;
+    }
+    in
+    ap₂ (λ u v. u || v) (sym (skipped (c .before)) ∙ not-true _ (w .0 .taken)) (sym (tested p) ∙ not-false _ (w .5 .left)))
+    (λ w. ap (λ u. u || obeys (c .before)) (sym (skipped (c .before)) ∙ not-false _ (w .left)))
+
+capped-requires : tie.Need-capped-requires Inv-loop μ-loop
+capped-requires c κs = search needs
+
+capped-requires-2 : tie.Need-capped-requires-2 Inv-loop μ-loop
+capped-requires-2 c κs = search needs
+
+loop-holds : tie.Need-loop-holds Inv-loop μ-loop
+loop-holds c = walk-begin _ _ _
+
+mul-a : tie.Need-mul-a Inv-loop μ-loop
+mul-a c = omega arith
+
+element-copy-out-a : tie.Need-element-copy-out-a Inv-loop μ-loop
+element-copy-out-a c = omega arith
+
+mul-b : tie.Need-mul-b Inv-loop μ-loop
+mul-b c = omega arith
+
+element-copy-out-b : tie.Need-element-copy-out-b Inv-loop μ-loop
+element-copy-out-b c = omega arith
+
+spared-requires : tie.Need-spared-requires Inv-loop μ-loop
+spared-requires c κs = search needs
+
+mul-g : tie.Need-mul-g Inv-loop μ-loop
+mul-g c = omega arith
+
+element-copy-out-g : tie.Need-element-copy-out-g Inv-loop μ-loop
+element-copy-out-g c = omega arith
+
+value-with-requires : tie.Need-value-with-requires Inv-loop μ-loop
+value-with-requires c κs = search needs
+
+value-with-requires-2 : tie.Need-value-with-requires-2 Inv-loop μ-loop
+value-with-requires-2 c κs = search needs
+
+less-by-requires : tie.Need-less-by-requires Inv-loop μ-loop
+less-by-requires c κs = search needs
+
+returns : tie.Need-returns Inv-loop μ-loop
+unfolding testedIn
+returns c =
+    let p = (c .before .before .before .before .before .before) in
+    all-stop _ _ _ _ ((p .before .before .before .before .loop .inv)) (omega arith)
+    (ap₂ (λ u v. u || v) (sym (skipped p) ∙ not-true _ ((c .before .before .before .before .before .if1 .taken))) (sym (tested (c .before)) ∙ not-true _ ((c .if2 .taken))))
+    ∙ exactly (p .before .before .before .before .before)
+
+add-i : tie.Need-add-i Inv-loop μ-loop
+add-i c = omega arith
+
+loop-less : tie.Need-loop-less Inv-loop μ-loop
+loop-less c = omega arith
+
+loop-again : tie.Need-loop-again Inv-loop μ-loop
+loop-again c = all-next _ _ _ _ ((c .before .before .before .before .before .loop .inv)) (omega arith) (passes c)
+
+returns-2 : tie.Need-returns-2 Inv-loop μ-loop
+unfolding testedIn
+returns-2 c = all-over _ _ _ _ ((c .before .loop .inv)) (omega arith) ∙ exactly (c .before .before)
 
 pub rules-hold-spec : {M : Type 1} → statement M
 rules-hold-spec =
     tie.close
-    (tie.spec returns padded-requires slice-aggregate-row-holds row-holds-requires returns-2)
+    (tie.spec
+    Inv-loop
+    μ-loop
+    capped-requires
+    capped-requires-2
+    loop-holds
+    mul-a
+    element-copy-out-a
+    mul-b
+    element-copy-out-b
+    spared-requires
+    mul-g
+    element-copy-out-g
+    value-with-requires
+    value-with-requires-2
+    less-by-requires
+    returns
+    add-i
+    loop-less
+    loop-again
+    returns-2)

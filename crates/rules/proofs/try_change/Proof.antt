@@ -12,7 +12,7 @@ use mathlib.Core.Bool.{Bool, true, cond}
 use mathlib.Core.List.{List}
 use Rattle.rules.specs.declared.Trial.the-variants.{Effective, Broken}
 use Rattle.rows.specs.Rows.{row}
-use Rattle.rules.specs.Rules.{withValue, holdsIn, trialOf}
+use Rattle.rules.specs.Rules.{withValue, testedIn, trialOf}
 use Rattle.rules.proofs.Rows.{trial-parts}
 use borrow.Author.Needs.{needs}
 use Rattle.rules.proofs.try_change.Statement.{statement}
@@ -21,7 +21,7 @@ use Rattle.rules.proofs.try_change.Reads as reads
 use Rattle.rules.proofs.try_change.Lts as lts
 use Rattle.change.proofs.apply.Reads as apply-reads
 use Rattle.rows.proofs.capped.Reads as capped-reads
-use Rattle.rules.proofs.changed_holds.Reads as changed-holds-reads
+use Rattle.rules.proofs.rules_hold.Reads as rules-hold-reads
 use Rattle.rules.proofs.value_at.Reads as value-at-reads
 
 -- the value that the change makes
@@ -36,7 +36,7 @@ gives c =
     ∙ ap (λ y. rangedOf (applied (viewChange (a .change)) y)) (toZ-ofZ (fits32 (v .result) (v .ok)) ∙ v .ensures ∙ ap (λ n. value (row (a .values .now) (a .at) n) (a .m)) (c .before .before .capped .ensures))
 
 -- it is in range, and the rules are tested where the measure counts as it
-module _ (c : tie.After-changed-holds) where
+module _ (c : tie.After-rules-hold) where
   abbrev start : tie.Start
   start = c .before .before .before .before .before .before .before
 
@@ -47,7 +47,7 @@ module _ (c : tie.After-changed-holds) where
   values = row (start .args .values .now) (start .args .at) (min (start .args .n) 32)
 
   abbrev test : List ℤ → Bool
-  test = holdsIn (start .args .lower .now) (start .args .gap .now) (start .args .upper .now) (min (start .args .k) 64)
+  test = testedIn (start .args .sound) (start .args .m) (start .args .lower .now) (start .args .gap .now) (start .args .upper .now) (min (start .args .k) 64)
 
   tried : (inRange (result start) ≡ true) × (x ≡ result start)
   tried = ranged-in (result start) x (sym (c .before .before .made .given .1) ∙ gives (c .before .before .before .before))
@@ -55,10 +55,10 @@ module _ (c : tie.After-changed-holds) where
   same : toZ w32 (ofZ w32 x) ≡ result start
   same = toZ-ofZ (fits32 x (c .before .known-told .given .0 .1)) ∙ tried .1
 
-  tested : c .changed-holds .result ≡ test (withValue (start .args .m) (result start) values)
-  tested = c .changed-holds .ensures ∙ ap (λ y. test (withValue (start .args .m) y values)) same
+  tested : c .rules-hold .result ≡ test (withValue (start .args .m) (result start) values)
+  tested = c .rules-hold .ensures ∙ ap (λ y. test (withValue (start .args .m) y values)) same
 
-  parts : trialOf test (start .args .m) (viewChange (start .args .change)) values ≡ cond (c .changed-holds .result) (Effective (result start)) Broken
+  parts : trialOf test (start .args .m) (viewChange (start .args .change)) values ≡ cond (c .rules-hold .result) (Effective (result start)) Broken
   parts = trial-parts test (start .args .m) (viewChange (start .args .change)) values ∙ rw (tried .0, ← tested)
 
 capped-requires : tie.Need-capped-requires
@@ -81,8 +81,8 @@ returns c =
     let s = (c .before .before .before .before .before) in
     sym (trial-parts _ (s .args .m) (viewChange (s .args .change)) (row (s .args .values .now) (s .args .at) (min (s .args .n) 32)) ∙ rw (ranged-out (result s) (sym ((c .enum-told .given .1)) ∙ gives (c .before .before))))
 
-changed-holds-requires : tie.Need-changed-holds-requires
-changed-holds-requires c κs = search needs
+rules-hold-requires : tie.Need-rules-hold-requires
+rules-hold-requires c κs = search needs
 
 returns-2 : tie.Need-returns-2
 returns-2 c =
@@ -104,6 +104,6 @@ try-change-spec =
     enum-known-made
     enum-told
     returns
-    changed-holds-requires
+    rules-hold-requires
     returns-2
     returns-3)

@@ -8,12 +8,12 @@ use lib.Dec.{leb}
 use borrow.Author.Tests.{lt-ltb, le-ltb}
 use mir.Facts.{toZ-ofZ}
 use Rattle.exact.proofs.Ints.{fits32}
-use Rattle.protocol.specs.Plan.{firmlyNamed, keptLimit, holds, made}
+use Rattle.protocol.specs.Plan.{firmlyNamed, keptLimit, made}
 use Rattle.protocol.specs.Calls.{apart}
 use Rattle.change.specs.Change.{viewChange}
 use Rattle.rows.specs.Rows.{row}
-use Rattle.rules.specs.Rules.{rulesIn, holdsIn, trialOf}
-use Rattle.rules.proofs.Rows.{holds-is, firm-is, trial-out, trial-broken, trial-effective}
+use Rattle.rules.specs.Rules.{rulesIn, testedIn, heldFor, trialOf}
+use Rattle.rules.proofs.Rows.{tested-is, firm-is, trial-out, trial-broken, trial-effective}
 use Rattle.heads.specs.Heads.{modeOf, measuresIn, keptIn}
 use Rattle.ruling.specs.declared.Ruling.the-variants.{Granted}
 use Rattle.ruling.specs.Edits.{changeRuling}
@@ -46,13 +46,13 @@ module _ (c : tie.After-try-change) where
   ch = viewChange (start .args .change)
 
   abbrev test : List ℤ → Bool
-  test = holdsIn (start .args .lower .now) (start .args .gap .now) (start .args .upper .now) (min (start .args .h .rules) 64)
+  test = testedIn (start .args .sound) (start .args .m) (start .args .lower .now) (start .args .gap .now) (start .args .upper .now) (min (start .args .h .rules) 64)
 
   trial : c .try-change .result ≡ trialOf test (start .args .m) ch vs
   trial = c .try-change .ensures
 
-  tested : holds (rulesIn (start .args .lower .now) (start .args .gap .now) (start .args .upper .now) (start .args .firm .now) (min (start .args .h .rules) 64)) (made (start .args .m) ch vs) ≡ test (made (start .args .m) ch vs)
-  tested = holds-is (start .args .lower .now) (start .args .gap .now) (start .args .upper .now) (start .args .firm .now) (min (start .args .h .rules) 64) (made (start .args .m) ch vs)
+  tested : heldFor (start .args .sound) (start .args .m) (rulesIn (start .args .lower .now) (start .args .gap .now) (start .args .upper .now) (start .args .firm .now) (min (start .args .h .rules) 64)) (made (start .args .m) ch vs) ≡ test (made (start .args .m) ch vs)
+  tested = sym (tested-is (start .args .lower .now) (start .args .gap .now) (start .args .upper .now) (start .args .firm .now) (min (start .args .h .rules) 64) (start .args .sound) (start .args .m) (made (start .args .m) ch vs))
 
 frozen-requires : tie.Need-frozen-requires
 frozen-requires c κs = search needs

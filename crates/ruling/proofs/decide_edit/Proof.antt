@@ -31,8 +31,8 @@ returns c =
     let after = toZ-ofZ (s .fits .after) in
     let constant = toZ-ofZ (s .fits .constant) in
     let old = toZ-ofZ (s .fits .old) in
-    let ruling : (c .before .before .before .edit-ruling .result) ≡ editRuling (a .h) (a .lower .now) (a .gap .now) (a .upper .now) (a .firm .now) (a .values .now) (a .named) (a .s) (a .client) (a .after) (a .m) (a .kind) (a .constant) =
-    (c .before .before .before .edit-ruling .ensures) ∙ (λ i. editRuling (a .h) (a .lower .now) (a .gap .now) (a .upper .now) (a .firm .now) (a .values .now) (a .named) (a .s) (client i) (after i) (a .m) (a .kind) (constant i))
+    let ruling : (c .before .before .before .edit-ruling .result) ≡ editRuling (a .sound) (a .h) (a .lower .now) (a .gap .now) (a .upper .now) (a .firm .now) (a .values .now) (a .named) (a .s) (a .client) (a .after) (a .m) (a .kind) (a .constant) =
+    (c .before .before .before .edit-ruling .ensures) ∙ (λ i. editRuling (a .sound) (a .h) (a .lower .now) (a .gap .now) (a .upper .now) (a .firm .now) (a .values .now) (a .named) (a .s) (client i) (after i) (a .m) (a .kind) (constant i))
     in
     let by = (c .before .before .number .ensures) ∙ ap natural client in
     let on = (c .before .number2 .ensures) ∙ ap natural after in

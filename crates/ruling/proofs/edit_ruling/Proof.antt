@@ -134,9 +134,9 @@ returns-7 c =
     let made = sym ((c .before .before .before .before .before .made .given .1)) ∙ makes (c .before .before .before .before .before .before .before) in
     let m = made-yes (a .kind) (a .constant) d made in
     let vs = row (a .values .now) (offsetOf (a .s)) (measuresIn (a .h)) in
-    let tail : model.Change → Change → Ruling = λ x e. ruled (first (changeChecks (modeOf (a .h .mode)) (rulesIn (a .lower .now) (a .gap .now) (a .upper .now) (a .firm .now) (min (a .h .rules) 64)) (keptIn (a .h)) (a .h .next) vs (a .m) x)) e (applied x (value vs (a .m))) in
+    let tail : model.Change → Change → Ruling = λ x e. ruled (first (changeChecks (a .sound) (modeOf (a .h .mode)) (rulesIn (a .lower .now) (a .gap .now) (a .upper .now) (a .firm .now) (min (a .h .rules) 64)) (keptIn (a .h)) (a .h .next) vs (a .m) x)) e (applied x (value vs (a .m))) in
     rw (ok31 (c .before .before .before .before .before .before .before .before .before .before .before .before .before .before .before .before .before) ∙ not-false _ ((c .before .before .before .before .before .before .before .before .before .before .before .before .before .before .before .before .if1 .left)), ok21 (c .before .before .before .before .before .before .before .before .before .before .before .before .before .before) ∙ not-false _ ((c .before .before .before .before .before .before .before .before .before .before .before .before .before .if2 .left)), ok22 (c .before .before .before .before .before .before .before .before .before .before .before .before) ∙ not-false _ ((c .before .before .before .before .before .before .before .before .before .before .before .if3 .left)), ok23 (c .before .before .before .before .before .before .before .before .before) ∙ not-false _ ((c .before .before .before .before .before .before .before .before .if4 .left)), m .0, ok25 (c .before .before .before) ∙ not-false _ ((c .before .before .if5 .left)))
-    ((c .change-ruling .ensures) ∙ ap (λ at. changeRuling (a .h) (a .lower .now) (a .gap .now) (a .upper .now) (a .firm .now) (a .values .now) at (a .m) d) ((c .before .offset .ensures .0)) ∙ ap (λ x. tail x d) (m .1) ∙ ap (λ e. tail (changeOf (a .kind) (a .constant)) e) (ap changeIn made))
+    ((c .change-ruling .ensures) ∙ ap (λ at. changeRuling (a .sound) (a .h) (a .lower .now) (a .gap .now) (a .upper .now) (a .firm .now) (a .values .now) at (a .m) d) ((c .before .offset .ensures .0)) ∙ ap (λ x. tail x d) (m .1) ∙ ap (λ e. tail (changeOf (a .kind) (a .constant)) e) (ap changeIn made))
 
 pub edit-ruling-spec : {M : Type 1} → statement M
 edit-ruling-spec =

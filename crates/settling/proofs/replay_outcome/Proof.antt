@@ -47,7 +47,7 @@ unfolding replayOutcome
 returns-5 c =
     let a = (c .before .before .before .before .before .before .before .before .args) in
     rw (sym ((c .before .before .before .before .before .before .before .is-active .ensures)) ∙ not-false _ ((c .before .before .before .before .before .before .if1 .left)), eq-eqb _ 0 ((c .before .before .before .before .before .if2 .left)), sym ((c .before .before .before .before .is-waiting .ensures)) ∙ not-false _ ((c .before .before .before .if3 .left)), sym ((c .before .before .is-waiting2 .ensures)) ∙ (c .before .if4 .left))
-    ((c .try-draft .ensures) ∙ ap (draftOutcome (a .h) (a .lower .now) (a .gap .now) (a .upper .now) (a .draft .now) (a .e .measure) (a .e .change)) (toZ-ofZ ((c .before .before .before .before .before .before .before .before .fits .old))))
+    ((c .try-draft .ensures) ∙ ap (draftOutcome (a .sound) (a .h) (a .lower .now) (a .gap .now) (a .upper .now) (a .draft .now) (a .e .measure) (a .e .change)) (toZ-ofZ ((c .before .before .before .before .before .before .before .before .fits .old))))
 
 pub replay-outcome-spec : {M : Type 1} → statement M
 replay-outcome-spec =

@@ -8,7 +8,7 @@ use Rattle.exact.proofs.Ints.{fits32}
 use Rattle.protocol.specs.Plan as model
 use Rattle.protocol.specs.Lists.{oneTo}
 use Rattle.change.specs.Change.{viewChange}
-use Rattle.rules.specs.Rules.{holdsIn, trialOf}
+use Rattle.rules.specs.Rules.{testedIn, trialOf}
 use Rattle.rules.proofs.Rows.{trial-out, trial-broken, trial-effective}
 use Rattle.settling.specs.declared.Outcome.the-variants.{Settled}
 use Rattle.settling.specs.Replays.{draftIn, effectiveIn, draftOutcome}
@@ -33,7 +33,7 @@ module _ (c : tie.After-try-change) where
   ch = viewChange (start .args .change)
 
   abbrev test : List ℤ → Bool
-  test = holdsIn (start .args .lower .now) (start .args .gap .now) (start .args .upper .now) (min (start .args .h .rules) 64)
+  test = testedIn (start .args .sound) (start .args .m) (start .args .lower .now) (start .args .gap .now) (start .args .upper .now) (min (start .args .h .rules) 64)
 
   trial : c .try-change .result ≡ trialOf test (start .args .m) ch vs
   trial = c .try-change .ensures

@@ -1,0 +1,29 @@
+use mathlib.Core.Path.{_≡_, sym, _∙_}
+use borrow.Author.Needs.{needs}
+use borrow.Author.Tests.{eqb-true}
+use Rattle.progress.proofs.Turning.{blank-holds}
+use Rattle.progress.proofs.advance.Statement.{statement}
+use Rattle.progress.proofs.advance.Tie as tie
+use Rattle.progress.proofs.advance.Reads as reads
+use Rattle.progress.proofs.advance.Lts as lts
+use Rattle.heads.proofs.mode_number.Reads as mode-number-reads
+use Rattle.progress.proofs.go.Reads as go-reads
+use Rattle.reads.proofs.tallies.Reads as tallies-reads
+
+mode-number-requires : tie.Need-mode-number-requires
+mode-number-requires c κs = search needs
+
+tallies-requires : tie.Need-tallies-requires
+tallies-requires c κs = search needs
+
+go-requires : tie.Need-go-requires
+go-requires c κs = (search needs, λ e. blank-holds (c .before .before .before .before .before .before .before .args .p) (sym (c .before .before .before .mode-number .ensures) ∙ eqb-true _ 0 e))
+
+same-length : tie.Need-same-length
+same-length c = search needs
+
+returns : tie.Need-returns
+returns c = search needs
+
+pub advance-spec : {M : Type 1} → statement M
+advance-spec = tie.close (tie.spec mode-number-requires tallies-requires go-requires same-length returns)
