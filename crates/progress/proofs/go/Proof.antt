@@ -202,14 +202,16 @@ whole-arm c w =
     let e = ap (λ x. x .entry) (g .0) ∙ whole-edit false p (natural (l .a)) (l .b) (l .c) (natural (l .d)) (natural (l .e)) (l .f) (ap (λ n. eqb n 1) (sym (((c .before .before .before .before .before .before .before .before .before .before .before .before .before .before .before .before .before .before .before .before .before .before .before .before .before .before .before .before .before .before .mode-number)) .ensures)) ∙ w) ∙ ap (λ j. getD (p .edits) j noRecord) (sym (g .2)) in
     whole-stored p (((c .before .before .before .before .before .before .before .before .before .before .before .before .before .before .before .before .before .before .before .before .spot) .result)) (((c .before .before .before .before .before .before .before .before .before .before .before .before .before .before .before .before .before .before .before .capped) .result)) (record { head = d .head; value = toZ w32 (ofZ w32 (d .value)); entry = d .entry; answer = d .answer }) e
 
+edit-turned : (c : tie.After-entry Inv-loop μ-loop) {q : State} {a : Answer} → let d = ((c .before .before .before .decide-edit) .result) in q ≡ stored ((c .before .before .before .before .before .before .before .before .before .before .before .before .before .before .before .before .before .before .before .before .before .before .before .before .before .before .before .before .before .before .before .before .before .before .before .before .before .before .before .loop) .p) ((c .before .before .before .before .before .before .before .before .before .before .before .before .before .before .before .before .before .before .before .before .spot) .result) ((c .before .before .before .before .before .before .before .before .before .before .before .before .before .before .before .before .before .before .before .capped) .result) (record { head = d .head; value = toZ w32 (ofZ w32 (d .value)); entry = d .entry; answer = d .answer }) → a ≡ d .answer → Turned (eqb ((c .before .before .before .before .before .before .before .before .before .before .before .before .before .before .before .before .before .before .before .before .before .before .before .before .before .before .before .before .before .before .before .before .before .before .before .read-line) .result .op) 5 || false) (lineIn ((c .before .before .before .before .before .before .before .before .before .before .before .before .before .before .before .before .before .before .before .before .before .before .before .before .before .before .before .before .before .before .before .before .before .before .before .read-line) .result)) ((c .before .before .before .before .before .before .before .before .before .before .before .before .before .before .before .before .before .before .before .before .before .before .before .before .before .before .before .before .before .before .before .before .before .before .before .before .before .before .before .loop) .p) q a 0 0
+edit-turned c e g = let m = edit-arm c in taken (untouched (lineIn ((c .before .before .before .before .before .before .before .before .before .before .before .before .before .before .before .before .before .before .before .before .before .before .before .before .before .before .before .before .before .before .before .before .before .before .before .read-line) .result)) ((c .before .before .before .before .before .before .before .before .before .before .before .before .before .before .before .before .before .before .before .before .before .before .before .before .before .before .before .before .before .before .before .before .before .before .before .before .before .before .before .loop) .p) ((c .before .before .before .before .before .before .before .before .before .before .before .before .before .before .before .before .before .before .before .before .before .before .before .before .before .before .before .before .before .before .before .before .before .before .before .before .before .before .before .loop) .inv .1 .sized)) (eq-eqb _ 5 ((c .before .before .before .before .before .before .before .before .before .before .before .before .before .before .before .before .before .before .before .before .before .before .before .before .before .before .before .before .before .if2) .taken)) refl e g refl refl (m .0) (m .1)
+
 turned2 : (c : tie.Joined2 Inv-loop μ-loop) → Turned (eqb ((c .before .before .before .before .before .before .read-line) .result .op) 5 || false) (lineIn ((c .before .before .before .before .before .before .read-line) .result)) ((c .before .before .before .before .before .before .before .before .before .before .loop) .p) ((c .if2) .p) ((c .if2) .answer) 0 0
 turned2 c =
-    let k = untouched (lineIn ((c .before .before .before .before .before .before .read-line) .result)) ((c .before .before .before .before .before .before .before .before .before .before .loop) .p) ((c .before .before .before .before .before .before .before .before .before .before .loop) .inv .1 .sized) in
     on ((c .if2) .came)
-    (λ w. let place : tie.After-entry Inv-loop μ-loop = record { before = record { before = record { before = record { before = record { before = record { before = record { before = record { before = record { before = record { before = record { before = record { before = record { before = record { before = record { before = record { before = record { before = record { before = record { before = record { before = record { before = record { before = record { before = record { before = record { before = record { before = record { before = record { before = record { before = record { before = (c .before); if2 = w .0 }; h2 = w .1 }; struct-told2 = w .2 }; number2 = w .3 }; position = w .4 }; place = w .5 }; seen = w .6 }; struct-told3 = w .7 }; number3 = w .8 }; spot = w .9 }; capped = w .10 }; old = w .11 }; standing = w .12 }; p = w .13 }; decide-edit-arg = w .14 }; decide-edit-arg2 = w .15 }; decide-edit-arg3 = w .16 }; decide-edit-arg4 = w .17 }; decide-edit-arg5 = w .18 }; decide-edit-arg6 = w .19 }; found = w .20 }; struct-told4 = w .21 }; number4 = w .22 }; struct-told5 = w .23 }; struct-told6 = w .24 }; struct-told7 = w .25 }; decide-edit = w .26 }; head = w .27 }; struct-told8 = w .28 }; entry = w .29 } in taken k (eq-eqb _ 5 (w .0 .taken)) refl (w .31) (w .32) refl refl (edit-arm place .0) (edit-arm place .1))
+    (λ w. edit-turned (record { before = record { before = record { before = record { before = record { before = record { before = record { before = record { before = record { before = record { before = record { before = record { before = record { before = record { before = record { before = record { before = record { before = record { before = record { before = record { before = record { before = record { before = record { before = record { before = record { before = record { before = record { before = record { before = record { before = record { before = (c .before); if2 = w .0 }; h2 = w .1 }; struct-told2 = w .2 }; number2 = w .3 }; position = w .4 }; place = w .5 }; seen = w .6 }; struct-told3 = w .7 }; number3 = w .8 }; spot = w .9 }; capped = w .10 }; old = w .11 }; standing = w .12 }; p = w .13 }; decide-edit-arg = w .14 }; decide-edit-arg2 = w .15 }; decide-edit-arg3 = w .16 }; decide-edit-arg4 = w .17 }; decide-edit-arg5 = w .18 }; decide-edit-arg6 = w .19 }; found = w .20 }; struct-told4 = w .21 }; number4 = w .22 }; struct-told5 = w .23 }; struct-told6 = w .24 }; struct-told7 = w .25 }; decide-edit = w .26 }; head = w .27 }; struct-told8 = w .28 }; entry = w .29 }) (w .31) (w .32))
     (λ z. on z
-    (λ w. let place : tie.After-entry Inv-loop μ-loop = record { before = record { before = record { before = record { before = record { before = record { before = record { before = record { before = record { before = record { before = record { before = record { before = record { before = record { before = record { before = record { before = record { before = record { before = record { before = record { before = record { before = record { before = record { before = record { before = record { before = record { before = record { before = record { before = record { before = record { before = (c .before); if2 = w .0 }; h2 = w .1 }; struct-told2 = w .2 }; number2 = w .3 }; position = w .4 }; place = w .5 }; seen = w .6 }; struct-told3 = w .7 }; number3 = w .8 }; spot = w .9 }; capped = w .10 }; old = w .11 }; standing = w .12 }; p = w .13 }; decide-edit-arg = w .14 }; decide-edit-arg2 = w .15 }; decide-edit-arg3 = w .16 }; decide-edit-arg4 = w .17 }; decide-edit-arg5 = w .18 }; decide-edit-arg6 = w .19 }; found = w .20 }; struct-told4 = w .21 }; number4 = w .22 }; struct-told5 = w .23 }; struct-told6 = w .24 }; struct-told7 = w .25 }; decide-edit = w .26 }; head = w .27 }; struct-told8 = w .28 }; entry = w .29 } in taken k (eq-eqb _ 5 (w .0 .taken)) refl (w .31 ∙ whole-arm place (unless _ (w .30 .left))) (w .32) refl refl (edit-arm place .0) (edit-arm place .1))
-    (λ w. passed-by k (ne-eqb _ 5 (w .0 .left)) (w .1) (w .2) refl refl))
+    (λ w. let place : tie.After-entry Inv-loop μ-loop = record { before = record { before = record { before = record { before = record { before = record { before = record { before = record { before = record { before = record { before = record { before = record { before = record { before = record { before = record { before = record { before = record { before = record { before = record { before = record { before = record { before = record { before = record { before = record { before = record { before = record { before = record { before = record { before = record { before = record { before = (c .before); if2 = w .0 }; h2 = w .1 }; struct-told2 = w .2 }; number2 = w .3 }; position = w .4 }; place = w .5 }; seen = w .6 }; struct-told3 = w .7 }; number3 = w .8 }; spot = w .9 }; capped = w .10 }; old = w .11 }; standing = w .12 }; p = w .13 }; decide-edit-arg = w .14 }; decide-edit-arg2 = w .15 }; decide-edit-arg3 = w .16 }; decide-edit-arg4 = w .17 }; decide-edit-arg5 = w .18 }; decide-edit-arg6 = w .19 }; found = w .20 }; struct-told4 = w .21 }; number4 = w .22 }; struct-told5 = w .23 }; struct-told6 = w .24 }; struct-told7 = w .25 }; decide-edit = w .26 }; head = w .27 }; struct-told8 = w .28 }; entry = w .29 } in edit-turned place (w .31 ∙ whole-arm place (unless _ (w .30 .left))) (w .32))
+    (λ w. passed-by (untouched (lineIn ((c .before .before .before .before .before .before .read-line) .result)) ((c .before .before .before .before .before .before .before .before .before .before .loop) .p) ((c .before .before .before .before .before .before .before .before .before .before .loop) .inv .1 .sized)) (ne-eqb _ 5 (w .0 .left)) (w .1) (w .2) refl refl))
 
 counted2 : (c : tie.Joined2 Inv-loop μ-loop) → (eqb ((c .before .before .before .before .before .before .read-line) .result .op) 5 || false) ≡ false → Counted ((c .before .before .before .before .before .before .before .before .before .before .loop) .t) (keptOf (((c .if2) .p) .head) (((c .if2) .p) .edits))
 counted2 c n = still (λ s. Counted ((c .before .before .before .before .before .before .before .before .before .before .loop) .t) (keptOf (s .head) (s .edits))) (turned2 c) n ((c .before .before .before .before .before .before .before .before .before .before .loop) .inv .1 .counted)
@@ -229,12 +231,14 @@ replay-arm c =
     let amount = toZ-ofZ (fits32 (d .amount) (((c .before .struct-told9) .given .0 .1))) in
     (rw (line-replay l (((c .before .before .before .before .before .before .before .before .before .before .before .before .before .before .before .before .before .before .before .before .before .before .before .before .if4) .taken))) (meets-made _ p _ (rw (amount, g .1, g .2, g .0 ∙ replay-held p ((c .before .before .before .before .before .before .before .before .before .before .before .before .before .before .before .before .before .before .before .before .before .before .before .before .before .before .before .before .before .before .before .before .before .before .before .before .before .before .args) .sound) (still (Sound ((c .before .before .before .before .before .before .before .before .before .before .before .before .before .before .before .before .before .before .before .before .before .before .before .before .before .before .before .before .before .before .before .before .before .before .before .before .before .before .args) .sound)) (turned2 ((c .before .before .before .before .before .before .before .before .before .before .before .before .before .before .before .before .before .before .before .before .before .before .before .before .before))) (ap (λ n. eqb n 5 || false) ((c .before .before .before .before .before .before .before .before .before .before .before .before .before .before .before .before .before .before .before .before .before .before .before .before .if4) .taken)) ((c .before .before .before .before .before .before .before .before .before .before .before .before .before .before .before .before .before .before .before .before .before .before .before .before .before .before .before .before .before .before .before .before .before .before .before .loop) .inv .0)) (natural (l .a))) (replay-meets p ((turned2 ((c .before .before .before .before .before .before .before .before .before .before .before .before .before .before .before .before .before .before .before .before .before .before .before .before .before)) .sized)) (l .a)))), replay-sized p (((c .before .before .before .before .before .before .before .before .before .before .point) .result)) (((c .before .before .before .before .before .before .before .before .before .before .before .before .before .before .before .before .before .before .before .before .before .place2) .result)) (record { amount = toZ w32 (ofZ w32 (d .amount)); entry = d .entry; answer = d .answer }) ((turned2 ((c .before .before .before .before .before .before .before .before .before .before .before .before .before .before .before .before .before .before .before .before .before .before .before .before .before)) .sized)))
 
+replay-turned : (c : tie.After-entry2 Inv-loop μ-loop) {q : State} {a : Answer} → let d = ((c .before .before .decide-replay) .result) in q ≡ replaying.stored ((c .before .before .before .before .before .before .before .before .before .before .before .before .before .before .before .before .before .before .before .before .before .before .before .before .before .if2) .p) ((c .before .before .before .before .before .before .before .before .before .before .point) .result) ((c .before .before .before .before .before .before .before .before .before .before .before .before .before .before .before .before .before .before .before .before .before .place2) .result) (record { amount = toZ w32 (ofZ w32 (d .amount)); entry = d .entry; answer = d .answer }) → a ≡ d .answer → Turned (eqb ((c .before .before .before .before .before .before .before .before .before .before .before .before .before .before .before .before .before .before .before .before .before .before .before .before .before .before .before .before .before .before .before .read-line) .result .op) 8 || (eqb ((c .before .before .before .before .before .before .before .before .before .before .before .before .before .before .before .before .before .before .before .before .before .before .before .before .before .before .before .before .before .before .before .read-line) .result .op) 5 || false)) (lineIn ((c .before .before .before .before .before .before .before .before .before .before .before .before .before .before .before .before .before .before .before .before .before .before .before .before .before .before .before .before .before .before .before .read-line) .result)) ((c .before .before .before .before .before .before .before .before .before .before .before .before .before .before .before .before .before .before .before .before .before .before .before .before .before .before .before .before .before .before .before .before .before .before .before .loop) .p) q a 0 0
+replay-turned c e g = taken (turned2 ((c .before .before .before .before .before .before .before .before .before .before .before .before .before .before .before .before .before .before .before .before .before .before .before .before .before))) (eq-eqb _ 8 ((c .before .before .before .before .before .before .before .before .before .before .before .before .before .before .before .before .before .before .before .before .before .before .before .before .if4) .taken)) (ap (λ n. eqb n 5 || false) ((c .before .before .before .before .before .before .before .before .before .before .before .before .before .before .before .before .before .before .before .before .before .before .before .before .if4) .taken)) e g refl refl (replay-arm c .0) (replay-arm c .1)
+
 turned4 : (c : tie.Joined4 Inv-loop μ-loop) → Turned (eqb ((c .before .before .before .before .before .before .before .read-line) .result .op) 8 || (eqb ((c .before .before .before .before .before .before .before .read-line) .result .op) 5 || false)) (lineIn ((c .before .before .before .before .before .before .before .read-line) .result)) ((c .before .before .before .before .before .before .before .before .before .before .before .loop) .p) ((c .if4) .p) ((c .if4) .answer) 0 0
 turned4 c =
-    let k = turned2 (c .before) in
     on ((c .if4) .came)
-    (λ w. let place : tie.After-entry2 Inv-loop μ-loop = record { before = record { before = record { before = record { before = record { before = record { before = record { before = record { before = record { before = record { before = record { before = record { before = record { before = record { before = record { before = record { before = record { before = record { before = record { before = record { before = record { before = record { before = record { before = record { before = record { before = (c .before); if4 = w .0 }; h3 = w .1 }; position2 = w .2 }; place2 = w .3 }; standing2 = w .4 }; found2 = w .5 }; position3 = w .6 }; place3 = w .7 }; seen2 = w .8 }; found3 = w .9 }; p2 = w .10 }; unset-arg = w .11 }; unset = w .12 }; capped2 = w .13 }; point = w .14 }; old2 = w .15 }; p3 = w .16 }; decide-replay-arg = w .17 }; decide-replay-arg2 = w .18 }; decide-replay-arg3 = w .19 }; decide-replay-arg4 = w .20 }; decide-replay-arg5 = w .21 }; decide-replay = w .22 }; struct-told9 = w .23 }; entry2 = w .24 } in taken k (eq-eqb _ 8 (w .0 .taken)) (ap (λ n. eqb n 5 || false) (w .0 .taken)) (w .25) (w .26) refl refl (replay-arm place .0) (replay-arm place .1))
-    (λ w. passed-by k (ne-eqb _ 8 (w .0 .left)) (w .1) (w .2) refl refl)
+    (λ w. replay-turned (record { before = record { before = record { before = record { before = record { before = record { before = record { before = record { before = record { before = record { before = record { before = record { before = record { before = record { before = record { before = record { before = record { before = record { before = record { before = record { before = record { before = record { before = record { before = record { before = record { before = (c .before); if4 = w .0 }; h3 = w .1 }; position2 = w .2 }; place2 = w .3 }; standing2 = w .4 }; found2 = w .5 }; position3 = w .6 }; place3 = w .7 }; seen2 = w .8 }; found3 = w .9 }; p2 = w .10 }; unset-arg = w .11 }; unset = w .12 }; capped2 = w .13 }; point = w .14 }; old2 = w .15 }; p3 = w .16 }; decide-replay-arg = w .17 }; decide-replay-arg2 = w .18 }; decide-replay-arg3 = w .19 }; decide-replay-arg4 = w .20 }; decide-replay-arg5 = w .21 }; decide-replay = w .22 }; struct-told9 = w .23 }; entry2 = w .24 }) (w .25) (w .26))
+    (λ w. passed-by (turned2 (c .before)) (ne-eqb _ 8 (w .0 .left)) (w .1) (w .2) refl refl)
 
 counted4 : (c : tie.Joined4 Inv-loop μ-loop) → (eqb ((c .before .before .before .before .before .before .before .read-line) .result .op) 8 || (eqb ((c .before .before .before .before .before .before .before .read-line) .result .op) 5 || false)) ≡ false → Counted ((c .before .before .before .before .before .before .before .before .before .before .before .loop) .t) (keptOf (((c .if4) .p) .head) (((c .if4) .p) .edits))
 counted4 c n = still (λ s. Counted ((c .before .before .before .before .before .before .before .before .before .before .before .loop) .t) (keptOf (s .head) (s .edits))) (turned4 c) n ((c .before .before .before .before .before .before .before .before .before .before .before .loop) .inv .1 .counted)
@@ -258,12 +262,14 @@ read-arm c =
     let g = reading-right p (((c .before .before .before .before .before .before .before .before .before .before .before .before .before .before .before .before .before .before .before .before .before .before .loop) .t)) ((counted4 ((c .before .before .before .before .before .before .before .before .before .before .before)) (off-reads _ ((c .before .before .before .before .before .before .before .before .before .before .if5) .taken)))) (l .op) (l .a) in
     rw (read-is c, line-reads l (((c .before .before .before .before .before .before .before .before .before .before .if5) .taken))) (record { answer = g .0; plan = sym (g .1) }, reading-bounds p (((c .before .before .before .before .before .before .before .before .before .before .before .before .before .before .before .before .before .before .before .before .before .before .loop) .t)) ((counted4 ((c .before .before .before .before .before .before .before .before .before .before .before)) (off-reads _ ((c .before .before .before .before .before .before .before .before .before .before .if5) .taken)))) (l .op) (l .a) .0, reading-bounds p (((c .before .before .before .before .before .before .before .before .before .before .before .before .before .before .before .before .before .before .before .before .before .before .loop) .t)) ((counted4 ((c .before .before .before .before .before .before .before .before .before .before .before)) (off-reads _ ((c .before .before .before .before .before .before .before .before .before .before .if5) .taken)))) (l .op) (l .a) .1)
 
+read-turned : (c : tie.After-read Inv-loop μ-loop) {a : Answer} {f w : ℕ} → let r = (c .read .result) in a ≡ r .answer → f ≡ r .from → w ≡ r .width → Turned (ltb 11 ((c .before .before .before .before .before .before .before .before .before .before .before .before .before .before .before .before .before .before .read-line) .result .op) || (eqb ((c .before .before .before .before .before .before .before .before .before .before .before .before .before .before .before .before .before .before .read-line) .result .op) 8 || (eqb ((c .before .before .before .before .before .before .before .before .before .before .before .before .before .before .before .before .before .before .read-line) .result .op) 5 || false))) (lineIn ((c .before .before .before .before .before .before .before .before .before .before .before .before .before .before .before .before .before .before .read-line) .result)) ((c .before .before .before .before .before .before .before .before .before .before .before .before .before .before .before .before .before .before .before .before .before .before .loop) .p) ((c .before .before .before .before .before .before .before .before .before .before .before .if4) .p) a f w
+read-turned c e g h = let m = read-arm c in read-out (turned4 ((c .before .before .before .before .before .before .before .before .before .before .before))) (lt-ltb 11 _ ((c .before .before .before .before .before .before .before .before .before .before .if5) .taken)) (off-reads _ ((c .before .before .before .before .before .before .before .before .before .before .if5) .taken)) e g h (m .0) (m .1) (m .2)
+
 turned5 : (c : tie.Joined5 Inv-loop μ-loop) → Turned (ltb 11 ((c .before .before .before .before .before .before .before .before .read-line) .result .op) || (eqb ((c .before .before .before .before .before .before .before .before .read-line) .result .op) 8 || (eqb ((c .before .before .before .before .before .before .before .before .read-line) .result .op) 5 || false))) (lineIn ((c .before .before .before .before .before .before .before .before .read-line) .result)) ((c .before .before .before .before .before .before .before .before .before .before .before .before .loop) .p) ((c .before .if4) .p) ((c .if5) .answer) ((c .if5) .first) ((c .if5) .width)
 turned5 c =
-    let k = turned4 (c .before) in
     on ((c .if5) .came)
-    (λ w. let place : tie.After-read Inv-loop μ-loop = record { before = record { before = record { before = record { before = record { before = record { before = record { before = record { before = record { before = record { before = record { before = (c .before); if5 = w .0 }; h4 = w .1 }; position4 = w .2 }; place4 = w .3 }; seen3 = w .4 }; p4 = w .5 }; read-arg = w .6 }; read-arg2 = w .7 }; t = w .8 }; read-arg3 = w .9 }; read = w .10 } in read-out k (lt-ltb 11 _ (w .0 .taken)) (off-reads _ (w .0 .taken)) (w .11) (w .12) (w .13) (read-arm place .0) (read-arm place .1) (read-arm place .2))
-    (λ w. passed-by k (le-ltb 11 _ (w .0 .left)) refl (w .1) (w .2) (w .3))
+    (λ w. read-turned (record { before = record { before = record { before = record { before = record { before = record { before = record { before = record { before = record { before = record { before = record { before = (c .before); if5 = w .0 }; h4 = w .1 }; position4 = w .2 }; place4 = w .3 }; seen3 = w .4 }; p4 = w .5 }; read-arg = w .6 }; read-arg2 = w .7 }; t = w .8 }; read-arg3 = w .9 }; read = w .10 }) (w .11) (w .12) (w .13))
+    (λ w. passed-by (turned4 (c .before)) (le-ltb 11 _ (w .0 .left)) refl (w .1) (w .2) (w .3))
 
 counted5 : (c : tie.Joined5 Inv-loop μ-loop) → (ltb 11 ((c .before .before .before .before .before .before .before .before .read-line) .result .op) || (eqb ((c .before .before .before .before .before .before .before .before .read-line) .result .op) 8 || (eqb ((c .before .before .before .before .before .before .before .before .read-line) .result .op) 5 || false))) ≡ false → Counted ((c .before .before .before .before .before .before .before .before .before .before .before .before .loop) .t) (keptOf (((c .before .if4) .p) .head) (((c .before .if4) .p) .edits))
 counted5 c n = still (λ s. Counted ((c .before .before .before .before .before .before .before .before .before .before .before .before .loop) .t) (keptOf (s .head) (s .edits))) (turned5 c) n ((c .before .before .before .before .before .before .before .before .before .before .before .before .loop) .inv .1 .counted)
@@ -292,12 +298,14 @@ send-sized c =
     let o = ((c .before .send-edits) .ok) in
     record { base = z .base; draft = z .draft; values = z .values; arrived = length-set (((c .before .before .before .before .before .before .before .before .before .if4) .p .arrived)) (((c .before .before .before .before .before .index) .result)) (((c .before .send-edits) .result .arrived)) ∙ z .arrived; confirmed = z .confirmed; lower = z .lower; gap = z .gap; upper = z .upper; firm = z .firm; edits = search unmapped }
 
+send-turned : (c : tie.After-next Inv-loop μ-loop) {q : State} {a : Answer} → let r = ((c .before .send-edits) .result) in let p = ((c .before .before .before .before .before .before .before .before .before .if4) .p) in q ≡ steps.stored p (p .head) (p .base) (p .draft) (p .values) (set (p .arrived) ((c .before .before .before .before .before .index) .result) (r .arrived)) (p .confirmed) (r .edits) → a ≡ r .answer → Turned (eqb ((c .before .before .before .before .before .before .before .before .before .before .before .before .before .before .before .before .read-line) .result .op) 7 || (ltb 11 ((c .before .before .before .before .before .before .before .before .before .before .before .before .before .before .before .before .read-line) .result .op) || (eqb ((c .before .before .before .before .before .before .before .before .before .before .before .before .before .before .before .before .read-line) .result .op) 8 || (eqb ((c .before .before .before .before .before .before .before .before .before .before .before .before .before .before .before .before .read-line) .result .op) 5 || false)))) (lineIn ((c .before .before .before .before .before .before .before .before .before .before .before .before .before .before .before .before .read-line) .result)) ((c .before .before .before .before .before .before .before .before .before .before .before .before .before .before .before .before .before .before .before .before .loop) .p) q a ((c .before .before .before .before .before .before .before .before .if5) .first) ((c .before .before .before .before .before .before .before .before .if5) .width)
+send-turned c e g = taken (turned5 ((c .before .before .before .before .before .before .before .before))) (eq-eqb _ 7 ((c .before .before .before .before .before .before .before .if6) .taken)) (off-send _ ((c .before .before .before .before .before .before .before .if6) .taken)) e g refl refl (send-arm c) (send-sized c)
+
 turned6 : (c : tie.Joined6 Inv-loop μ-loop) → Turned (eqb ((c .before .before .before .before .before .before .before .before .before .read-line) .result .op) 7 || (ltb 11 ((c .before .before .before .before .before .before .before .before .before .read-line) .result .op) || (eqb ((c .before .before .before .before .before .before .before .before .before .read-line) .result .op) 8 || (eqb ((c .before .before .before .before .before .before .before .before .before .read-line) .result .op) 5 || false)))) (lineIn ((c .before .before .before .before .before .before .before .before .before .read-line) .result)) ((c .before .before .before .before .before .before .before .before .before .before .before .before .before .loop) .p) ((c .if6) .p) ((c .if6) .answer) ((c .before .if5) .first) ((c .before .if5) .width)
 turned6 c =
-    let k = turned5 (c .before) in
     on ((c .if6) .came)
-    (λ w. let place : tie.After-next Inv-loop μ-loop = record { before = record { before = record { before = record { before = record { before = record { before = record { before = record { before = (c .before); if6 = w .0 }; h5 = w .1 }; index = w .2 }; flag = w .3 }; unsent = w .4 }; edits = w .5 }; send-edits = w .6 }; next = w .7 } in taken k (eq-eqb _ 7 (w .0 .taken)) (off-send _ (w .0 .taken)) (w .8) (w .9) refl refl (send-arm place) (send-sized place))
-    (λ w. passed-by k (ne-eqb _ 7 (w .0 .left)) (w .1) (w .2) refl refl)
+    (λ w. send-turned (record { before = record { before = record { before = record { before = record { before = record { before = record { before = record { before = (c .before); if6 = w .0 }; h5 = w .1 }; index = w .2 }; flag = w .3 }; unsent = w .4 }; edits = w .5 }; send-edits = w .6 }; next = w .7 }) (w .8) (w .9))
+    (λ w. passed-by (turned5 (c .before)) (ne-eqb _ 7 (w .0 .left)) (w .1) (w .2) refl refl)
 
 counted6 : (c : tie.Joined6 Inv-loop μ-loop) → (eqb ((c .before .before .before .before .before .before .before .before .before .read-line) .result .op) 7 || (ltb 11 ((c .before .before .before .before .before .before .before .before .before .read-line) .result .op) || (eqb ((c .before .before .before .before .before .before .before .before .before .read-line) .result .op) 8 || (eqb ((c .before .before .before .before .before .before .before .before .before .read-line) .result .op) 5 || false)))) ≡ false → Counted ((c .before .before .before .before .before .before .before .before .before .before .before .before .before .loop) .t) (keptOf (((c .if6) .p) .head) (((c .if6) .p) .edits))
 counted6 c n = still (λ s. Counted ((c .before .before .before .before .before .before .before .before .before .before .before .before .before .loop) .t) (keptOf (s .head) (s .edits))) (turned6 c) n ((c .before .before .before .before .before .before .before .before .before .before .before .before .before .loop) .inv .1 .counted)
@@ -328,12 +336,14 @@ move-sized c =
     let f = u .1 .1 .1 .1 .1 .0 in
     record { base = search needs; draft = search needs; values = search needs; arrived = search needs; confirmed = search needs; lower = z .lower; gap = z .gap; upper = z .upper; firm = z .firm; edits = z .edits }
 
+move-turned : (c : tie.After-confirmed Inv-loop μ-loop) {q : State} {a : Answer} → let r = ((c .before .before .before .before .before .before .before .move-frame) .result) in let p = ((c .before .before .before .before .before .before .before .before .before .before .before .before .before .before .before .before .before .before .if6) .p) in q ≡ around (r .frame) (p .lower) (p .gap) (p .upper) (p .firm) (p .edits) → a ≡ r .answer → Turned (isMove ((c .before .before .before .before .before .before .before .before .before .before .before .before .before .before .before .before .before .before .before .before .before .before .before .before .before .before .before .read-line) .result .op) || isHot ((c .before .before .before .before .before .before .before .before .before .before .before .before .before .before .before .before .before .before .before .before .before .before .before .before .before .before .before .read-line) .result .op)) (lineIn ((c .before .before .before .before .before .before .before .before .before .before .before .before .before .before .before .before .before .before .before .before .before .before .before .before .before .before .before .read-line) .result)) ((c .before .before .before .before .before .before .before .before .before .before .before .before .before .before .before .before .before .before .before .before .before .before .before .before .before .before .before .before .before .before .before .loop) .p) q a ((c .before .before .before .before .before .before .before .before .before .before .before .before .before .before .before .before .before .before .before .if5) .first) ((c .before .before .before .before .before .before .before .before .before .before .before .before .before .before .before .before .before .before .before .if5) .width)
+move-turned c e g = taken (turned6 ((c .before .before .before .before .before .before .before .before .before .before .before .before .before .before .before .before .before .before))) (sym ((c .before .before .before .before .before .before .before .before .before .before .before .before .before .before .before .before .before .moves) .ensures) ∙ ((c .before .before .before .before .before .before .before .before .before .before .before .before .before .before .before .before .if7) .taken)) (off-moves ((c .before .before .before .before .before .before .before .before .before .before .before .before .before .before .before .before .before .before .before .before .before .before .before .before .before .before .before .read-line) .result .op) (sym ((c .before .before .before .before .before .before .before .before .before .before .before .before .before .before .before .before .before .moves) .ensures) ∙ ((c .before .before .before .before .before .before .before .before .before .before .before .before .before .before .before .before .if7) .taken))) e g refl refl (move-arm c) (move-sized c)
+
 turned7 : (c : tie.Joined7 Inv-loop μ-loop) → Turned (isMove ((c .before .before .before .before .before .before .before .before .before .before .before .read-line) .result .op) || isHot ((c .before .before .before .before .before .before .before .before .before .before .before .read-line) .result .op)) (lineIn ((c .before .before .before .before .before .before .before .before .before .before .before .read-line) .result)) ((c .before .before .before .before .before .before .before .before .before .before .before .before .before .before .before .loop) .p) ((c .if7) .p) ((c .if7) .answer) ((c .before .before .before .if5) .first) ((c .before .before .before .if5) .width)
 turned7 c =
-    let k = turned6 (c .before .before) in
     on ((c .if7) .came)
-    (λ w. let place : tie.After-confirmed Inv-loop μ-loop = record { before = record { before = record { before = record { before = record { before = record { before = record { before = record { before = record { before = record { before = record { before = record { before = record { before = record { before = record { before = record { before = record { before = (c .before); if7 = w .0 }; h6 = w .1 }; index2 = w .2 }; unsent2 = w .3 }; old-base = w .4 }; old-draft = w .5 }; old-values = w .6 }; old-arrived = w .7 }; old-confirmed = w .8 }; move-frame = w .9 }; g = w .10 }; head2 = w .11 }; base = w .12 }; draft = w .13 }; values = w .14 }; arrived = w .15 }; confirmed = w .16 } in taken k (sym ((c .before .moves) .ensures) ∙ (w .0 .taken)) (off-moves ((c .before .before .before .before .before .before .before .before .before .before .before .read-line) .result .op) (sym ((c .before .moves) .ensures) ∙ (w .0 .taken))) (w .17) (w .18) refl refl (move-arm place) (move-sized place))
-    (λ w. passed-by k (sym ((c .before .moves) .ensures) ∙ (w .0 .left)) (w .1) (w .2) refl refl)
+    (λ w. move-turned (record { before = record { before = record { before = record { before = record { before = record { before = record { before = record { before = record { before = record { before = record { before = record { before = record { before = record { before = record { before = record { before = record { before = (c .before); if7 = w .0 }; h6 = w .1 }; index2 = w .2 }; unsent2 = w .3 }; old-base = w .4 }; old-draft = w .5 }; old-values = w .6 }; old-arrived = w .7 }; old-confirmed = w .8 }; move-frame = w .9 }; g = w .10 }; head2 = w .11 }; base = w .12 }; draft = w .13 }; values = w .14 }; arrived = w .15 }; confirmed = w .16 }) (w .17) (w .18))
+    (λ w. passed-by (turned6 (c .before .before)) (sym ((c .before .moves) .ensures) ∙ (w .0 .left)) (w .1) (w .2) refl refl)
 
 -- ---- a call that draws up the plan
 
@@ -364,12 +374,14 @@ drawn-sized r xs t =
 draw-sized : (c : tie.After-q Inv-loop μ-loop) → Sized (((c .before .draw-up) .result .state))
 draw-sized c = drawn-sized ((c .before .draw-up) .result) ((c .before .draw-up) .ok .0 .0) ((c .before .draw-up) .ok .1 .1 .0)
 
+draw-turned : (c : tie.After-q Inv-loop μ-loop) {q : State} {a : Answer} → let r = ((c .before .draw-up) .result) in q ≡ r .state → a ≡ r .answer → Turned (isDraw ((c .before .before .before .before .before .before .before .before .before .before .before .before .before .before .before .before .before .before .read-line) .result .op) || (isMove ((c .before .before .before .before .before .before .before .before .before .before .before .before .before .before .before .before .before .before .read-line) .result .op) || isHot ((c .before .before .before .before .before .before .before .before .before .before .before .before .before .before .before .before .before .before .read-line) .result .op))) (lineIn ((c .before .before .before .before .before .before .before .before .before .before .before .before .before .before .before .before .before .before .read-line) .result)) ((c .before .before .before .before .before .before .before .before .before .before .before .before .before .before .before .before .before .before .before .before .before .before .loop) .p) q a ((c .before .before .before .before .before .before .before .before .before .before .if5) .first) ((c .before .before .before .before .before .before .before .before .before .before .if5) .width)
+draw-turned c e g = taken (turned7 ((c .before .before .before .before .before .before .before))) (sym ((c .before .before .before .before .before .before .draws) .ensures) ∙ ((c .before .before .before .before .before .if8) .taken)) (off-draws ((c .before .before .before .before .before .before .before .before .before .before .before .before .before .before .before .before .before .before .read-line) .result .op) (sym ((c .before .before .before .before .before .before .draws) .ensures) ∙ ((c .before .before .before .before .before .if8) .taken))) e g refl refl (draw-arm c) (draw-sized c)
+
 turned8 : (c : tie.Joined8 Inv-loop μ-loop) → Turned (isDraw ((c .before .before .before .before .before .before .before .before .before .before .before .before .before .read-line) .result .op) || (isMove ((c .before .before .before .before .before .before .before .before .before .before .before .before .before .read-line) .result .op) || isHot ((c .before .before .before .before .before .before .before .before .before .before .before .before .before .read-line) .result .op))) (lineIn ((c .before .before .before .before .before .before .before .before .before .before .before .before .before .read-line) .result)) ((c .before .before .before .before .before .before .before .before .before .before .before .before .before .before .before .before .before .loop) .p) ((c .if8) .p) ((c .if8) .answer) ((c .before .before .before .before .before .if5) .first) ((c .before .before .before .before .before .if5) .width)
 turned8 c =
-    let k = turned7 (c .before .before) in
     on ((c .if8) .came)
-    (λ w. let place : tie.After-q Inv-loop μ-loop = record { before = record { before = record { before = record { before = record { before = record { before = (c .before); if8 = w .0 }; struct-told10 = w .1 }; struct-told11 = w .2 }; struct-told12 = w .3 }; draw-up = w .4 }; q = w .5 } in taken k (sym ((c .before .draws) .ensures) ∙ (w .0 .taken)) (off-draws ((c .before .before .before .before .before .before .before .before .before .before .before .before .before .read-line) .result .op) (sym ((c .before .draws) .ensures) ∙ (w .0 .taken))) (w .6) (w .7) refl refl (draw-arm place) (draw-sized place))
-    (λ w. passed-by k (sym ((c .before .draws) .ensures) ∙ (w .0 .left)) (w .1) (w .2) refl refl)
+    (λ w. draw-turned (record { before = record { before = record { before = record { before = record { before = record { before = (c .before); if8 = w .0 }; struct-told10 = w .1 }; struct-told11 = w .2 }; struct-told12 = w .3 }; draw-up = w .4 }; q = w .5 }) (w .6) (w .7))
+    (λ w. passed-by (turned7 (c .before .before)) (sym ((c .before .draws) .ensures) ∙ (w .0 .left)) (w .1) (w .2) refl refl)
 
 -- ---- any line
 
