@@ -283,6 +283,15 @@ module _ (bs : List ℕ) (at : ℕ) (h : at ≤ length (firstLine bs)) where
         (λ l. let z : Nothing ≡ Of n next = sym (magnitude-over (firstLine bs) at l) ∙ f in cc)
         (λ l e. number-positive (firstLine bs) at n next l (λ z. p (sym e ∙ z)) (λ z. q (sym e ∙ z)) f))
 
+  -- a digit alone, a nought among them
+  pub digit-alone : 48 ≤ b → b ≤ 57 → isEnd (getD bs (at + 1) lineFeed) ≡ true → Value (pos (b - 48)) (at + 1) ≡ numberAt (firstLine bs) at
+  digit-alone p q t = cases (eqb b 48)
+      (λ e. let z = eqb-true b 48 e in let n : b - 48 ≡ 0 = omega arith in ap (λ k. Value (pos k) (at + 1)) n ∙ nought-alone z t)
+      (λ e.
+      let z = eqb-false b 48 e in
+      let f = first-digit (omega arith) q in
+      plain-of z (λ m. omega arith) (b - 48) (at + 1) (sym (f .1) ∙ ap (followed 0 (b - 48) (at + 1)) (word-ends bs (at + 1) (f .0) t) ∙ followed-end 0 (b - 48) (at + 1) (omega arith)))
+
 -- a magnitude is below 1,000,000,000
 pub magnitude-small : (line : List ℕ) (at n next : ℕ) → magnitudeAt line at ≡ Of n next → n < 1000000000
 magnitude-small line at n next e = let m = magnitude-is line at n next e in rw (m .1) (magnitude-below (wordAt line at) (m .0))

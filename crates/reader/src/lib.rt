@@ -1,10 +1,12 @@
 // Reads the first line of a sheet's rest (01, "The sheet program"): a call's name and its numbers, with one space between. One pass: the line feed is
 // met where a word ends.
 ghost use mathlib.Core.Path.{_≡_};
+ghost use mathlib.Core.Bool.{_&&_};
 ghost use Prim.Native.Nat.{_+_, _<_, _≤_, min};
 ghost use mathlib.Core.Option.{none};
 ghost use lib.ListN.{length, drop, getD};
 ghost use Rattle.protocol.specs.Lists.{bit};
+ghost use Rattle.format.specs.Numbers.{isDigit};
 ghost use Rattle.format.specs.Lines.{lineFeed, lineCall};
 ghost use Rattle.reader.specs.Cut.{upTo, firstLine};
 ghost use Rattle.reader.specs.Reads.{wordAt, numberAt, magnitudeAt, followed, isEnd, ending, callOfCode, Named, lineFrom, lineFor, lineIn, Taken};
@@ -145,8 +147,8 @@ fn digits_from(at: usize, minus: bool) -> usize
     at
 }
 
-// The number written by the word that begins at a place.
-fn read_number(sheet: &[u8], at: usize) -> Number
+// The number written by the word that begins at a place, whatever its length and sign.
+fn read_signed(sheet: &[u8], at: usize) -> Number
     requires { ⌜ at ≤ length (firstLine (now sheet)) ⌝ }
     ensures { λ r. ⌜ r ≡ numberAt (firstLine (now (sheet .entry))) at ⌝ }
 {
@@ -166,6 +168,31 @@ fn read_number(sheet: &[u8], at: usize) -> Number
         return Number::Value(-(n as i32), next);
     }
     Number::Value(n as i32, next)
+}
+
+// A digit, and behind it the end of its word.
+fn lone_digit(b: u8, next: u8) -> bool
+    ensures { λ t. ⌜ t ≡ (isDigit b && isEnd next) ⌝ }
+{
+    if b < 48 {
+        return false;
+    }
+    if 57 < b {
+        return false;
+    }
+    ends(next)
+}
+
+// The same. Most numbers have one digit, and are read at once.
+fn read_number(sheet: &[u8], at: usize) -> Number
+    requires { ⌜ at ≤ length (firstLine (now sheet)) ⌝ }
+    ensures { λ r. ⌜ r ≡ numberAt (firstLine (now (sheet .entry))) at ⌝ }
+{
+    let b = byte_at(sheet, at);
+    if lone_digit(b, byte_at(sheet, at + 1)) {
+        return Number::Value((b - 48) as i32, at + 1);
+    }
+    read_signed(sheet, at)
 }
 
 // ---- names
