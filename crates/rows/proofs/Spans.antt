@@ -2,7 +2,7 @@
 use Prim.Native.Nat.{ℕ, zero, suc, _+_, _-_, _<_, _≤_}
 use native.Mathlib.Omega.{arith}
 use mathlib.Core.Bool.{Bool, true, false, _&&_, _||_}
-use mathlib.Core.Path.{_≡_, refl, sym, ap, ap₂, _∙_}
+use mathlib.Core.Path.{_≡_, refl, sym, ap, ap₂, _∙_, subst}
 use mathlib.Core.Logic.{_≢_}
 use mathlib.Core.List.{List, [], _∷_, map}
 use borrow.Author.Tests.{ltb-true, ltb-false}
@@ -104,6 +104,18 @@ module _ {A : Type 0} (p : A → Bool) (f : ℕ → A) (n i : ℕ) where
 
   pub any-over : Walked (any p) f n i → n ≤ i → false ≡ any p (span 0 n f)
   any-over w h = sym (w .rest ∙ rw (span-over i n f h))
+
+-- further on, where all on the way pass
+pub all-skip : {A : Type 0} (p : A → Bool) (f : ℕ → A) (n i d : ℕ) → Walked (all p) f n i → i + d ≤ n → ((k : ℕ) → i ≤ k → k < i + d → p (f k) ≡ true) → Walked (all p) f n (i + d)
+all-skip p f n i zero w h e = let z : i ≡ i + 0 = omega arith in subst (Walked (all p) f n) z w
+all-skip p f n i (suc d) w h e =
+    let z : i + d + 1 ≡ i + suc d = omega arith in
+    subst (Walked (all p) f n) z (all-next p f n (i + d) (all-skip p f n i d w (omega arith) (λ k a b. e k a (omega arith))) (omega arith) (e (i + d) (omega arith) (omega arith)))
+
+pub all-to : {A : Type 0} (p : A → Bool) (f : ℕ → A) (n i j : ℕ) → Walked (all p) f n i → i ≤ j → j ≤ n → ((k : ℕ) → i ≤ k → k < j → p (f k) ≡ true) → Walked (all p) f n j
+all-to p f n i j w a b e =
+    let z : i + (j - i) ≡ j = omega arith in
+    subst (Walked (all p) f n) z (all-skip p f n i (j - i) w (omega arith) (λ k c d. e k c (omega arith)))
 
 pub bit-one : (b : Bool) → bit b ≤ 1
 bit-one true = omega arith

@@ -5,7 +5,7 @@ use mathlib.Core.Bool.{Bool, true, false, not, cond, _&&_, _||_}
 use mathlib.Core.Path.{_≡_, refl, sym, ap, ap₂, _∙_, subst}
 use mathlib.Core.Logic.{_≢_}
 use mathlib.Core.List.{List, [], _∷_}
-use borrow.Author.Tests.{ltb-true, ltb-false, eqb-false}
+use borrow.Author.Tests.{ltb-true, ltb-false, eqb-true, eqb-false, eq-eqb, ne-eqb}
 use lib.Dec.{T, eqb, ltb}
 use lib.IntN.{ℤ, pos}
 use lib.ListN.{length, getD, set, List·getD-eq-default}
@@ -14,8 +14,8 @@ use Rattle.protocol.specs.Plan.{Rule, Change, inRange, value, ruleHolds, holds,
 use Rattle.protocol.proofs.Laws.{cases, both, range, yes-is, is-yes, in-range, nth-same, nth-other}
 use Rattle.rules.specs.declared.Trial.the-variants.{Effective, OutOfRange, Broken}
 use Rattle.rows.specs.Rows.{row}
-use Rattle.rules.specs.Rules.{withValue, pairHolds, holdsAt, holdsIn, namesPair, sparedAt, testedIn, firmAt, firmIn, rulesIn, heldFor, trialOf}
-use Rattle.rows.proofs.Spans.{span-same, nth-span, nth-past, modify-span, all-span, any-span, getD-set, getD-other}
+use Rattle.rules.specs.Rules.{withValue, pairHolds, holdsAt, holdsIn, namesPair, sparedAt, Due, testedIn, firmAt, firmIn, rulesIn, heldFor, trialOf}
+use Rattle.rows.proofs.Spans.{Walked, all-to, span-same, nth-span, nth-past, modify-span, all-span, any-span, getD-set, getD-other, below}
 
 -- ---- values of a row
 
@@ -112,6 +112,49 @@ spared-holds m f (r ∷ rs) vs h =
 pub made-spared : (m : ℕ) (ch : Change) (rs : List Rule) (vs : List ℤ) → holds rs vs ≡ true → heldFor true m rs (made m ch vs) ≡ heldFor false m rs (made m ch vs)
 unfolding made heldFor holds
 made-spared m ch rs vs h = spared-holds m (applied ch) rs vs h
+
+-- ---- the next rule that needs a test
+
+-- every rule of a stretch up to a place is spared
+pub record Passed (sound : Bool) (m : ℕ) (lower upper : List ℕ) (from end i : ℕ) : Type 0 where
+  pub known : sound ≡ true
+  pub since : from ≤ i
+  pub within : i ≤ end
+  pub spares : (j : ℕ) → from ≤ j → j < i → sparedAt sound m lower upper j ≡ true
+
+module _ (sound : Bool) (m : ℕ) (lower upper : List ℕ) (from end : ℕ) where
+  pub due-all : sound ≡ false → from ≤ end → Due sound m lower upper from end from
+  due-all e h = record { since = omega arith; within = h; spares = λ j a b. absurd (omega arith); needs = λ k. rw e }
+
+  pub pass-begin : sound ≡ true → from ≤ end → Passed sound m lower upper from end from
+  pass-begin e h = record { known = e; since = omega arith; within = h; spares = λ j a b. absurd (omega arith) }
+
+  module _ (i : ℕ) (w : Passed sound m lower upper from end i) where
+    pub pass-next : i < end → getD lower i 0 ≢ m → getD upper i 0 ≢ m → Passed sound m lower upper from end (i + 1)
+    unfolding namesPair
+    pass-next h a b = record {
+      known = w .known;
+      since = omega (arith, w .since);
+      within = omega arith;
+      spares = λ j p q. cases (eqb j i)
+          (λ t. rw (eqb-true j i t, w .known, ne-eqb _ _ a, ne-eqb _ _ b))
+          (λ t. w .spares j p (below i j (eqb-false j i t) q));
+    }
+
+    pub due-lower : getD lower i 0 ≡ m → Due sound m lower upper from end i
+    unfolding namesPair
+    due-lower e = record { since = w .since; within = w .within; spares = w .spares; needs = λ k. rw (w .known, eq-eqb _ _ e) }
+
+    pub due-upper : getD upper i 0 ≡ m → Due sound m lower upper from end i
+    unfolding namesPair
+    due-upper e = record { since = w .since; within = w .within; spares = w .spares; needs = λ k. cases (eqb (getD lower i 0) m) (λ t. rw (w .known, t)) (λ t. rw (w .known, t, eq-eqb _ _ e)) }
+
+    pub due-none : end ≤ i → Due sound m lower upper from end i
+    due-none h = record { since = w .since; within = w .within; spares = w .spares; needs = λ k. absurd (omega arith) }
+
+  -- a walk goes on at the next rule that needs a test
+  pub walk-due : (q : ℕ → Bool) (n i : ℕ) → end ≤ n → Due sound m lower upper from end i → Walked (all (λ j. sparedAt sound m lower upper j || q j)) (λ j. j) n from → Walked (all (λ j. sparedAt sound m lower upper j || q j)) (λ j. j) n i
+  walk-due q n i h d w = all-to _ _ n from i w (d .since) (omega (arith, d .within)) (λ j a b. ap (λ u. u || q j) (d .spares j a b))
 
 -- ---- the trial of a change, from its parts
 

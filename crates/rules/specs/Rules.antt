@@ -1,7 +1,8 @@
 -- Rules as arrays hold them, and their tests on a list of values. Assumes nothing.
-use Prim.Native.Nat.{ℕ, _+_, _-_}
-use mathlib.Core.Bool.{Bool, false, not, cond, _&&_, _||_}
+use Prim.Native.Nat.{ℕ, _+_, _-_, _<_, _≤_}
+use mathlib.Core.Bool.{Bool, true, false, not, cond, _&&_, _||_}
 use mathlib.Core.List.{List}
+use mathlib.Core.Path.{_≡_}
 use lib.Dec.{eqb}
 use lib.IntN.{ℤ, pos, _+ℤ_}
 use lib.Signed.{ltZ}
@@ -34,6 +35,13 @@ namesPair a b m = eqb a m || eqb b m
 -- A rule that need not be tested after a change of measure m: one that does not name it, where all held before (`sound`).
 abbrev pub sparedAt : Bool → ℕ → List ℕ → List ℕ → ℕ → Bool
 sparedAt sound m lower upper i = sound && not (namesPair (getD lower i 0) (getD upper i 0) m)
+
+-- the first rule of a stretch that is not spared, or the end of the stretch
+pub record Due (sound : Bool) (m : ℕ) (lower upper : List ℕ) (from end i : ℕ) : Type 0 where
+  pub since : from ≤ i
+  pub within : i ≤ end
+  pub spares : (j : ℕ) → from ≤ j → j < i → sparedAt sound m lower upper j ≡ true
+  pub needs : i < end → sparedAt sound m lower upper i ≡ false
 
 -- the others of the first n, tested
 unfoldable pub testedIn : Bool → ℕ → List ℕ → List ℤ → List ℕ → ℕ → List ℤ → Bool

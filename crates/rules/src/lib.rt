@@ -1,13 +1,13 @@
 // The rules of a plan as parallel number arrays, and their test on a row of values that lies in a larger array. Everything is lent.
 ghost use mathlib.Core.Path.{_≡_};
-ghost use mathlib.Core.Bool.{not, _&&_};
-ghost use Prim.Native.Nat.{min};
+ghost use mathlib.Core.Bool.{_&&_};
+ghost use Prim.Native.Nat.{_≤_, min};
 ghost use lib.IntN.{_+ℤ_};
 ghost use lib.Signed.{ltZ};
 ghost use Rattle.protocol.specs.Plan.{value};
 ghost use Rattle.change.specs.Change.{viewChange};
 ghost use Rattle.rows.specs.Rows.{row};
-ghost use Rattle.rules.specs.Rules.{withValue, testedIn, firmIn, namesPair, trialOf};
+ghost use Rattle.rules.specs.Rules.{withValue, Due, testedIn, firmIn, namesPair, trialOf};
 use change::Applied;
 use change::Change;
 
@@ -56,17 +56,49 @@ fn less_by(low: i32, g: i32, high: i32) -> bool
     exact::sum(low, g) < high as i64
 }
 
-// A rule on measures a and b that need not be tested after a change of measure m: all held before, and it does not name m.
-fn spared(sound: bool, a: u32, b: u32, m: u32) -> bool
-    ensures { λ t. ⌜ t ≡ (sound && not (namesPair a b m)) ⌝ }
+// The first rule from a place on that needs a test: any where nothing is known of the others, else one that names measure m. The
+// end if there is none. A loop of its own, as most rules need no test.
+fn due<'a>(
+    lower: &'a [u32; 64],
+    upper: &'a [u32; 64],
+    from: usize,
+    end: usize,
+    m: u32,
+    sound: bool,
+) -> usize
+    requires { ⌜ (from ≤ end) × (end ≤ 64) ⌝ }
+    ensures { λ r. ⌜ Due sound m (now (lower .entry)) (now (upper .entry)) from end r ⌝ }
 {
-    if sound {
-        if a == m {
-            return false;
-        }
-        return b != m;
+    if !sound {
+        return from;
     }
-    false
+    let mut i = from;
+    // Two rules a turn: half the tests of the loop itself.
+    while i + 2 <= end {
+        if lower[i] == m {
+            return i;
+        }
+        if upper[i] == m {
+            return i;
+        }
+        if lower[i + 1] == m {
+            return i + 1;
+        }
+        if upper[i + 1] == m {
+            return i + 1;
+        }
+        i += 2;
+    }
+    if i < end {
+        if lower[i] == m {
+            return i;
+        }
+        if upper[i] == m {
+            return i;
+        }
+        i += 1;
+    }
+    i
 }
 
 // Whether each of the first k rules that need a test holds on the row of at most 32 values that begins at a place, where measure m
@@ -87,21 +119,19 @@ pub fn rules_hold<'a>(
 {
     let end = rows::capped(k, 64);
     let size = rows::capped(n, 32);
-    let mut i: usize = 0;
+    let mut i = due(lower, upper, 0, end, m, sound);
     while i < end {
         let a = lower[i];
         let b = upper[i];
-        if !spared(sound, a, b, m) {
-            let g = gap[i];
-            if !less_by(
-                value_with(values, at, size, m, x, a),
-                g,
-                value_with(values, at, size, m, x, b),
-            ) {
-                return false;
-            }
+        let g = gap[i];
+        if !less_by(
+            value_with(values, at, size, m, x, a),
+            g,
+            value_with(values, at, size, m, x, b),
+        ) {
+            return false;
         }
-        i += 1;
+        i = due(lower, upper, i + 1, end, m, sound);
     }
     true
 }
