@@ -1,15 +1,15 @@
 -- Laws of signed numbers: sizes, ranges, and what a test on a local's bits says of the number. Assumes nothing.
-use Prim.Native.Nat.{ℕ, zero, suc, _+_, _*_, _/_, _-_, _<_, _≤_, _^_}
+use Prim.Native.Nat.{ℕ, zero, suc, _+_, _*_, _/_, _-_, _<_, _≤_}
 use native.Mathlib.Nat.{mul-le-mul, mul-le-mul-left, mul-le-mul-right, div-le-self, div-zero}
 use native.Mathlib.Omega.{arith}
-use mathlib.Core.Bool.{Bool, true, false, not, cond, _&&_, and-false}
+use mathlib.Core.Bool.{Bool, true, false, not, cond, and-false}
 use mathlib.Core.Path.{_≡_, refl, sym, ap, _∙_, subst}
 use lib.Dec.{T, leb, ltb, eqb, leb·suc-suc, leb·suc-zero, leb·zero, ltb→lt}
 use lib.IntN.{ℤ, pos, negsuc, negℤ, natAbs, sucℤ, subℕ, _+ℤ_, _*ℤ_}
 use lib.Signed.{mag, leZ, ltZ, nonNeg, quotZ, ltZ-yes, leZ-yes, <ℤ-≤ℤ-trans}
-use borrow.Author.Tests.{ltb-true, ltb-false, leb-true, leb-false, lt-ltb, le-ltb, le-leb, lt-leb, ne-eqb}
+use borrow.Author.Tests.{ltb-true, ltb-false, leb-true, le-leb, lt-leb, ne-eqb}
 use mir.Syntax.{Width, w32, w64}
-use mir.Val.{SFits, Fits, toZ, ofZ, hbits, bits}
+use mir.Val.{SFits, toZ, ofZ, bits}
 use mir.Facts.{toZ-ofZ, sfits-widen}
 use Rattle.protocol.specs.Lists.{within, natural, isZero}
 

@@ -1,12 +1,11 @@
 // The figures that the reading calls give, and the check of show. Read only, on what is lent to it.
 ghost use mathlib.Core.Path.{_≡_};
 ghost use mathlib.Core.Bool.{not, _||_};
-ghost use Prim.Native.Nat.{_+_, _≤_, min};
+ghost use Prim.Native.Nat.{_≤_, min};
 ghost use lib.Dec.{ltb};
-ghost use lib.ListN.{length};
 ghost use Rattle.protocol.specs.Lists.{bit};
 ghost use Rattle.protocol.specs.Plan.{is, joining};
-ghost use Rattle.protocol.specs.Calls.{left, first};
+ghost use Rattle.protocol.specs.Calls.{first};
 ghost use Rattle.heads.specs.Heads.{modeOf, sidesIn};
 ghost use Rattle.state.specs.Meets.{refusalOf};
 ghost use Rattle.figures.specs.Reads.{fateAnswer, showChecks, pendingIn, unsentCounts, leftNumber};

@@ -1,11 +1,10 @@
 -- Samples of the definitions, computed: the edges of numbers and lines. Assumes nothing.
-use Prim.Native.Nat.{ℕ}
 use mathlib.Core.Path.{_≡_, refl}
-use mathlib.Core.List.{List, [], _∷_, map}
-use mathlib.Core.Option.{Option, none, some}
-use lib.IntN.{ℤ, pos}
+use mathlib.Core.List.{[], _∷_, map}
+use mathlib.Core.Option.{none, some}
+use lib.IntN.{pos}
 use Rattle.protocol.specs.Lists.{neg}
-use Rattle.protocol.specs.Calls.{Call, left, rule}
+use Rattle.protocol.specs.Calls.{left, rule}
 use Rattle.format.specs.Numbers.{number, written}
 use Rattle.format.specs.Lines.{lines, lineCall}
 

@@ -9,13 +9,13 @@ use borrow.Author.Tests.{eq-eqb, ne-eqb, eqb-true, eqb-false}
 use lib.ListN.{length, length-map}
 use lib.Dec.{T, T-not, not-T, eqb, eqb→eq, lt→ltb}
 use lib.IntN.{ℤ, pos, negsuc}
-use Rattle.protocol.specs.Lists.{bit, none, oneTo, natural, isZero, tally, count, all, snoc, nth, modify}
-use Rattle.protocol.specs.Plan.{Rule, Change, Edit, unsent, fateNumber, isUnsent, isWaiting, isOpen, isSettled, Kept, Side, Mode, blank, whole, split, joining, closing, is, active, Content, made, absentSide, sideAt, lookup, unsentOf, pending, sidesThat}
+use Rattle.protocol.specs.Lists.{bit, none, oneTo, natural, tally, count, all, snoc, nth, modify}
+use Rattle.protocol.specs.Plan.{Edit, unsent, fateNumber, isUnsent, isWaiting, isOpen, isSettled, Kept, Side, Mode, blank, whole, split, joining, closing, is, active, Content, made, absentSide, sideAt, lookup, unsentOf, pending, sidesThat}
 use Rattle.protocol.specs.Calls.{Call, measure, rule, open-plan, split-side, edit, join, send, replay, stop, confirm, install, show, fate-of, left, apart, checks, further, no25, editOf, ruleOf, changeOf, withNext, withDraft, withSides, withKept, reset, onValues, hasArrived, hasConfirmed, sent, replayable, outcome, settled, update, nextPlace, after, gives}
-use Rattle.protocol.specs.History.{Entry, Settling, edited, History, lastSent, closed, budget, times, editIn, wasAccepted, replayed, EachHolds, entered}
+use Rattle.protocol.specs.History.{Entry, edited, History, lastSent, closed, budget, times, replayed, EachHolds, entered}
 use Rattle.guarantee.specs.Guarantee.{InOrder}
-use Rattle.protocol.proofs.Laws.{on, decide, cases, yes-is, is-yes, is-no, both, and-in, which, or-right, or-left, neither, not-not, range, in-range, same-no, Pass, tally-same, tally-less, tally-zero, tally-full, count-map, count-snoc, length-snoc, length-modify, nth-same, nth-other, nth-map, nth-field, all-snoc}
-use Rattle.guarantee.proofs.Kept.{editsOf, editsIn, edits-snoc, edits-sent, edits-settle, edit-found, count-settle, settle-part, lookup-same, lookup-other, lookup-number, lookup-new, lookup-old, lookup-sent, open-sent, unsent-sent, unsent-other, unsent-open, waiting-open, waiting-sent, Within, within-snoc, within-lookup, Rising, rising-le, rising-snoc, bounds, Named, named-sent, named-settle, named-snoc, Reported, reported-snoc, reported-sent, reported-settle, fresh-lookup, fresh-open, settled-count}
+use Rattle.protocol.proofs.Laws.{on, decide, cases, yes-is, is-yes, is-no, both, and-in, which, or-right, or-left, not-not, range, in-range, same-no, Pass, tally-same, tally-less, tally-zero, tally-full, count-map, count-snoc, length-snoc, length-modify, nth-same, nth-other, nth-map, nth-field, all-snoc}
+use Rattle.guarantee.proofs.Kept.{editsOf, editsIn, edits-snoc, edits-sent, edits-settle, edit-found, count-settle, settle-part, lookup-same, lookup-other, lookup-number, lookup-new, lookup-old, lookup-sent, open-sent, unsent-sent, unsent-other, waiting-open, waiting-sent, Within, within-snoc, within-lookup, Rising, rising-le, rising-snoc, bounds, Named, named-sent, named-settle, named-snoc, Reported, reported-snoc, reported-sent, reported-settle, fresh-open, settled-count}
 use Rattle.guarantee.specs.Holding.{Holding}
 use Rattle.guarantee.proofs.Holding.{only, plan, replayable-holds}
 

@@ -1,21 +1,21 @@
 -- The guarantee, proved from the invariant. Assumes nothing.
-use Prim.Native.Nat.{ℕ, zero, suc, _+_, _<_, _≤_}
+use Prim.Native.Nat.{ℕ, suc, _+_, _<_, _≤_}
 use mathlib.Core.Path.{_≡_, refl, sym, ap, _∙_}
 use mathlib.Core.Logic.{_⊎_, inl, inr}
 use mathlib.Core.Bool.{Bool, true, false, not, cond, _&&_, _||_}
-use mathlib.Core.List.{List, [], _∷_, _++_}
+use mathlib.Core.List.{List, [], _∷_}
 use native.Mathlib.Omega.{arith}
 use lib.ListN.{length, length-map}
 use lib.Dec.{T, T-not, not-T, eqb, eqb→eq, leb, nltb→le}
 use lib.IntN.{ℤ, pos}
-use Rattle.protocol.specs.Lists.{bit, oneTo, natural, tally, count, all, snoc}
-use Rattle.protocol.specs.Plan.{Fate, unsent, waiting, accepted, revoked, fateNumber, fateIs, Kept, isWaiting, isOpen, isSettled, Mode, blank, whole, split, joining, closing, is, active, Content, Plan, holds, sideAt, absentSide, lookup, unsentOf, pending, sidesThat}
-use Rattle.protocol.specs.Calls.{Call, measure, rule, open-plan, split-side, edit, join, send, replay, stop, confirm, install, show, fate-of, left, apart, Verdict, fine, refused, first, checks, further, editOf, after, gives, fateIn, leftIn, Answer, no, ok, stepBy, step, start}
+use Rattle.protocol.specs.Lists.{bit, natural, tally, count, all, snoc}
+use Rattle.protocol.specs.Plan.{Fate, unsent, waiting, accepted, revoked, fateNumber, fateIs, Kept, isWaiting, isOpen, Mode, blank, whole, split, joining, closing, is, active, Content, Plan, holds, sideAt, absentSide, lookup, unsentOf, pending, sidesThat}
+use Rattle.protocol.specs.Calls.{Call, measure, rule, open-plan, split-side, edit, join, send, replay, stop, confirm, install, show, fate-of, left, apart, Verdict, fine, refused, first, checks, further, editOf, after, gives, leftIn, Answer, no, ok, stepBy, step, start}
 use Rattle.protocol.specs.History.{Settling, History, empty, entered, recorded, lastSent, closed, budget, isLate, listed, times, settledAs}
-use Rattle.guarantee.specs.Runs.{closes, edits, reads, isOk, accepts, following, noting, end, quiet, closings, taken, run, Trace, begun, called}
+use Rattle.guarantee.specs.Runs.{closes, edits, reads, isOk, accepts, following, noting, end, quiet, taken, run, Trace, begun, called}
 use Rattle.guarantee.specs.Guarantee.{Able, Stuck, Underway, Completed, Installed, Guarantee, ForEveryList, ForEveryTrace}
-use Rattle.protocol.proofs.Laws.{on, decide, cases, yes-is, no-is, is-yes, is-no, both, and-in, which, or-right, neither, none-yes, range, in-range, Fine, Pass, passed, pass, tally-zero, tally-some, tally-none, count-snoc, length-snoc, all-nth}
-use Rattle.guarantee.proofs.Kept.{editsOf, editsIn, edit-found, none-open, open-count, settled-count, none-unsent, first-waiting, fate-found, verdict, Reported}
+use Rattle.protocol.proofs.Laws.{on, decide, cases, yes-is, no-is, is-yes, is-no, both, which, or-right, neither, none-yes, range, in-range, Fine, Pass, passed, pass, tally-zero, tally-some, tally-none, count-snoc, length-snoc, all-nth}
+use Rattle.guarantee.proofs.Kept.{none-open, open-count, settled-count, none-unsent, first-waiting, fate-found, verdict, Reported}
 use Rattle.guarantee.specs.Holding.{Holding}
 use Rattle.guarantee.proofs.Holding.{only, plan, stepped, holding-after, holding-start}
 use Rattle.guarantee.proofs.Consistent.{Consistent, Parted, Active, sum, unarrived, unconfirmed, out, consistent-after}

@@ -1,12 +1,12 @@
 -- That the rules hold in a plan, whatever history led to it; every call keeps it. Assumes nothing.
 use Prim.Native.Nat.{ℕ, zero, suc}
 use mathlib.Core.Path.{_≡_, refl, sym, ap, _∙_}
-use mathlib.Core.Bool.{Bool, true, not, _||_}
+use mathlib.Core.Bool.{Bool, true}
 use native.Mathlib.Omega.{arith}
 use lib.ListN.{length}
 use lib.Dec.{T, eqb→eq}
 use Rattle.protocol.specs.Lists.{oneTo, natural, all, snoc}
-use Rattle.protocol.specs.Plan.{Side, Mode, blank, whole, split, joining, closing, modeNumber, is, active, Content, Plan, holds, made, fits, effective, absentSide, sideAt, lookup}
+use Rattle.protocol.specs.Plan.{Side, Mode, blank, whole, split, joining, closing, modeNumber, is, Content, Plan, holds, made, fits, effective, absentSide, sideAt, lookup}
 use Rattle.protocol.specs.Calls.{Call, measure, rule, open-plan, split-side, edit, join, send, replay, stop, confirm, install, show, fate-of, left, Verdict, fine, refused, first, checks, further, changeOf, freshSide, reset, onValues, hasArrived, hasConfirmed, replayable, after, Stepped, stepBy, step, start}
 use Rattle.guarantee.specs.Holding.{Holding}
 use Rattle.protocol.proofs.Laws.{cases, is-yes, both, and-in, which, or-right, or-left, range, Fine, Pass, passed, length-modify, all-nth, all-snoc, all-map, all-modify, all-kept, all-one}

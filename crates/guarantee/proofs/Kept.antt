@@ -1,5 +1,5 @@
 -- Laws of the kept edits: looked up, sent, settled, one more. Assumes nothing.
-use Prim.Native.Nat.{ℕ, zero, suc, _+_, _<_, _≤_}
+use Prim.Native.Nat.{ℕ, suc, _+_, _<_, _≤_}
 use mathlib.Core.Path.{_≡_, refl, sym, ap, ap₂, _∙_}
 use mathlib.Core.Logic.{_⊎_, inl, inr, _≢_}
 use mathlib.Core.Bool.{Bool, true, false, not, cond, _&&_, _||_}
@@ -8,12 +8,12 @@ use native.Mathlib.Omega.{arith}
 use borrow.Author.Tests.{eq-eqb, ne-eqb, eqb-true, eqb-false}
 use lib.ListN.{length}
 use lib.Dec.{T, T-not, not-T, eqb, eqb→eq, eqb-refl}
-use lib.IntN.{ℤ, pos}
+use lib.IntN.{pos}
 use Rattle.protocol.specs.Lists.{bit, oneTo, count, all, snoc}
 use Rattle.protocol.specs.Plan.{Edit, Fate, unsent, waiting, accepted, revoked, fateNumber, fateIs, Kept, isUnsent, isWaiting, isOpen, isSettled, absentEdit, lookup, unsentOf}
 use Rattle.protocol.specs.Calls.{sent, settled, update, fateIn}
 use Rattle.protocol.specs.History.{Entry, Settling, times, settledAs, listed, editIn}
-use Rattle.protocol.proofs.Laws.{on, decide, cases, bit-yes, bit-no, bit-zero, yes-is, no-is, is-yes, both, and-in, or-left, or-right, and-false, range, count-map}
+use Rattle.protocol.proofs.Laws.{on, decide, cases, bit-yes, bit-no, bit-zero, yes-is, is-yes, both, and-in, or-left, or-right, and-false, range, count-map}
 
 abbrev pub editsOf : List Kept → List Edit
 editsOf ks = map (λ k. k .edit) ks

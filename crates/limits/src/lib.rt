@@ -3,7 +3,7 @@ ghost use mathlib.Core.Path.{_≡_};
 ghost use mathlib.Core.Bool.{not, _&&_};
 ghost use lib.Dec.{eqb};
 ghost use Rattle.protocol.specs.Lists.{oneTo};
-ghost use Rattle.protocol.specs.Calls.{rule, first, no15};
+ghost use Rattle.protocol.specs.Calls.{first, no15};
 ghost use Rattle.state.specs.Meets.{refusalOf};
 ghost use Rattle.limits.specs.Draw.{measureChecks, ruleChecks, measured, ruled, opened};
 use heads::Head;

@@ -8,7 +8,7 @@ use mathlib.Core.List.{List, [], _∷_, map}
 use borrow.Author.Tests.{ne-eqb}
 use lib.Dec.{T, T-not, eqb, eqb→eq, ltb→lt}
 use lib.IntN.{ℤ, pos}
-use lib.ListN.{length, getD, set, replicate}
+use lib.ListN.{length, set, replicate}
 use Rattle.protocol.specs.Lists.{oneTo, natural, snoc}
 use Rattle.protocol.specs.Plan.{Plan, modeNumber, whole, split, is, Side, sideAt}
 use Rattle.protocol.specs.Calls.{first, checks, further, after, gives, ok, join, split-side, reset, freshSide, firstValues, withBase, withKept, withSides}

@@ -2,7 +2,6 @@
 use Prim.Native.Nat.{ℕ, zero, suc, _-_, _<_, _≤_, min}
 use native.Mathlib.Omega.{arith}
 use mathlib.Core.Path.{_≡_, refl, sym, ap, _∙_, subst}
-use mathlib.Core.Logic.{_≢_}
 use mathlib.Core.Bool.{Bool, true, false, not, cond, _&&_, _||_}
 use mathlib.Core.List.{List, []}
 use mathlib.Core.Option.{Option, none, some, Option·some-injective, Option·none-ne-some}
@@ -11,7 +10,7 @@ use lib.Dec.{T, eqb, ltb, leb}
 use lib.IntN.{ℤ}
 use lib.ListN.{length, getD}
 use Rattle.protocol.specs.Lists.{natural, oneTo, count}
-use Rattle.protocol.specs.Plan.{modeNumber, is, blank, whole, active, holds, isSettled, absentSide, measureLimit}
+use Rattle.protocol.specs.Plan.{modeNumber, is, blank, whole, holds, isSettled, absentSide, measureLimit}
 use Rattle.protocol.specs.Calls as model
 use Rattle.protocol.specs.Calls.{Call, measure, rule, open-plan, split-side, edit, join, send, replay, stop, confirm, install, show, fate-of, left, Verdict, fine, refused, first, checks, step, stepBy, no, ok}
 use Rattle.protocol.proofs.Laws.{cases, passed, both, or-left, or-right, is-yes, yes-is, range, all-nth}

@@ -1,12 +1,12 @@
 -- The calls (01, "The calls" and "Who can be told no, and why"): when each is refused, what it gives, the plan after it. Assumes nothing.
-use Prim.Native.Nat.{ℕ, zero, suc, _+_}
+use Prim.Native.Nat.{ℕ, suc, _+_}
 use mathlib.Core.Bool.{Bool, true, false, not, cond, _&&_, _||_}
 use mathlib.Core.List.{List, [], _∷_, _++_, map}
 use lib.ListN.{length, drop}
 use lib.Dec.{eqb, leb, ltb}
 use lib.IntN.{ℤ, pos}
 use Rattle.protocol.specs.Lists.{bit, none, oneTo, neg, within, natural, isZero, count, snoc, modify}
-use Rattle.protocol.specs.Plan.{measureLimit, ruleLimit, gapLimit, sideLimit, keptLimit, clientLimit, numberLimit, Rule, Change, kindOf, Edit, Fate, unsent, waiting, accepted, revoked, fateNumber, isUnsent, isWaiting, isOpen, isSettled, Kept, Side, Mode, blank, whole, split, joining, closing, is, active, Content, Plan, inRange, holds, firmlyNamed, allowed, made, fits, effective, absentSide, sideAt, lookup, unsentOf, pending, sidesThat}
+use Rattle.protocol.specs.Plan.{measureLimit, ruleLimit, gapLimit, sideLimit, keptLimit, clientLimit, numberLimit, Rule, Change, kindOf, Edit, Fate, unsent, waiting, accepted, revoked, fateNumber, isUnsent, isWaiting, isOpen, isSettled, Kept, Side, Mode, blank, whole, split, joining, closing, is, active, Content, Plan, inRange, holds, firmlyNamed, allowed, made, fits, effective, sideAt, lookup, unsentOf, pending, sidesThat}
 
 -- ---- the fourteen calls with their numbers, which may be any whole numbers; show also has the length of the lent buffer
 

@@ -1,11 +1,11 @@
 -- The history (01's "book"), kept of a list of calls from their numbers and answers alone. Assumes nothing.
-use Prim.Native.Nat.{ℕ, zero, suc, _+_}
+use Prim.Native.Nat.{ℕ, suc, _+_}
 use mathlib.Core.Bool.{Bool, true, false, not, cond, _&&_, _||_}
 use mathlib.Core.List.{List, [], _∷_}
 use lib.ListN.{length}
 use lib.Dec.{T, eqb}
 use lib.IntN.{ℤ, natAbs}
-use Rattle.protocol.specs.Lists.{bit, natural, count, snoc}
+use Rattle.protocol.specs.Lists.{natural, count, snoc}
 use Rattle.protocol.specs.Plan.{Rule, Edit, Mode, blank, whole, split, joining, closing, is, holds, made, absentEdit}
 use Rattle.protocol.specs.Calls.{Call, measure, rule, open-plan, split-side, edit, join, send, replay, stop, confirm, install, show, fate-of, left, ruleOf, editOf, Answer, no, ok}
 

@@ -1,12 +1,12 @@
 -- The plan (01, "The plan"): what it holds, what a change does, when it takes effect. Assumes nothing.
-use Prim.Native.Nat.{ℕ, zero, suc, _+_}
-use mathlib.Core.Bool.{Bool, true, false, not, cond, _&&_, _||_}
+use Prim.Native.Nat.{ℕ, zero, _+_}
+use mathlib.Core.Bool.{Bool, false, not, cond, _&&_, _||_}
 use mathlib.Core.List.{List, [], _∷_}
 use lib.ListN.{length}
 use lib.Dec.{eqb, ltb}
 use lib.IntN.{ℤ, pos, _+ℤ_, _*ℤ_}
 use lib.Signed.{ltZ, quotZ}
-use Rattle.protocol.specs.Lists.{oneTo, tally, neg, within, count, all, any, nth, modify}
+use Rattle.protocol.specs.Lists.{tally, neg, within, count, all, any, nth, modify}
 
 -- ---- limits
 

@@ -1,10 +1,10 @@
 -- The trials P1 to P12 (01, "Trials at the edges") and the wrong joins (01, "Wrong joins that look plausible") as rows of one table. Assumes nothing.
-use Prim.Native.Nat.{ℕ, suc, _+_, _-_}
+use Prim.Native.Nat.{ℕ, _+_, _-_}
 use mathlib.Core.Path.{_≡_, refl}
 use mathlib.Core.List.{List, [], _∷_, _++_, map}
-use lib.IntN.{ℤ, pos}
+use lib.IntN.{pos}
 use lib.ListN.{length, drop}
-use Rattle.protocol.specs.Lists.{neg, within, snoc}
+use Rattle.protocol.specs.Lists.{neg, within}
 use Rattle.protocol.specs.Plan.{Plan, value, ruleHolds, holds, names, firmlyNamed, kindOf, isFactor, allowed, applied, made, fits, effective}
 use Rattle.protocol.specs.Calls.{Call, measure, rule, open-plan, split-side, edit, join, send, replay, stop, confirm, install, show, fate-of, left, Answer, no, ok, checks, further, replayable, after, gives, leftIn, step, start}
 use Rattle.protocol.specs.History.{History, empty, entered, recorded, closed, budget}

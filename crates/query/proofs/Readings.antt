@@ -1,7 +1,7 @@
 -- Laws of the reading calls: what each gives, from the arrays of the state. Assumes nothing.
 use Prim.Native.Nat.{ℕ, zero, suc, _+_, _-_, _<_, _≤_, min}
 use native.Mathlib.Omega.{arith}
-use mathlib.Core.Bool.{Bool, true, not, _||_}
+use mathlib.Core.Bool.{true, not, _||_}
 use mathlib.Core.Path.{_≡_, refl, sym, ap, ap₂, _∙_}
 use mathlib.Core.Logic.{inl, inr, _≢_}
 use mathlib.Core.List.{List, [], _∷_, _++_}
@@ -9,7 +9,7 @@ use borrow.Author.Tests.{eqb-true, eqb-false, eq-eqb, ne-eqb, lt-ltb, le-leb}
 use lib.Dec.{eqb, ltb, eqb·suc-zero}
 use lib.IntN.{ℤ, pos}
 use lib.ListN.{length, getD, set, take, drop, length-set}
-use Rattle.protocol.specs.Lists.{bit, natural, oneTo, tally, count}
+use Rattle.protocol.specs.Lists.{natural, oneTo, tally, count}
 use Rattle.protocol.specs.Plan.{Kept, fateNumber, isOpen, sideAt, lookup, unsentOf, pending}
 use Rattle.protocol.specs.Calls.{show, fine, refused, first, checks, further, gives, step, fateIn, leftIn, shown, ok}
 use Rattle.protocol.proofs.Laws.{cases, range, yes-is, is-yes, tally-same}

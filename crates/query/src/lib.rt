@@ -3,7 +3,6 @@ ghost use mathlib.Core.Path.{_≡_};
 ghost use mathlib.Core.List.{_++_};
 ghost use Prim.Native.Nat.{_+_, _≤_};
 ghost use lib.ListN.{length, drop};
-ghost use Rattle.protocol.specs.Plan.{is};
 ghost use Rattle.protocol.specs.Calls.{fate-of, left, shown};
 ghost use Rattle.rows.specs.Rows.{row};
 ghost use Rattle.state.specs.View.{view};

@@ -1,17 +1,14 @@
 -- A reading is the answer of the protocol, and the plan stays. Assumes nothing.
 use Prim.Native.Nat.{ℕ, _-_, _≤_, min}
 use native.Mathlib.Omega.{arith}
-use mathlib.Core.Path.{_≡_, refl, sym, ap, ap₂, _∙_}
-use mathlib.Core.Bool.{true, false}
-use mathlib.Core.List.{List, [], _∷_, _++_}
-use mathlib.Core.Option.{Option, none, some}
-use borrow.Author.Tests.{eqb-true, eqb-false}
+use mathlib.Core.Path.{_≡_, refl, sym, ap, _∙_}
+use mathlib.Core.List.{[], _∷_}
 use lib.Dec.{eqb}
 use lib.IntN.{ℤ, pos}
 use lib.ListN.{getD}
 use Rattle.protocol.specs.Lists.{natural, count}
-use Rattle.protocol.specs.Plan.{fateNumber, isOpen, measureLimit}
-use Rattle.protocol.specs.Calls.{Call, show, fate-of, left, Verdict, fine, refused, first, checks, further, after, gives, step, Stepped, ok}
+use Rattle.protocol.specs.Plan.{isOpen, measureLimit}
+use Rattle.protocol.specs.Calls.{show, fate-of, left, Verdict, fine, refused, first, checks, further, after, gives, step, Stepped, ok}
 use Rattle.protocol.proofs.Laws.{cases, yes-is}
 use Rattle.format.specs.Sheets.{stepOf}
 use Rattle.guarantee.proofs.Kept.{settled-count}
@@ -21,7 +18,7 @@ use Rattle.state.specs.declared.State.{State}
 use Rattle.state.specs.declared.Answer.{Answer}
 use Rattle.state.specs.declared.Answer.the-variants.{Refused, Done, Number, Pair}
 use Rattle.state.specs.View.{view}
-use Rattle.records.specs.Records.{fateOf, keptAt, noRecord}
+use Rattle.records.specs.Records.{keptAt, noRecord}
 use Rattle.heads.specs.Heads.{endIn, keptIn}
 use Rattle.heads.specs.Heads.{positionOf, placeOf}
 use Rattle.state.specs.Meets.{answerOf}

@@ -1,6 +1,6 @@
 // The calls that only read (show, fate, left), and a line that cannot be read, answered from what the owner of a state lends.
 ghost use mathlib.Core.Path.{_≡_};
-ghost use Prim.Native.Nat.{_-_, min};
+ghost use Prim.Native.Nat.{_-_};
 ghost use Rattle.heads.specs.Heads.{keptIn};
 ghost use Rattle.records.specs.Records.{keptOf};
 ghost use lib.ListN.{length};

@@ -1,8 +1,6 @@
 // The calls of a join under way, but for replay: send, stop, confirm, install (01, "The calls").
 // Each is made on a part of a state, with the counts of kept edits that it asks for: stop, confirm and install on its frame, send on its
 // kept edits. A caller that owns a state does so with counts of its own.
-ghost use Prim.Native.Nat.{ℕ};
-ghost use mathlib.Core.Path.{_≡_};
 ghost use Rattle.protocol.specs.Lists.{natural};
 ghost use Rattle.protocol.specs.Calls.{send, stop, confirm, install};
 ghost use Rattle.state.specs.Meets.{Meets};

@@ -1,6 +1,6 @@
 // Kept edits: their records, fates and tests.
 ghost use mathlib.Core.Path.{_≡_};
-ghost use Prim.Native.Nat.{_≤_, _<_};
+ghost use Prim.Native.Nat.{_≤_};
 ghost use Rattle.protocol.specs.Lists.{bit, count};
 ghost use Rattle.protocol.specs.Plan.{fateNumber};
 ghost use Rattle.records.specs.Records.{fateOf, keptAt, keptOf, noRecord, withFate, testOf, recordOf};

@@ -6,9 +6,9 @@ use mathlib.Core.Path.{_≡_, refl, sym, ap, ap₂, _∙_, subst}
 use mathlib.Core.Logic.{_≢_}
 use mathlib.Core.List.{List, [], _∷_, map}
 use borrow.Author.Tests.{ltb-true, ltb-false}
-use lib.Dec.{eqb, ltb}
+use lib.Dec.{ltb}
 use lib.ListN.{length, getD, set, replicate}
-use Rattle.protocol.specs.Lists.{bit, tally, count, all, any, snoc, nth, modify}
+use Rattle.protocol.specs.Lists.{bit, count, all, any, snoc, nth, modify}
 use Rattle.protocol.proofs.Laws.{cases}
 use Rattle.rows.specs.Rows.{span}
 

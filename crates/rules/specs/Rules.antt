@@ -9,7 +9,7 @@ use lib.Signed.{ltZ}
 use lib.ListN.{getD}
 use Rattle.protocol.specs.Lists.{modify, all, any}
 use Rattle.protocol.specs.Plan as model
-use Rattle.rows.specs.Rows.{span, row}
+use Rattle.rows.specs.Rows.{span}
 use Rattle.rules.specs.declared.Trial.{Trial}
 use Rattle.rules.specs.declared.Trial.the-variants.{Effective, OutOfRange, Broken}
 

@@ -1,11 +1,11 @@
 // What an edit decides: its checks, and what it stores. Read only, on what is lent to it.
 ghost use mathlib.Core.Path.{_≡_};
 ghost use mathlib.Core.Bool.{_&&_, _||_};
-ghost use Prim.Native.Nat.{_<_, min};
+ghost use Prim.Native.Nat.{min};
 ghost use lib.Dec.{leb};
 ghost use Rattle.protocol.specs.Lists.{natural};
 ghost use Rattle.protocol.specs.Plan.{is, whole};
-ghost use Rattle.protocol.specs.Calls.{edit, apart, no22, no25};
+ghost use Rattle.protocol.specs.Calls.{apart, no22, no25};
 ghost use Rattle.rules.specs.Rules.{firmIn};
 ghost use Rattle.heads.specs.Heads.{modeOf};
 ghost use Rattle.records.specs.Records.{keptAt};

@@ -1,8 +1,6 @@
 // What a replay decides: its checks, the trial on the draft, and what it stores. Read only, on what is lent to it.
 ghost use mathlib.Core.Path.{_≡_};
-ghost use Prim.Native.Nat.{_<_};
 ghost use Rattle.protocol.specs.Plan.{isWaiting};
-ghost use Rattle.protocol.specs.Calls.{replay};
 ghost use Rattle.records.specs.Records.{keptAt};
 ghost use Rattle.settling.specs.Replays.{draftOutcome, replayOutcome, settledFate, settledRecord, replayDecision};
 use change::Change;

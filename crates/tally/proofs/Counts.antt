@@ -1,5 +1,5 @@
 -- The counts go with the kept edits: after any accepted call they are those of the plan that it leaves. Assumes nothing.
-use Prim.Native.Nat.{ℕ, zero, suc, _+_, _-_, _<_, _≤_, min}
+use Prim.Native.Nat.{ℕ, suc, _+_, _-_, _<_, _≤_, min}
 use native.Mathlib.Omega.{arith}
 use mathlib.Core.Path.{_≡_, refl, sym, ap, _∙_, subst}
 use mathlib.Core.Logic.{_≢_}
@@ -7,12 +7,11 @@ use mathlib.Core.Bool.{Bool, true, false, not, cond, _&&_, _||_}
 use mathlib.Core.List.{List, [], _∷_, map}
 use borrow.Author.Tests.{eqb-true, eqb-false, eq-eqb, ne-eqb}
 use lib.Dec.{T, eqb, leb, nleb→lt}
-use lib.IntN.{ℤ, pos}
 use lib.ListN.{length, getD, set, length-set}
-use Rattle.protocol.specs.Lists.{bit, oneTo, natural, count, snoc}
-use Rattle.protocol.specs.Plan.{Kept, Fate, unsent, waiting, accepted, revoked, fateIs, Mode, is, whole, Plan, Content, isUnsent, isWaiting, isOpen, isSettled, lookup, unsentOf, keptLimit}
+use Rattle.protocol.specs.Lists.{bit, natural, count, snoc}
+use Rattle.protocol.specs.Plan.{Kept, Fate, unsent, waiting, accepted, revoked, fateIs, is, whole, Plan, isUnsent, isWaiting, isOpen, isSettled, lookup, unsentOf, keptLimit}
 use Rattle.protocol.specs.Calls.{Call, measure, rule, open-plan, split-side, edit, join, send, replay, stop, confirm, install, show, fate-of, left, checks, further, apart, after, sent, settled, outcome, update, replayable, nextPlace}
-use Rattle.protocol.proofs.Laws.{cases, both, is-yes, yes-is, no-is, which, range, Pass, count-map, count-snoc}
+use Rattle.protocol.proofs.Laws.{cases, both, is-yes, yes-is, which, range, Pass, count-map, count-snoc}
 use Rattle.guarantee.proofs.Kept.{count-settle, open-sent, unsent-sent, unsent-other, settled-count}
 use Rattle.rows.proofs.Spans.{getD-set, getD-other, getD-blank}
 use Rattle.heads.specs.Heads.{indexOf}

@@ -7,7 +7,6 @@ use Rattle.protocol.specs.Lists.{none, oneTo}
 use Rattle.protocol.specs.Plan.{joining, closing, modeNumber, is, active}
 use Rattle.protocol.specs.Calls.{Check, _unless_, _when_}
 use Rattle.heads.specs.declared.Head.{Head}
-use Rattle.heads.specs.declared.Mode.{Mode}
 use Rattle.heads.specs.declared.Mode.the-variants.{Whole}
 use Rattle.heads.specs.Heads.{modeOf, sidesIn}
 

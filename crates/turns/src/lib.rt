@@ -2,7 +2,7 @@
 ghost use mathlib.Core.Path.{_≡_};
 ghost use mathlib.Core.List.{map};
 ghost use Prim.Native.Nat.{ℕ};
-ghost use Rattle.protocol.specs.Calls.{stop, install, sent, first};
+ghost use Rattle.protocol.specs.Calls.{sent, first};
 ghost use Rattle.records.specs.Records.{keptAt, keptOf};
 ghost use Rattle.state.specs.Meets.{refusalOf};
 ghost use Rattle.turns.specs.Moves.{sendChecks, turnChecks, stopChecks, confirmChecks, installChecks, installHead};

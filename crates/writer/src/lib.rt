@@ -1,6 +1,6 @@
 // Writes one answer line (01, "The sheet program"): `ok` and the numbers given, `ok 0` where there are none, or `no` and the refusal.
 ghost use mathlib.Core.Path.{_≡_};
-ghost use mathlib.Core.List.{_∷_, _++_};
+ghost use mathlib.Core.List.{_∷_};
 ghost use Prim.Native.Nat.{_+_, _*_, _≤_};
 ghost use lib.Dec.{leb};
 ghost use lib.IntN.{natAbs};

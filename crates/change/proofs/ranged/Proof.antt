@@ -1,7 +1,5 @@
 -- `state::ranged` meets its contract. Assumes nothing.
-use lib.IntN.{ℤ, pos, negsuc}
-use mir.Syntax.{w32, w64}
-use mir.Val.{SFits}
+use lib.IntN.{pos, negsuc}
 use mir.Facts.{toZ-ofZ}
 use Rattle.change.specs.Change.{rangedOf}
 use Rattle.exact.proofs.Ints.{flag, within-below, within-above, within-yes, between-fits}

@@ -1,4 +1,3 @@
-use Prim.Native.Nat.{_≤_}
 use lib.Seq.{length-take-le}
 use native.Mathlib.Omega.{arith}
 use Prim.Native.Nat.{_+_, _-_}

@@ -1,10 +1,6 @@
-use mathlib.Core.Path.{_≡_, ap, sym, _∙_, subst}
 use borrow.Author.Tests.{eq-eqb, ne-eqb}
-use mir.Syntax.{w32}
-use mir.Val.{toZ, ofZ}
 use mir.Facts.{toZ-ofZ}
 use Rattle.protocol.specs.Calls.{measure, rule, open-plan}
-use Rattle.state.specs.Meets.{Meets}
 use borrow.Author.Needs.{needs}
 use Rattle.dispatch.proofs.draw_up.Statement.{statement}
 use Rattle.dispatch.proofs.draw_up.Tie as tie

@@ -1,4 +1,3 @@
-use mathlib.Core.Path.{_≡_, subst}
 use borrow.Author.Tests.{eq-eqb, ne-eqb}
 use mir.Facts.{toZ-ofZ}
 use borrow.Author.Needs.{needs}

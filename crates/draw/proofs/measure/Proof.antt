@@ -1,4 +1,4 @@
-use mathlib.Core.Path.{_≡_, ap, _∙_}
+use mathlib.Core.Path.{ap, _∙_}
 use mir.Facts.{toZ-ofZ}
 use Rattle.protocol.specs.Calls.{measure, first}
 use Rattle.state.specs.Meets.{refusalOf}

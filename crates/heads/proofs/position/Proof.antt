@@ -1,8 +1,7 @@
 use native.Mathlib.Omega.{arith}
-use Prim.Native.Nat.{ℕ, suc, _-_, _+_}
-use mathlib.Core.Path.{_≡_, ap, _∙_}
+use Prim.Native.Nat.{suc, _-_, _+_}
+use mathlib.Core.Path.{_≡_}
 use borrow.Author.Tests.{eq-eqb, ne-eqb, lt-ltb, le-ltb, le-leb, lt-leb}
-use native.Mathlib.Numerals.{add-one}
 use Rattle.heads.specs.Heads.{endIn, keptIn, positionOf}
 use borrow.Author.Needs.{needs}
 use Rattle.heads.proofs.position.Statement.{statement}

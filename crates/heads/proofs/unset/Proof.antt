@@ -1,13 +1,12 @@
 use Rattle.heads.proofs.Flags.{unset-next}
 use borrow.Author.Needs.{needs}
 use native.Mathlib.Omega.{arith}
-use Prim.Native.Nat.{ℕ, suc, _≤_, _<_, _-_, _+_, min}
+use Prim.Native.Nat.{_≤_, _-_}
 use mathlib.Core.Bool.{false, not}
-use mathlib.Core.Path.{_≡_, refl, sym, ap, _∙_}
+use mathlib.Core.Path.{_≡_, refl, ap, _∙_}
 use lib.ListN.{getD}
-use Rattle.protocol.specs.Lists.{bit, tally}
 use Rattle.rows.proofs.Spans.{bit-one}
-use Rattle.heads.specs.Heads.{indexOf, unsetIn}
+use Rattle.heads.specs.Heads.{unsetIn}
 use Rattle.heads.proofs.unset.Statement.{statement}
 use Rattle.heads.proofs.unset.Tie as tie
 use Rattle.heads.proofs.unset.Reads as reads

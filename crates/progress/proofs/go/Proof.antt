@@ -3,7 +3,6 @@ use native.Mathlib.Omega.{arith}
 use mathlib.Core.Path.{_≡_, refl, sym, ap, _∙_, subst}
 use mathlib.Core.Bool.{Bool, true, false, not, cond, _||_}
 use mathlib.Core.List.{List, [], _++_}
-use mathlib.Core.Option.{Option}
 use borrow.Author.Needs.{needs}
 use borrow.Author.Tests.{eq-eqb, ne-eqb, lt-ltb, le-ltb, leb-true}
 use borrow.Rule.Slice.PartMut.{putMid}
@@ -17,7 +16,7 @@ use mir.Facts.{toZ-ofZ, fits-below, fits-le}
 use Rattle.exact.proofs.Ints.{fits32}
 use Rattle.protocol.specs.Lists.{natural, oneTo}
 use Rattle.protocol.specs.Plan.{is, whole, unsentOf}
-use Rattle.protocol.specs.Calls.{Call, edit, replay, send}
+use Rattle.protocol.specs.Calls.{edit, replay, send}
 use Rattle.protocol.proofs.Laws.{on, range}
 use Rattle.format.specs.Lines.{lineFeed, lineCall}
 use Rattle.rows.specs.Rows.{row}

@@ -1,6 +1,4 @@
-use mathlib.Core.Bool.{and-false}
 use borrow.Author.Tests.{le-leb, lt-leb}
-use lib.Dec.{leb}
 use borrow.Author.Needs.{needs}
 use Rattle.reader.proofs.lone_digit.Statement.{statement}
 use Rattle.reader.proofs.lone_digit.Tie as tie

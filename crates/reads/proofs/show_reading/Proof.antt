@@ -1,4 +1,4 @@
-use mathlib.Core.Path.{_≡_, ap, sym, _∙_}
+use mathlib.Core.Path.{ap, sym, _∙_}
 use Rattle.protocol.specs.Calls.{first}
 use Rattle.figures.specs.Reads.{showChecks}
 use Rattle.state.specs.declared.Answer.the-variants.{Done}

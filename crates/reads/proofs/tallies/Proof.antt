@@ -1,4 +1,4 @@
-use mathlib.Core.Path.{_≡_, sym, ap, _∙_}
+use mathlib.Core.Path.{ap, _∙_}
 use lib.ListN.{length, getD}
 use Rattle.heads.specs.Heads.{indexOf}
 use Rattle.query.proofs.Readings.{counts-side, counts-length}

@@ -1,5 +1,5 @@
 use mir.Facts.{toZ-ofZ}
-use mathlib.Core.Path.{_≡_, subst, ap, _∙_}
+use mathlib.Core.Path.{subst, ap, _∙_}
 use Rattle.protocol.specs.Lists.{natural}
 use Rattle.protocol.specs.Plan.{unsentOf}
 use Rattle.protocol.specs.Calls.{confirm}

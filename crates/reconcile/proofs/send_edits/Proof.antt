@@ -1,18 +1,15 @@
-use mathlib.Core.Path.{_≡_, refl, sym, ap, _∙_}
+use mathlib.Core.Path.{_≡_, sym, ap, _∙_}
 use mathlib.Core.Bool.{Bool, false}
 use mathlib.Core.List.{List}
-use lib.IntN.{ℤ}
-use lib.ListN.{length, getD, set}
+use lib.ListN.{getD, set}
 use lib.Seq.{set-getD}
-use Prim.Native.Nat.{ℕ}
 use mir.Facts.{toZ-ofZ}
 use Rattle.protocol.specs.Lists.{natural}
 use Rattle.protocol.specs.Calls.{first}
 use Rattle.state.specs.Meets.{refusalOf}
 use Rattle.heads.specs.Heads.{indexOf}
 use Rattle.turns.specs.Moves.{sendChecks}
-use Rattle.frames.specs.declared.Frame.{Frame}
-use Rattle.frames.specs.Frames.{around, Unsent}
+use Rattle.frames.specs.Frames.{around}
 use Rattle.state.proofs.Steps.{refuses}
 use Rattle.reconcile.specs.Sends.{flagged}
 use Rattle.reconcile.proofs.Moves.{Named, send-checked, send-accepts}

@@ -1,4 +1,3 @@
-use Rattle.protocol.specs.Calls.{stop}
 use Rattle.frames.specs.Frames.{around}
 use Rattle.state.proofs.Steps.{refuses}
 use Rattle.reconcile.proofs.Moves.{stop-checked, stop-accepts}

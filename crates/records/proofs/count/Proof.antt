@@ -2,13 +2,12 @@ use Rattle.rows.specs.Rows.{span}
 use Rattle.records.proofs.Logs.{any-number}
 use Rattle.rows.proofs.Spans.{bit-one}
 use Rattle.rows.proofs.Spans.{count-span}
-use mathlib.Core.Path.{refl}
 use borrow.Author.Needs.{needs}
 use native.Mathlib.Omega.{arith}
-use Prim.Native.Nat.{ℕ, _≤_, _<_, _-_, _+_, min}
-use mathlib.Core.Path.{_≡_, sym, ap, _∙_}
+use Prim.Native.Nat.{_≤_, _-_}
+use mathlib.Core.Path.{_≡_, ap, _∙_}
 use lib.ListN.{getD}
-use Rattle.protocol.specs.Lists.{bit, count}
+use Rattle.protocol.specs.Lists.{count}
 use Rattle.rows.proofs.Spans.{Counted, count-begin, count-next, count-over}
 use Rattle.heads.specs.Heads.{keptIn, endIn}
 use Rattle.records.specs.Records.{keptAt, noRecord, testOf}

@@ -1,12 +1,12 @@
 use borrow.Author.Needs.{needs}
 use native.Mathlib.Omega.{arith}
-use mathlib.Core.Path.{_≡_, refl, sym, ap, _∙_}
+use mathlib.Core.Path.{_≡_, refl, ap, _∙_}
 use lib.ListN.{length}
 use mir.Facts.{toZ-ofZ}
 use Rattle.exact.proofs.Ints.{fits32}
-use Rattle.rows.specs.Rows.{copied, copiedIn}
+use Rattle.rows.specs.Rows.{copied}
 use Rattle.rows.proofs.Copies.{copied-next, length-copied}
-use Prim.Native.Nat.{_-_, _≤_, _+_, min}
+use Prim.Native.Nat.{_-_, _≤_, min}
 use Rattle.rows.specs.Rows.{copied}
 use Rattle.rows.proofs.copy.Statement.{statement}
 use Rattle.rows.proofs.copy.Tie as tie

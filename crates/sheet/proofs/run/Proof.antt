@@ -1,12 +1,9 @@
 use Prim.Native.Nat.{_≤_}
 use native.Mathlib.Omega.{arith}
-use mathlib.Core.Path.{_≡_, sym, ap, _∙_, subst}
-use mathlib.Core.List.{List}
+use mathlib.Core.Path.{subst}
 use lib.ListN.{length}
 use borrow.Author.Tests.{lt-ltb, le-ltb}
 use Rattle.format.specs.Sheets.{screen, replies}
-use Rattle.state.specs.Parts.{blankState}
-use Rattle.progress.specs.declared.Progress.{Progress}
 use Rattle.progress.specs.Progress.{Advanced}
 use Rattle.sheet.proofs.Runs.{written-most, screened-is}
 use borrow.Author.Needs.{needs}

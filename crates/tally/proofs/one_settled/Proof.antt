@@ -1,5 +1,5 @@
 use native.Mathlib.Omega.{arith}
-use mathlib.Core.Path.{_≡_, ap, ap₂, sym, _∙_}
+use mathlib.Core.Path.{_≡_}
 use Prim.Native.Nat.{_+_, _-_, min}
 use borrow.Author.Needs.{needs}
 use Rattle.tally.proofs.one_settled.Statement.{statement}

@@ -1,7 +1,6 @@
-use mathlib.Core.Path.{_≡_, ap, ap₂, sym, _∙_}
+use mathlib.Core.Path.{ap, _∙_}
 use Prim.Native.Nat.{_+_, min}
 use lib.ListN.{getD, set}
-use Rattle.heads.specs.Heads.{indexOf}
 use borrow.Author.Needs.{needs}
 use Rattle.tally.proofs.one_unsent.Statement.{statement}
 use Rattle.tally.proofs.one_unsent.Tie as tie
