@@ -2,11 +2,11 @@
 use Prim.Native.Nat.{ℕ, _+_, _-_, _<_, _≤_}
 use native.Mathlib.Omega.{arith}
 use mathlib.Core.Path.{_≡_, refl, sym, ap, _∙_}
-use mathlib.Core.Bool.{Bool, true, false}
+use mathlib.Core.Bool.{Bool, true, false, cond}
 use mathlib.Core.List.{List, [], _∷_, _++_, append-nil, append-assoc}
-use borrow.Author.Tests.{lt-ltb, le-ltb, leb-true}
+use borrow.Author.Tests.{lt-ltb, le-ltb, leb-true, ltb-true, ltb-false}
 use borrow.Rule.Slice.PartMut.{putMid}
-use lib.Dec.{leb}
+use lib.Dec.{leb, ltb}
 use lib.ListN.{length, take, drop, length-append, length-take, length-drop, drop-of-length-le, take-append-drop}
 use lib.Seq.{drop-drop, take-all, take-at, drop-at}
 use Rattle.format.specs.Lines.{lineFeed, lines}
@@ -19,7 +19,8 @@ use Rattle.records.specs.Records.{keptOf}
 use Rattle.state.proofs.Views.{Sized}
 use Rattle.tally.specs.declared.Tallies.{Tallies}
 use Rattle.tally.specs.Tallies.{Counted}
-use Rattle.progress.specs.Progress.{Ran, behindRan, ran, Advanced}
+use Rattle.protocol.proofs.Laws.{cases}
+use Rattle.progress.specs.Progress.{Ran, behindRan, ran, Advanced, lastOf, Sound}
 
 -- the loop's invariant: the answers written so far, and what is still to come of the whole run
 pub record Going (reserve : ℕ) (sheet : List ℕ) (from : ℕ) (lent : List ℕ) (start : State) (area : List ℕ) (p : State) (t : Tallies) (at i : ℕ) : Type 0 where
@@ -107,6 +108,31 @@ module _ (reserve : ℕ) (sheet : List ℕ) (from : ℕ) (lent : List ℕ) (star
               ∙ behind-two (take at area) bytes (ran reserve (length lent - (at + length bytes)) (view q) (lines (drop (end + 1) sheet)))
               ∙ ap (λ xs. behindRan xs (ran reserve (length lent - (at + length bytes)) (view q) (lines (drop (end + 1) sheet)))) (sym (ap (take (at + length bytes)) two ∙ take-at (take at area ++ bytes) (drop (length bytes) (drop at area)) (at + length bytes) long));
         }
+
+-- ---- the loop's invariant
+
+-- The run is over, as an answer did not fit, or goes on; `stop` says whether there is another line.
+pub record Course (sound : Bool) (reserve : ℕ) (sheet : List ℕ) (from : ℕ) (lent : List ℕ) (start : State) (area : List ℕ) (p : State) (t : Tallies) (at i : ℕ) (ended : Bool) (stop : ℕ) : Type 0 where
+  pub same : length area ≡ length lent
+  pub last : stop ≡ lastOf (length sheet) ended (length area - at) reserve
+  pub over : ended ≡ true → Advanced reserve sheet from start lent (record { state = p; next = i; written = at; ended = true }) area
+  pub under : ended ≡ false → Sound sound p × Going reserve sheet from lent start area p t at i
+
+module _ {sound : Bool} {reserve : ℕ} {sheet : List ℕ} {from : ℕ} {lent : List ℕ} {start : State} {area : List ℕ} {p : State} {t : Tallies} {at i : ℕ} {ended : Bool} {stop : ℕ} (k : Course sound reserve sheet from lent start area p t at i ended stop) where
+  -- a line is begun
+  pub inside : i < stop → (ended ≡ false) × (i < length sheet) × (reserve ≤ length area - at)
+  inside h =
+      cases ended (λ e. absurd (let z : stop ≡ 0 = k .last ∙ rw e in omega (arith, z, h)))
+      (λ e. cases (ltb (length area - at) reserve) (λ f. absurd (let z : stop ≡ 0 = k .last ∙ rw (e, f) in omega (arith, z, h)))
+      (λ f. (e, (let z : stop ≡ length sheet = k .last ∙ rw (e, f) in omega (arith, z, h)), ltb-false _ _ f)))
+
+  -- none is
+  pub finished : stop ≤ i → Advanced reserve sheet from start lent (record { state = p; next = i; written = at; ended = ended }) area
+  finished h =
+      cases ended (λ e. rw e (k .over e))
+      (λ e. let g = k .under e .1 in cases (ltb (length area - at) reserve)
+      (λ f. rw e (cases (ltb i (length sheet)) (λ l. paused _ _ _ _ _ _ _ _ _ _ g (ltb-true _ _ l) (let b = ltb-true (length area - at) reserve f in let q = g .same in omega (arith, b, q))) (λ l. over _ _ _ _ _ _ _ _ _ _ g (ltb-false _ _ l))))
+      (λ f. rw e (over _ _ _ _ _ _ _ _ _ _ g (let z : stop ≡ length sheet = k .last ∙ rw (e, f) in omega (arith, z, h)))))
 
 -- ---- the beginning
 

@@ -42,7 +42,7 @@ use Rattle.reads.proofs.Right.{alone-row}
 use Rattle.reader.specs.declared.Line.{Line}
 use Rattle.reader.specs.Reads.{lineIn}
 use Rattle.writer.specs.Writes.{withRow}
-use Rattle.progress.specs.Progress.{isMove, isDraw, movedOp, Sound}
+use Rattle.progress.specs.Progress.{isMove, isDraw, movedOp, movesCounts, Sound}
 
 -- ---- the arms' tests exclude each other
 
@@ -254,6 +254,22 @@ accepted-op (Refused j) vs xs op e = cc
 accepted-op Done vs xs op e = refl
 accepted-op (Number n) vs xs op e = refl
 accepted-op (Pair m n) vs xs op e = refl
+
+-- a call that does not move the counts
+pub counts-stay : (a : Answer) (op s : ℕ) (w : Bool) (t : Tallies) → movesCounts op ≡ false → tallyAfter (movedOp a op) s w t ≡ t
+counts-stay a op s w t n = by a
+  where
+    off : (k : ℕ) → movesCounts k ≡ true → eqb op k ≡ false
+    off k y = ne-eqb op k (λ e. absurd (is-yes (sym (sym y ∙ ap movesCounts (sym e) ∙ n))))
+
+    same : tallyAfter op s w t ≡ t
+    same = rw (off 4 refl, off 5 refl, off 7 refl, off 8 refl)
+
+    by : (a : Answer) → tallyAfter (movedOp a op) s w t ≡ t
+    by (Refused k) = refl
+    by Done = same
+    by (Number n) = same
+    by (Pair m n) = same
 
 pub kept-most : (p : State) → length (keptOf (p .head) (p .edits)) ≤ 256
 kept-most p = let l = length-span 0 (keptIn (p .head)) (λ i. keptAt (endIn (p .head) - (keptIn (p .head) - i)) (getD (p .edits) i noRecord)) in omega arith

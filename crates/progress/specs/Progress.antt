@@ -32,6 +32,14 @@ movedOp Done op = op
 movedOp (Number n) op = op
 movedOp (Pair a b) op = op
 
+-- split, edit, join, send, replay
+abbrev pub movesCounts : ℕ → Bool
+movesCounts op = ltb 3 op && ltb op 9
+
+-- where the last line that is begun ends: nowhere, if an answer did not fit or less room is left than the reserve
+abbrev pub lastOf : ℕ → Bool → ℕ → ℕ → ℕ
+lastOf len ended room reserve = cond ended 0 (cond (ltb room reserve) 0 len)
+
 -- the answers written, the lines that are left, the plan, and whether the last answer did not fit
 pub record Ran : Type 0 where
   pub bytes : List ℕ

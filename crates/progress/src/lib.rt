@@ -2,7 +2,7 @@
 ghost use mathlib.Core.Path.{_≡_};
 ghost use Rattle.records.specs.Records.{keptOf};
 ghost use Rattle.tally.specs.Tallies.{Counted};
-ghost use Rattle.progress.specs.Progress.{isMove, isDraw, movedOp, Sound, Advanced};
+ghost use Rattle.progress.specs.Progress.{isMove, isDraw, movedOp, movesCounts, lastOf, Sound, Advanced};
 use frames::Frame;
 use state::Answer;
 use state::State;
@@ -54,35 +54,50 @@ fn draws(op: u32) -> bool
     false
 }
 
+// split, edit, join, send, replay: after another call the counts of the kept edits are what they were.
+fn moves_counts(op: u32) -> bool
+    ensures { λ t. ⌜ t ≡ movesCounts op ⌝ }
+{
+    if 3 < op {
+        return op < 9;
+    }
+    false
+}
+
+// Where the last line that is begun ends: nowhere, if an answer did not fit or less room is left than the reserve.
+fn last(len: usize, ended: bool, room: usize, reserve: usize) -> usize
+    ensures { λ r. ⌜ r ≡ lastOf len ended room reserve ⌝ }
+{
+    if ended {
+        return 0;
+    }
+    if room < reserve {
+        return 0;
+    }
+    len
+}
+
 // The loop, with the counts of the kept edits beside the plan. A call is known by its number in the order of 01; its arm decides, from what
 // is lent or from small parts by value, and stores in place. A line that cannot be read is left with 51. The arms stand in a row, not in one chain:
 // where a chain's arms meet, the check carries the variables of all of them. Where every rule is known to hold (`sound`), every call keeps it so
 // (guarantee's `holding-step`), and an edit or replay tests only the rules that name its measure.
 fn go(
-    start: State,
-    counts: Tallies,
+    mut p: State,
+    mut t: Tallies,
     sound: bool,
     reserve: usize,
     sheet: &[u8],
     from: usize,
     area: &mut [u8],
 ) -> Progress
-    requires { ⌜ Counted counts (keptOf (start .head) (start .edits)) × Sound sound start ⌝ }
-    ensures { λ r. ⌜ Advanced reserve (now (sheet .entry)) from start (now (area .entry)) r (now (area .exit)) ⌝ }
+    requires { ⌜ Counted t (keptOf (p .head) (p .edits)) × Sound sound p ⌝ }
+    ensures { λ r. ⌜ Advanced reserve (now (sheet .entry)) from p (now (area .entry)) r (now (area .exit)) ⌝ }
 {
-    let mut p = start;
-    let mut t = counts;
     let mut at: usize = 0;
     let mut i = from;
-    while i < sheet.len() {
-        if area.len() - at < reserve {
-            return Progress {
-                state: p,
-                next: i,
-                written: at,
-                ended: false,
-            };
-        }
+    let mut ended = false;
+    let mut stop = last(sheet.len(), ended, area.len(), reserve);
+    while i < stop {
         let line = reader::read_line(&sheet[i..]);
         let end = i + line.end;
         let op = line.op;
@@ -96,7 +111,6 @@ fn go(
         let mut width: usize = 0;
         if op == 5 {
             // edit
-            let h = p.head;
             let named = heads::position(h, exact::number(line.c));
             let seat = heads::place(named);
             let seen = p.edits[seat];
@@ -250,27 +264,23 @@ fn go(
             p = q;
             answer = given;
         }
-        let moved = moved_op(answer, op);
-        let u = tally::tallied(t, moved, side, whole);
-        t = u;
+        if moves_counts(op) {
+            let moved = moved_op(answer, op);
+            let u = tally::tallied(t, moved, side, whole);
+            t = u;
+        }
         let vs = &p.values[..];
         let n = writer::put(answer, &vs[first..first + width], &mut area[at..]);
-        if n == 0 {
-            return Progress {
-                state: p,
-                next: end + 1,
-                written: at,
-                ended: true,
-            };
-        }
+        ended = n == 0;
         at += n;
         i = end + 1;
+        stop = last(sheet.len(), ended, area.len() - at, reserve);
     }
     Progress {
         state: p,
         next: i,
         written: at,
-        ended: false,
+        ended,
     }
 }
 

@@ -4,7 +4,7 @@ use mathlib.Core.Path.{_≡_, refl, sym, ap, _∙_, subst}
 use mathlib.Core.Bool.{Bool, true, false, not, cond, _||_}
 use mathlib.Core.List.{List, [], _++_}
 use borrow.Author.Needs.{needs}
-use borrow.Author.Tests.{eq-eqb, ne-eqb, lt-ltb, le-ltb, leb-true}
+use borrow.Author.Tests.{eq-eqb, ne-eqb, eqb-true, eqb-false, lt-ltb, le-ltb, leb-true}
 use borrow.Rule.Slice.PartMut.{putMid}
 use denote.Shadow.{shadow}
 use lib.Dec.{T, eqb, leb, ltb}
@@ -17,7 +17,7 @@ use Rattle.exact.proofs.Ints.{fits32}
 use Rattle.protocol.specs.Lists.{natural, oneTo}
 use Rattle.protocol.specs.Plan.{is, whole, unsentOf}
 use Rattle.protocol.specs.Calls.{edit, replay, send}
-use Rattle.protocol.proofs.Laws.{on, range}
+use Rattle.protocol.proofs.Laws.{on, cases, is-yes, range}
 use Rattle.format.specs.Lines.{lineFeed, lineCall}
 use Rattle.rows.specs.Rows.{row}
 use Rattle.state.specs.declared.State.{State}
@@ -52,9 +52,9 @@ use Rattle.reader.proofs.Calls.{line-length}
 use Rattle.tally.specs.declared.Tallies.{Tallies}
 use Rattle.tally.specs.Tallies.{Counted, tallyAfter}
 use Rattle.tally.proofs.Counts.{tallied-long}
-use Rattle.progress.specs.Progress.{isMove, isDraw, movedOp, Sound, Advanced}
-use Rattle.progress.proofs.Running.{Going, over, paused, unfit, next-line, begins, lent-rest, put-back}
-use Rattle.progress.proofs.Turning.{isHot, off-reads, off-send, off-moves, off-draws, line-edit, line-replay, line-reads, line-send, line-moves, line-draws, line-left, settled-few, Made, meets-made, performs-made, Turned, untouched, passed-by, taken, read-out, turned, still, edit-held, replay-held, sound-made, counted-made, text-some, fitted-put, unfitted-put}
+use Rattle.progress.specs.Progress.{isMove, isDraw, movedOp, lastOf, Sound, Advanced}
+use Rattle.progress.proofs.Running.{Going, Course, inside, finished, unfit, next-line, begins, lent-rest, put-back}
+use Rattle.progress.proofs.Turning.{isHot, off-reads, off-send, off-moves, off-draws, line-edit, line-replay, line-reads, line-send, line-moves, line-draws, line-left, settled-few, Made, meets-made, performs-made, Turned, untouched, passed-by, taken, read-out, turned, still, edit-held, replay-held, sound-made, counted-made, counts-stay, text-some, fitted-put, unfitted-put}
 use Rattle.progress.proofs.Rows.{lent-row}
 use Rattle.progress.proofs.go.Statement.{statement}
 use Rattle.progress.proofs.go.Tie as tie
@@ -71,7 +71,9 @@ use Rattle.heads.proofs.position.Reads as position-reads
 use Rattle.heads.proofs.unset.Reads as unset-reads
 use Rattle.progress.proofs.draws.Reads as draws-reads
 use Rattle.progress.proofs.moved_op.Reads as moved-op-reads
+use Rattle.progress.proofs.last.Reads as last-reads
 use Rattle.progress.proofs.moves.Reads as moves-reads
+use Rattle.progress.proofs.moves_counts.Reads as moves-counts-reads
 use Rattle.reader.proofs.read_line.Reads as read-line-reads
 use Rattle.reads.proofs.read.Reads as read-reads
 use Rattle.reconcile.proofs.send_edits.Reads as send-edits-reads
@@ -84,10 +86,10 @@ use Rattle.tally.proofs.tallied.Reads as tallied-reads
 use Rattle.writer.proofs.put.Reads as put-reads
 
 abbrev Inv-loop : tie.InvT-loop
-Inv-loop sound reserve sheet from area₀ p₀ t₀ at₀ i₀ area p t at i = Sound sound p × Going reserve sheet from area₀ p₀ area p t at i
+Inv-loop sound reserve sheet from area₀ p₀ t₀ at₀ i₀ ended₀ stop₀ area p t at i ended stop = Course sound reserve sheet from area₀ p₀ area p t at i ended stop
 
 abbrev μ-loop : tie.MeasureT-loop
-μ-loop sound reserve sheet from area₀ p₀ t₀ at₀ i₀ area p t at i = length sheet - i
+μ-loop sound reserve sheet from area₀ p₀ t₀ at₀ i₀ ended₀ stop₀ area p t at i ended stop = length sheet - i
 
 unless : (b : Bool) → not b ≡ false → b ≡ true
 unless true e = refl
@@ -122,44 +124,55 @@ ended-at : {reserve : ℕ} {sheet : List ℕ} {from : ℕ} {lent : List ℕ} {st
     → Advanced reserve sheet from start lent (record { state = q; next = n′; written = w; ended = true }) area′ → Advanced reserve sheet from start lent (record { state = q; next = n; written = w; ended = true }) area
 ended-at e h k = rw (e, h) k
 
+ended-with : {reserve : ℕ} {sheet : List ℕ} {from : ℕ} {lent : List ℕ} {start q : State} {area : List ℕ} {n at k : ℕ} → k ≡ 0
+    → Advanced reserve sheet from start lent (record { state = q; next = n; written = at; ended = true }) area → Advanced reserve sheet from start lent (record { state = q; next = n; written = at + k; ended = true }) area
+ended-with {at = at} {k = k} e a = let z : at + k ≡ at = omega (arith, e) in rw z a
+
 edit-sized : (p : State) (spot slot : ℕ) (d : Decision) → Sized p → Sized (stored p spot slot d)
 edit-sized p spot slot d z = record { base = z .base; draft = z .draft; values = length-set (p .values) spot (d .value) ∙ z .values; arrived = z .arrived; confirmed = z .confirmed; lower = z .lower; gap = z .gap; upper = z .upper; firm = z .firm; edits = length-set (p .edits) slot (d .entry) ∙ z .edits }
 
 replay-sized : (p : State) (point slot : ℕ) (d : replaying-decision.Decision) → Sized p → Sized (replaying.stored p point slot d)
 replay-sized p point slot d z = record { base = z .base; draft = length-set (p .draft) point (d .amount) ∙ z .draft; values = z .values; arrived = z .arrived; confirmed = z .confirmed; lower = z .lower; gap = z .gap; upper = z .upper; firm = z .firm; edits = length-set (p .edits) slot (d .entry) ∙ z .edits }
 
-counts-long : (c : tie.Start Inv-loop μ-loop) → length ((c .args .counts .unsent)) ≡ 8
+counts-long : (c : tie.Start Inv-loop μ-loop) → length ((c .args .t2 .unsent)) ≡ 8
 counts-long c = let g = (c .good) in search needs
 
 lent-fits : (c : tie.After-slice-known Inv-loop μ-loop) → Fits w64 (length (((c .before .before .args) .area .now)))
 lent-fits c = search needs
 
+-- a line is begun: the run goes on, and the sheet and the area have room for it
+on-line : (c : tie.In-loop Inv-loop μ-loop) → Sound ((c .before .before .before .before .before .args) .sound) ((c .before .loop) .p) × Going ((c .before .before .before .before .before .args) .reserve) ((c .before .before .before .before .before .args) .sheet .now) ((c .before .before .before .before .before .args) .from) ((c .before .before .before .before .before .args) .area .now) ((c .before .before .before .before .before .args) .t1) ((c .before .loop) .area) ((c .before .loop) .p) ((c .before .loop) .t) ((c .before .loop) .at) ((c .before .loop) .i)
+on-line c = (c .before .loop .inv .under) (inside (c .before .loop .inv) (c .loop-test .taken) .0)
+
+begun : (c : tie.In-loop Inv-loop μ-loop) → ((c .before .loop) .i) < length ((c .before .before .before .before .before .args) .sheet .now)
+begun c = inside (c .before .loop .inv) (c .loop-test .taken) .1
+
 -- the line at hand
 abbrev line : tie.After-read-line Inv-loop μ-loop → List ℕ
-line c = upTo lineFeed (drop (((c .before .before .before .before .loop) .i)) (((c .before .before .before .before .before .before .before .args) .sheet .now)))
+line c = upTo lineFeed (drop (((c .before .before .before .loop) .i)) (((c .before .before .before .before .before .before .before .args) .sheet .now)))
 
 -- what was read is the line's call, and its length
 read-is-line : (c : tie.After-read-line Inv-loop μ-loop) → (lineIn ((c .read-line .result)) ≡ lineCall (line c)) × ((c .read-line .result .end) ≡ length (line c))
 read-is-line c =
-    let i = ((c .before .before .before .before .loop) .i) in
+    let i = ((c .before .before .before .loop) .i) in
     let sheet = ((c .before .before .before .before .before .before .before .args) .sheet .now) in
     let given = take (length sheet - i) (drop i sheet) in
     let e : given ≡ drop i sheet = lent-rest i sheet in
     ((c .read-line .ensures .0) ∙ ap (λ bs. lineCall (upTo lineFeed bs)) e, ap (λ l. l .end) ((c .read-line .ensures .1)) ∙ line-length (lineCall (upTo lineFeed given)) (length (upTo lineFeed given)) ∙ ap (λ bs. length (upTo lineFeed bs)) e)
 
-end-is : (c : tie.After-read-line Inv-loop μ-loop) → ((c .before .before .before .before .loop) .i) + (c .read-line .result .end) ≡ ((c .before .before .before .before .loop) .i) + length (line c)
-end-is c = ap (λ n. ((c .before .before .before .before .loop) .i) + n) (read-is-line c .1)
+end-is : (c : tie.After-read-line Inv-loop μ-loop) → ((c .before .before .before .loop) .i) + (c .read-line .result .end) ≡ ((c .before .before .before .loop) .i) + length (line c)
+end-is c = ap (λ n. ((c .before .before .before .loop) .i) + n) (read-is-line c .1)
 
-end-most : (c : tie.After-read-line Inv-loop μ-loop) → ((c .before .before .before .before .loop) .i) + (c .read-line .result .end) ≤ length (((c .before .before .before .before .before .before .before .args) .sheet .now))
+end-most : (c : tie.After-read-line Inv-loop μ-loop) → ((c .before .before .before .loop) .i) + (c .read-line .result .end) ≤ length (((c .before .before .before .before .before .before .before .args) .sheet .now))
 end-most c =
-    let h = ((c .before .before .before .loop-test) .taken) in
-    line-within (((c .before .before .before .before .before .before .before .args) .sheet .now)) (((c .before .before .before .before .loop) .i)) (((c .before .before .before .before .loop) .i) + (c .read-line .result .end)) (end-is c) (omega (arith, h))
+    let h = (begun (c .before .before)) in
+    line-within (((c .before .before .before .before .before .before .before .args) .sheet .now)) (((c .before .before .before .loop) .i)) (((c .before .before .before .loop) .i) + (c .read-line .result .end)) (end-is c) (omega (arith, h))
 
-end-fits : (c : tie.After-read-line Inv-loop μ-loop) → Fits w64 (((c .before .before .before .before .loop) .i) + (c .read-line .result .end) + 1)
+end-fits : (c : tie.After-read-line Inv-loop μ-loop) → Fits w64 (((c .before .before .before .loop) .i) + (c .read-line .result .end) + 1)
 end-fits c = let e = end-most c in omega arith
 
-nearer : (c : tie.After-read-line Inv-loop μ-loop) → length (((c .before .before .before .before .before .before .before .args) .sheet .now)) - (((c .before .before .before .before .loop) .i) + (c .read-line .result .end) + 1) < length (((c .before .before .before .before .before .before .before .args) .sheet .now)) - ((c .before .before .before .before .loop) .i)
-nearer c = let h = ((c .before .before .before .loop-test) .taken) in omega (arith, h)
+nearer : (c : tie.After-read-line Inv-loop μ-loop) → length (((c .before .before .before .before .before .before .before .args) .sheet .now)) - (((c .before .before .before .loop) .i) + (c .read-line .result .end) + 1) < length (((c .before .before .before .before .before .before .before .args) .sheet .now)) - ((c .before .before .before .loop) .i)
+nearer c = let h = (begun (c .before .before)) in omega (arith, h)
 
 call-is : (c : tie.After-struct-told Inv-loop μ-loop) → lineIn (((c .before .before .read-line) .result)) ≡ lineCall (line ((c .before .before)))
 call-is c = read-is-line ((c .before .before)) .0
@@ -167,111 +180,111 @@ call-is c = read-is-line ((c .before .before)) .0
 -- ---- an edit
 
 -- what was decided is the edit's decision in this state, and the places are those of its stores
-edit-is : (c : tie.After-entry Inv-loop μ-loop) → let p = ((c .before .before .before .before .before .before .before .before .before .before .before .before .before .before .before .before .before .before .before .before .before .before .before .before .before .before .before .before .before .before .before .before .before .before .before .before .before .before .before .loop) .p) in let l = ((c .before .before .before .before .before .before .before .before .before .before .before .before .before .before .before .before .before .before .before .before .before .before .before .before .before .before .before .before .before .before .before .before .before .before .before .read-line) .result) in
+edit-is : (c : tie.After-entry Inv-loop μ-loop) → let p = ((c .before .before .before .before .before .before .before .before .before .before .before .before .before .before .before .before .before .before .before .before .before .before .before .before .before .before .before .before .before .before .before .before .before .before .before .before .before .loop) .p) in let l = ((c .before .before .before .before .before .before .before .before .before .before .before .before .before .before .before .before .before .before .before .before .before .before .before .before .before .before .before .before .before .before .before .before .before .before .read-line) .result) in
     (((c .before .before .before .decide-edit) .result) ≡ editIn false p (natural (l .a)) (l .b) (l .c) (natural (l .d)) (natural (l .e)) (l .f)) × (((c .before .before .before .before .before .before .before .before .before .before .before .before .before .before .before .before .before .before .before .before .spot) .result) ≡ spotOf (natural (l .a)) (natural (l .d))) × (((c .before .before .before .before .before .before .before .before .before .before .before .before .before .before .before .before .before .before .before .capped) .result) ≡ slotOf (p .head))
 edit-is c =
-    let p = ((c .before .before .before .before .before .before .before .before .before .before .before .before .before .before .before .before .before .before .before .before .before .before .before .before .before .before .before .before .before .before .before .before .before .before .before .before .before .before .before .loop) .p) in
-    let l = ((c .before .before .before .before .before .before .before .before .before .before .before .before .before .before .before .before .before .before .before .before .before .before .before .before .before .before .before .before .before .before .before .before .before .before .before .read-line) .result) in
-    let t = ((c .before .before .before .before .before .before .before .before .before .before .before .before .before .before .before .before .before .before .before .before .before .before .before .before .before .before .before .before .before .before .before .before .before .struct-told) .given) in
-    let g = edit-decided ((c .before .before .before .before .before .before .before .before .before .before .before .before .before .before .before .before .before .before .before .before .before .before .before .before .before .before .before .before .before .before .before .before .before .before .before .before .before .before .before .before .before .before .args) .sound) p (l .a) (l .b) (l .c) (l .d) (l .e) (l .f) (toZ-ofZ (fits32 (l .a) (t .1 .0 .1))) (toZ-ofZ (fits32 (l .b) (t .1 .1 .0 .1))) (toZ-ofZ (fits32 (l .c) (t .1 .1 .1 .0 .1))) (toZ-ofZ (fits32 (l .d) (t .1 .1 .1 .1 .0 .1))) (toZ-ofZ (fits32 (l .e) (t .1 .1 .1 .1 .1 .0 .1))) (toZ-ofZ (fits32 (l .f) (t .1 .1 .1 .1 .1 .1 .0 .1)))
-    ((c .before .before .before .before .before .before .before .before .before .before .before .before .before .before .before .before .before .before .before .before .before .before .before .before .before .before .number2) .ensures) ((c .before .before .before .before .before .before .before .before .before .before .before .before .before .before .before .before .before .before .before .before .before .before .before .before .before .position) .ensures .0) ((c .before .before .before .before .before .before .before .before .before .before .before .before .before .before .before .before .before .before .before .before .before .before .before .before .place) .ensures .0) ((c .before .before .before .before .before .before .before .before .before .found) .ensures) ((c .before .before .before .before .before .before .before .before .before .before .before .before .before .before .before .before .before .before .before .before .before .before .before .before .before .before .before .before .before .before .before .before .number) .ensures) ((c .before .before .before .before .before .before .before .before .before .before .before .before .before .before .before .before .before .before .before .before .before .number3) .ensures) ((c .before .before .before .before .before .before .before .before .before .before .before .before .before .before .before .before .before .before .before .before .spot) .ensures .0) ((c .before .before .before .before .before .before .before .before .before .before .before .before .before .before .before .before .before .before .before .capped) .ensures)
+    let p = ((c .before .before .before .before .before .before .before .before .before .before .before .before .before .before .before .before .before .before .before .before .before .before .before .before .before .before .before .before .before .before .before .before .before .before .before .before .before .loop) .p) in
+    let l = ((c .before .before .before .before .before .before .before .before .before .before .before .before .before .before .before .before .before .before .before .before .before .before .before .before .before .before .before .before .before .before .before .before .before .before .read-line) .result) in
+    let t = ((c .before .before .before .before .before .before .before .before .before .before .before .before .before .before .before .before .before .before .before .before .before .before .before .before .before .before .before .before .before .before .before .before .struct-told) .given) in
+    let g = edit-decided ((c .before .before .before .before .before .before .before .before .before .before .before .before .before .before .before .before .before .before .before .before .before .before .before .before .before .before .before .before .before .before .before .before .before .before .before .before .before .before .before .before .before .args) .sound) p (l .a) (l .b) (l .c) (l .d) (l .e) (l .f) (toZ-ofZ (fits32 (l .a) (t .1 .0 .1))) (toZ-ofZ (fits32 (l .b) (t .1 .1 .0 .1))) (toZ-ofZ (fits32 (l .c) (t .1 .1 .1 .0 .1))) (toZ-ofZ (fits32 (l .d) (t .1 .1 .1 .1 .0 .1))) (toZ-ofZ (fits32 (l .e) (t .1 .1 .1 .1 .1 .0 .1))) (toZ-ofZ (fits32 (l .f) (t .1 .1 .1 .1 .1 .1 .0 .1)))
+    ((c .before .before .before .before .before .before .before .before .before .before .before .before .before .before .before .before .before .before .before .before .before .before .before .before .before .before .number2) .ensures) ((c .before .before .before .before .before .before .before .before .before .before .before .before .before .before .before .before .before .before .before .before .before .before .before .before .before .position) .ensures .0) ((c .before .before .before .before .before .before .before .before .before .before .before .before .before .before .before .before .before .before .before .before .before .before .before .before .place) .ensures .0) ((c .before .before .before .before .before .before .before .before .before .found) .ensures) ((c .before .before .before .before .before .before .before .before .before .before .before .before .before .before .before .before .before .before .before .before .before .before .before .before .before .before .before .before .before .before .before .number) .ensures) ((c .before .before .before .before .before .before .before .before .before .before .before .before .before .before .before .before .before .before .before .before .before .number3) .ensures) ((c .before .before .before .before .before .before .before .before .before .before .before .before .before .before .before .before .before .before .before .before .spot) .ensures .0) ((c .before .before .before .before .before .before .before .before .before .before .before .before .before .before .before .before .before .before .before .capped) .ensures)
     (toZ-ofZ (fits32 (getD (p .values) (((c .before .before .before .before .before .before .before .before .before .before .before .before .before .before .before .before .before .before .before .before .spot) .result)) (pos 0)) (((c .before .before .before .before .before .before .before .before .before .before .before .before .before .before .before .before .before .before .old) .given)))) ((c .before .before .before .before .before .before .before .number4) .ensures) ((c .before .before .before .decide-edit) .ensures) in
-    (g .0 ∙ edit-held p ((c .before .before .before .before .before .before .before .before .before .before .before .before .before .before .before .before .before .before .before .before .before .before .before .before .before .before .before .before .before .before .before .before .before .before .before .before .before .before .before .before .before .before .args) .sound) ((c .before .before .before .before .before .before .before .before .before .before .before .before .before .before .before .before .before .before .before .before .before .before .before .before .before .before .before .before .before .before .before .before .before .before .before .before .before .before .before .loop) .inv .0) (natural (l .a)) (l .b) (l .c) (natural (l .d)) (natural (l .e)) (l .f), g .1, g .2)
+    (g .0 ∙ edit-held p ((c .before .before .before .before .before .before .before .before .before .before .before .before .before .before .before .before .before .before .before .before .before .before .before .before .before .before .before .before .before .before .before .before .before .before .before .before .before .before .before .before .before .args) .sound) (on-line (c .before .before .before .before .before .before .before .before .before .before .before .before .before .before .before .before .before .before .before .before .before .before .before .before .before .before .before .before .before .before .before .before .before .before .before .before) .0) (natural (l .a)) (l .b) (l .c) (natural (l .d)) (natural (l .e)) (l .f), g .1, g .2)
 
-edit-arm : (c : tie.After-entry Inv-loop μ-loop) → let p = ((c .before .before .before .before .before .before .before .before .before .before .before .before .before .before .before .before .before .before .before .before .before .before .before .before .before .before .before .before .before .before .before .before .before .before .before .before .before .before .before .loop) .p) in let d = ((c .before .before .before .decide-edit) .result) in
+edit-arm : (c : tie.After-entry Inv-loop μ-loop) → let p = ((c .before .before .before .before .before .before .before .before .before .before .before .before .before .before .before .before .before .before .before .before .before .before .before .before .before .before .before .before .before .before .before .before .before .before .before .before .before .loop) .p) in let d = ((c .before .before .before .decide-edit) .result) in
     let q = stored p (((c .before .before .before .before .before .before .before .before .before .before .before .before .before .before .before .before .before .before .before .before .spot) .result)) (((c .before .before .before .before .before .before .before .before .before .before .before .before .before .before .before .before .before .before .before .capped) .result)) (record { head = d .head; value = toZ w32 (ofZ w32 (d .value)); entry = d .entry; answer = d .answer }) in
-    Made (lineIn (((c .before .before .before .before .before .before .before .before .before .before .before .before .before .before .before .before .before .before .before .before .before .before .before .before .before .before .before .before .before .before .before .before .before .before .before .read-line) .result))) p q (d .answer) [] × Sized q
+    Made (lineIn (((c .before .before .before .before .before .before .before .before .before .before .before .before .before .before .before .before .before .before .before .before .before .before .before .before .before .before .before .before .before .before .before .before .before .before .read-line) .result))) p q (d .answer) [] × Sized q
 edit-arm c =
-    let p = ((c .before .before .before .before .before .before .before .before .before .before .before .before .before .before .before .before .before .before .before .before .before .before .before .before .before .before .before .before .before .before .before .before .before .before .before .before .before .before .before .loop) .p) in
-    let l = ((c .before .before .before .before .before .before .before .before .before .before .before .before .before .before .before .before .before .before .before .before .before .before .before .before .before .before .before .before .before .before .before .before .before .before .before .read-line) .result) in
+    let p = ((c .before .before .before .before .before .before .before .before .before .before .before .before .before .before .before .before .before .before .before .before .before .before .before .before .before .before .before .before .before .before .before .before .before .before .before .before .before .loop) .p) in
+    let l = ((c .before .before .before .before .before .before .before .before .before .before .before .before .before .before .before .before .before .before .before .before .before .before .before .before .before .before .before .before .before .before .before .before .before .before .read-line) .result) in
     let d = ((c .before .before .before .decide-edit) .result) in
     let g = edit-is c in
     let value = toZ-ofZ (fits32 (d .value) (((c .before .struct-told8) .given .1 .0 .1))) in
-    (rw (line-edit l (((c .before .before .before .before .before .before .before .before .before .before .before .before .before .before .before .before .before .before .before .before .before .before .before .before .before .before .before .before .before .if2) .taken))) (meets-made _ p _ (rw (value, g .1, g .2, g .0) (edit-meets p (((c .before .before .before .before .before .before .before .before .before .before .before .before .before .before .before .before .before .before .before .before .before .before .before .before .before .before .before .before .before .before .before .before .before .before .before .before .before .before .before .loop) .inv .1 .sized)) (l .a) (l .b) (l .c) (l .d) (l .e) (l .f)))), edit-sized p (((c .before .before .before .before .before .before .before .before .before .before .before .before .before .before .before .before .before .before .before .before .spot) .result)) (((c .before .before .before .before .before .before .before .before .before .before .before .before .before .before .before .before .before .before .before .capped) .result)) (record { head = d .head; value = toZ w32 (ofZ w32 (d .value)); entry = d .entry; answer = d .answer }) (((c .before .before .before .before .before .before .before .before .before .before .before .before .before .before .before .before .before .before .before .before .before .before .before .before .before .before .before .before .before .before .before .before .before .before .before .before .before .before .before .loop) .inv .1 .sized)))
+    (rw (line-edit l (((c .before .before .before .before .before .before .before .before .before .before .before .before .before .before .before .before .before .before .before .before .before .before .before .before .before .before .before .before .if1) .taken))) (meets-made _ p _ (rw (value, g .1, g .2, g .0) (edit-meets p ((on-line (c .before .before .before .before .before .before .before .before .before .before .before .before .before .before .before .before .before .before .before .before .before .before .before .before .before .before .before .before .before .before .before .before .before .before .before .before) .1 .sized)) (l .a) (l .b) (l .c) (l .d) (l .e) (l .f)))), edit-sized p (((c .before .before .before .before .before .before .before .before .before .before .before .before .before .before .before .before .before .before .before .before .spot) .result)) (((c .before .before .before .before .before .before .before .before .before .before .before .before .before .before .before .before .before .before .before .capped) .result)) (record { head = d .head; value = toZ w32 (ofZ w32 (d .value)); entry = d .entry; answer = d .answer }) ((on-line (c .before .before .before .before .before .before .before .before .before .before .before .before .before .before .before .before .before .before .before .before .before .before .before .before .before .before .before .before .before .before .before .before .before .before .before .before) .1 .sized)))
 
 -- a whole plan's records stay as they are
-whole-arm : (c : tie.After-entry Inv-loop μ-loop) → eqb (((c .before .before .before .before .before .before .before .before .before .before .before .before .before .before .before .before .before .before .before .before .before .before .before .before .before .before .before .before .before .before .mode-number) .result)) 1 ≡ true → let p = ((c .before .before .before .before .before .before .before .before .before .before .before .before .before .before .before .before .before .before .before .before .before .before .before .before .before .before .before .before .before .before .before .before .before .before .before .before .before .before .before .loop) .p) in let d = ((c .before .before .before .decide-edit) .result) in
+whole-arm : (c : tie.After-entry Inv-loop μ-loop) → eqb (((c .before .before .before .before .before .before .before .before .before .before .before .before .before .before .before .before .before .before .before .before .before .before .before .before .before .before .before .before .before .mode-number) .result)) 1 ≡ true → let p = ((c .before .before .before .before .before .before .before .before .before .before .before .before .before .before .before .before .before .before .before .before .before .before .before .before .before .before .before .before .before .before .before .before .before .before .before .before .before .loop) .p) in let d = ((c .before .before .before .decide-edit) .result) in
     _≡_ {A = State} (record { head = d .head; base = p .base; draft = p .draft; values = set (p .values) (((c .before .before .before .before .before .before .before .before .before .before .before .before .before .before .before .before .before .before .before .before .spot) .result)) (toZ w32 (ofZ w32 (d .value))); arrived = p .arrived; confirmed = p .confirmed; lower = p .lower; gap = p .gap; upper = p .upper; firm = p .firm; edits = p .edits })
     (stored p (((c .before .before .before .before .before .before .before .before .before .before .before .before .before .before .before .before .before .before .before .before .spot) .result)) (((c .before .before .before .before .before .before .before .before .before .before .before .before .before .before .before .before .before .before .before .capped) .result)) (record { head = d .head; value = toZ w32 (ofZ w32 (d .value)); entry = d .entry; answer = d .answer }))
 whole-arm c w =
-    let p = ((c .before .before .before .before .before .before .before .before .before .before .before .before .before .before .before .before .before .before .before .before .before .before .before .before .before .before .before .before .before .before .before .before .before .before .before .before .before .before .before .loop) .p) in
+    let p = ((c .before .before .before .before .before .before .before .before .before .before .before .before .before .before .before .before .before .before .before .before .before .before .before .before .before .before .before .before .before .before .before .before .before .before .before .before .before .loop) .p) in
     let d = ((c .before .before .before .decide-edit) .result) in
-    let l = ((c .before .before .before .before .before .before .before .before .before .before .before .before .before .before .before .before .before .before .before .before .before .before .before .before .before .before .before .before .before .before .before .before .before .before .before .read-line) .result) in
+    let l = ((c .before .before .before .before .before .before .before .before .before .before .before .before .before .before .before .before .before .before .before .before .before .before .before .before .before .before .before .before .before .before .before .before .before .before .read-line) .result) in
     let g = edit-is c in
-    let e = ap (λ x. x .entry) (g .0) ∙ whole-edit false p (natural (l .a)) (l .b) (l .c) (natural (l .d)) (natural (l .e)) (l .f) (ap (λ n. eqb n 1) (sym (((c .before .before .before .before .before .before .before .before .before .before .before .before .before .before .before .before .before .before .before .before .before .before .before .before .before .before .before .before .before .before .mode-number)) .ensures)) ∙ w) ∙ ap (λ j. getD (p .edits) j noRecord) (sym (g .2)) in
+    let e = ap (λ x. x .entry) (g .0) ∙ whole-edit false p (natural (l .a)) (l .b) (l .c) (natural (l .d)) (natural (l .e)) (l .f) (ap (λ n. eqb n 1) (sym (((c .before .before .before .before .before .before .before .before .before .before .before .before .before .before .before .before .before .before .before .before .before .before .before .before .before .before .before .before .before .mode-number)) .ensures)) ∙ w) ∙ ap (λ j. getD (p .edits) j noRecord) (sym (g .2)) in
     whole-stored p (((c .before .before .before .before .before .before .before .before .before .before .before .before .before .before .before .before .before .before .before .before .spot) .result)) (((c .before .before .before .before .before .before .before .before .before .before .before .before .before .before .before .before .before .before .before .capped) .result)) (record { head = d .head; value = toZ w32 (ofZ w32 (d .value)); entry = d .entry; answer = d .answer }) e
 
-edit-turned : (c : tie.After-entry Inv-loop μ-loop) {q : State} {a : Answer} → let d = ((c .before .before .before .decide-edit) .result) in q ≡ stored ((c .before .before .before .before .before .before .before .before .before .before .before .before .before .before .before .before .before .before .before .before .before .before .before .before .before .before .before .before .before .before .before .before .before .before .before .before .before .before .before .loop) .p) ((c .before .before .before .before .before .before .before .before .before .before .before .before .before .before .before .before .before .before .before .before .spot) .result) ((c .before .before .before .before .before .before .before .before .before .before .before .before .before .before .before .before .before .before .before .capped) .result) (record { head = d .head; value = toZ w32 (ofZ w32 (d .value)); entry = d .entry; answer = d .answer }) → a ≡ d .answer → Turned (eqb ((c .before .before .before .before .before .before .before .before .before .before .before .before .before .before .before .before .before .before .before .before .before .before .before .before .before .before .before .before .before .before .before .before .before .before .before .read-line) .result .op) 5 || false) (lineIn ((c .before .before .before .before .before .before .before .before .before .before .before .before .before .before .before .before .before .before .before .before .before .before .before .before .before .before .before .before .before .before .before .before .before .before .before .read-line) .result)) ((c .before .before .before .before .before .before .before .before .before .before .before .before .before .before .before .before .before .before .before .before .before .before .before .before .before .before .before .before .before .before .before .before .before .before .before .before .before .before .before .loop) .p) q a 0 0
-edit-turned c e g = let m = edit-arm c in taken (untouched (lineIn ((c .before .before .before .before .before .before .before .before .before .before .before .before .before .before .before .before .before .before .before .before .before .before .before .before .before .before .before .before .before .before .before .before .before .before .before .read-line) .result)) ((c .before .before .before .before .before .before .before .before .before .before .before .before .before .before .before .before .before .before .before .before .before .before .before .before .before .before .before .before .before .before .before .before .before .before .before .before .before .before .before .loop) .p) ((c .before .before .before .before .before .before .before .before .before .before .before .before .before .before .before .before .before .before .before .before .before .before .before .before .before .before .before .before .before .before .before .before .before .before .before .before .before .before .before .loop) .inv .1 .sized)) (eq-eqb _ 5 ((c .before .before .before .before .before .before .before .before .before .before .before .before .before .before .before .before .before .before .before .before .before .before .before .before .before .before .before .before .before .if2) .taken)) refl e g refl refl (m .0) (m .1)
+edit-turned : (c : tie.After-entry Inv-loop μ-loop) {q : State} {a : Answer} → let d = ((c .before .before .before .decide-edit) .result) in q ≡ stored ((c .before .before .before .before .before .before .before .before .before .before .before .before .before .before .before .before .before .before .before .before .before .before .before .before .before .before .before .before .before .before .before .before .before .before .before .before .before .loop) .p) ((c .before .before .before .before .before .before .before .before .before .before .before .before .before .before .before .before .before .before .before .before .spot) .result) ((c .before .before .before .before .before .before .before .before .before .before .before .before .before .before .before .before .before .before .before .capped) .result) (record { head = d .head; value = toZ w32 (ofZ w32 (d .value)); entry = d .entry; answer = d .answer }) → a ≡ d .answer → Turned (eqb ((c .before .before .before .before .before .before .before .before .before .before .before .before .before .before .before .before .before .before .before .before .before .before .before .before .before .before .before .before .before .before .before .before .before .before .read-line) .result .op) 5 || false) (lineIn ((c .before .before .before .before .before .before .before .before .before .before .before .before .before .before .before .before .before .before .before .before .before .before .before .before .before .before .before .before .before .before .before .before .before .before .read-line) .result)) ((c .before .before .before .before .before .before .before .before .before .before .before .before .before .before .before .before .before .before .before .before .before .before .before .before .before .before .before .before .before .before .before .before .before .before .before .before .before .loop) .p) q a 0 0
+edit-turned c e g = let m = edit-arm c in taken (untouched (lineIn ((c .before .before .before .before .before .before .before .before .before .before .before .before .before .before .before .before .before .before .before .before .before .before .before .before .before .before .before .before .before .before .before .before .before .before .read-line) .result)) ((c .before .before .before .before .before .before .before .before .before .before .before .before .before .before .before .before .before .before .before .before .before .before .before .before .before .before .before .before .before .before .before .before .before .before .before .before .before .loop) .p) (on-line (c .before .before .before .before .before .before .before .before .before .before .before .before .before .before .before .before .before .before .before .before .before .before .before .before .before .before .before .before .before .before .before .before .before .before .before .before) .1 .sized)) (eq-eqb _ 5 ((c .before .before .before .before .before .before .before .before .before .before .before .before .before .before .before .before .before .before .before .before .before .before .before .before .before .before .before .before .if1) .taken)) refl e g refl refl (m .0) (m .1)
 
-turned2 : (c : tie.Joined2 Inv-loop μ-loop) → Turned (eqb ((c .before .before .before .before .before .before .read-line) .result .op) 5 || false) (lineIn ((c .before .before .before .before .before .before .read-line) .result)) ((c .before .before .before .before .before .before .before .before .before .before .loop) .p) ((c .if2) .p) ((c .if2) .answer) 0 0
-turned2 c =
-    on ((c .if2) .came)
-    (λ w. edit-turned (record { before = record { before = record { before = record { before = record { before = record { before = record { before = record { before = record { before = record { before = record { before = record { before = record { before = record { before = record { before = record { before = record { before = record { before = record { before = record { before = record { before = record { before = record { before = record { before = record { before = record { before = record { before = record { before = record { before = record { before = (c .before); if2 = w .0 }; h2 = w .1 }; struct-told2 = w .2 }; number2 = w .3 }; position = w .4 }; place = w .5 }; seen = w .6 }; struct-told3 = w .7 }; number3 = w .8 }; spot = w .9 }; capped = w .10 }; old = w .11 }; standing = w .12 }; p = w .13 }; decide-edit-arg = w .14 }; decide-edit-arg2 = w .15 }; decide-edit-arg3 = w .16 }; decide-edit-arg4 = w .17 }; decide-edit-arg5 = w .18 }; decide-edit-arg6 = w .19 }; found = w .20 }; struct-told4 = w .21 }; number4 = w .22 }; struct-told5 = w .23 }; struct-told6 = w .24 }; struct-told7 = w .25 }; decide-edit = w .26 }; head = w .27 }; struct-told8 = w .28 }; entry = w .29 }) (w .31) (w .32))
+turned1 : (c : tie.Joined1 Inv-loop μ-loop) → Turned (eqb ((c .before .before .before .before .before .before .read-line) .result .op) 5 || false) (lineIn ((c .before .before .before .before .before .before .read-line) .result)) ((c .before .before .before .before .before .before .before .before .before .loop) .p) ((c .if1) .p) ((c .if1) .answer) 0 0
+turned1 c =
+    on ((c .if1) .came)
+    (λ w. edit-turned (record { before = record { before = record { before = record { before = record { before = record { before = record { before = record { before = record { before = record { before = record { before = record { before = record { before = record { before = record { before = record { before = record { before = record { before = record { before = record { before = record { before = record { before = record { before = record { before = record { before = record { before = record { before = record { before = record { before = (c .before); if1 = w .0 }; struct-told2 = w .1 }; number2 = w .2 }; position = w .3 }; place = w .4 }; seen = w .5 }; struct-told3 = w .6 }; number3 = w .7 }; spot = w .8 }; capped = w .9 }; old = w .10 }; standing = w .11 }; p = w .12 }; decide-edit-arg = w .13 }; decide-edit-arg2 = w .14 }; decide-edit-arg3 = w .15 }; decide-edit-arg4 = w .16 }; decide-edit-arg5 = w .17 }; decide-edit-arg6 = w .18 }; found = w .19 }; struct-told4 = w .20 }; number4 = w .21 }; struct-told5 = w .22 }; struct-told6 = w .23 }; struct-told7 = w .24 }; decide-edit = w .25 }; head = w .26 }; struct-told8 = w .27 }; entry = w .28 }) (w .30) (w .31))
     (λ z. on z
-    (λ w. let place : tie.After-entry Inv-loop μ-loop = record { before = record { before = record { before = record { before = record { before = record { before = record { before = record { before = record { before = record { before = record { before = record { before = record { before = record { before = record { before = record { before = record { before = record { before = record { before = record { before = record { before = record { before = record { before = record { before = record { before = record { before = record { before = record { before = record { before = record { before = (c .before); if2 = w .0 }; h2 = w .1 }; struct-told2 = w .2 }; number2 = w .3 }; position = w .4 }; place = w .5 }; seen = w .6 }; struct-told3 = w .7 }; number3 = w .8 }; spot = w .9 }; capped = w .10 }; old = w .11 }; standing = w .12 }; p = w .13 }; decide-edit-arg = w .14 }; decide-edit-arg2 = w .15 }; decide-edit-arg3 = w .16 }; decide-edit-arg4 = w .17 }; decide-edit-arg5 = w .18 }; decide-edit-arg6 = w .19 }; found = w .20 }; struct-told4 = w .21 }; number4 = w .22 }; struct-told5 = w .23 }; struct-told6 = w .24 }; struct-told7 = w .25 }; decide-edit = w .26 }; head = w .27 }; struct-told8 = w .28 }; entry = w .29 } in edit-turned place (w .31 ∙ whole-arm place (unless _ (w .30 .left))) (w .32))
-    (λ w. passed-by (untouched (lineIn ((c .before .before .before .before .before .before .read-line) .result)) ((c .before .before .before .before .before .before .before .before .before .before .loop) .p) ((c .before .before .before .before .before .before .before .before .before .before .loop) .inv .1 .sized)) (ne-eqb _ 5 (w .0 .left)) (w .1) (w .2) refl refl))
+    (λ w. let place : tie.After-entry Inv-loop μ-loop = (record { before = record { before = record { before = record { before = record { before = record { before = record { before = record { before = record { before = record { before = record { before = record { before = record { before = record { before = record { before = record { before = record { before = record { before = record { before = record { before = record { before = record { before = record { before = record { before = record { before = record { before = record { before = record { before = record { before = (c .before); if1 = w .0 }; struct-told2 = w .1 }; number2 = w .2 }; position = w .3 }; place = w .4 }; seen = w .5 }; struct-told3 = w .6 }; number3 = w .7 }; spot = w .8 }; capped = w .9 }; old = w .10 }; standing = w .11 }; p = w .12 }; decide-edit-arg = w .13 }; decide-edit-arg2 = w .14 }; decide-edit-arg3 = w .15 }; decide-edit-arg4 = w .16 }; decide-edit-arg5 = w .17 }; decide-edit-arg6 = w .18 }; found = w .19 }; struct-told4 = w .20 }; number4 = w .21 }; struct-told5 = w .22 }; struct-told6 = w .23 }; struct-told7 = w .24 }; decide-edit = w .25 }; head = w .26 }; struct-told8 = w .27 }; entry = w .28 }) in edit-turned place (w .30 ∙ whole-arm place (unless _ (w .29 .left))) (w .31))
+    (λ w. passed-by (untouched (lineIn ((c .before .before .before .before .before .before .read-line) .result)) ((c .before .before .before .before .before .before .before .before .before .loop) .p) (on-line (c .before .before .before .before .before .before .before .before) .1 .sized)) (ne-eqb _ 5 (w .0 .left)) (w .1) (w .2) refl refl))
 
-counted2 : (c : tie.Joined2 Inv-loop μ-loop) → (eqb ((c .before .before .before .before .before .before .read-line) .result .op) 5 || false) ≡ false → Counted ((c .before .before .before .before .before .before .before .before .before .before .loop) .t) (keptOf (((c .if2) .p) .head) (((c .if2) .p) .edits))
-counted2 c n = still (λ s. Counted ((c .before .before .before .before .before .before .before .before .before .before .loop) .t) (keptOf (s .head) (s .edits))) (turned2 c) n ((c .before .before .before .before .before .before .before .before .before .before .loop) .inv .1 .counted)
+counted1 : (c : tie.Joined1 Inv-loop μ-loop) → (eqb ((c .before .before .before .before .before .before .read-line) .result .op) 5 || false) ≡ false → Counted ((c .before .before .before .before .before .before .before .before .before .loop) .t) (keptOf (((c .if1) .p) .head) (((c .if1) .p) .edits))
+counted1 c n = still (λ s. Counted ((c .before .before .before .before .before .before .before .before .before .loop) .t) (keptOf (s .head) (s .edits))) (turned1 c) n (on-line (c .before .before .before .before .before .before .before .before) .1 .counted)
 
 -- ---- a replay
 
-replay-arm : (c : tie.After-entry2 Inv-loop μ-loop) → let p = ((c .before .before .before .before .before .before .before .before .before .before .before .before .before .before .before .before .before .before .before .before .before .before .before .before .before .if2) .p) in let d = ((c .before .before .decide-replay) .result) in
+replay-arm : (c : tie.After-entry2 Inv-loop μ-loop) → let p = ((c .before .before .before .before .before .before .before .before .before .before .before .before .before .before .before .before .before .before .before .before .before .before .before .before .before .if1) .p) in let d = ((c .before .before .decide-replay) .result) in
     let q = replaying.stored p (((c .before .before .before .before .before .before .before .before .before .before .point) .result)) (((c .before .before .before .before .before .before .before .before .before .before .before .before .before .before .before .before .before .before .before .before .before .place2) .result)) (record { amount = toZ w32 (ofZ w32 (d .amount)); entry = d .entry; answer = d .answer }) in
     Made (lineIn (((c .before .before .before .before .before .before .before .before .before .before .before .before .before .before .before .before .before .before .before .before .before .before .before .before .before .before .before .before .before .before .before .read-line) .result))) p q (d .answer) [] × Sized q
 replay-arm c =
-    let p = ((c .before .before .before .before .before .before .before .before .before .before .before .before .before .before .before .before .before .before .before .before .before .before .before .before .before .if2) .p) in
+    let p = ((c .before .before .before .before .before .before .before .before .before .before .before .before .before .before .before .before .before .before .before .before .before .before .before .before .before .if1) .p) in
     let l = ((c .before .before .before .before .before .before .before .before .before .before .before .before .before .before .before .before .before .before .before .before .before .before .before .before .before .before .before .before .before .before .before .read-line) .result) in
     let d = ((c .before .before .decide-replay) .result) in
     let g = replay-decided ((c .before .before .before .before .before .before .before .before .before .before .before .before .before .before .before .before .before .before .before .before .before .before .before .before .before .before .before .before .before .before .before .before .before .before .before .before .before .before .args) .sound) p (l .a) (toZ-ofZ (fits32 (l .a) (((c .before .before .before .before .before .before .before .before .before .before .before .before .before .before .before .before .before .before .before .before .before .before .before .before .before .before .before .before .before .struct-told) .given .1 .0 .1)))) ((c .before .before .before .before .before .before .before .before .before .before .before .before .before .before .before .before .before .before .before .before .before .before .before .before .before .before .before .before .number) .ensures) ((c .before .before .before .before .before .before .before .before .before .before .before .before .before .before .before .before .before .before .before .before .before .before .position2) .ensures .0) ((c .before .before .before .before .before .before .before .before .before .before .before .before .before .before .before .before .before .before .before .before .before .place2) .ensures .0) ((c .before .before .before .before .before .before .before .before .before .before .before .before .before .before .before .before .before .before .before .found2) .ensures)
-    ((c .before .before .before .before .before .before .before .before .before .before .before .before .before .before .before .before .before .before .position3) .ensures .0) ((c .before .before .before .before .before .before .before .before .before .before .before .before .before .before .before .before .before .place3) .ensures .0) ((c .before .before .before .before .before .before .before .before .before .before .before .before .before .before .before .found3) .ensures) ((c .before .before .before .before .before .before .before .before .before .before .before .before .unset) .ensures .0) (((c .before .before .before .before .before .before .before .before .before .before .before .capped2) .ensures) ∙ settled-few p (((c .before .before .before .before .before .before .before .before .before .before .before .before .before .before .before .before .before .before .before .before .before .before .before .before .before .before .before .before .before .before .before .before .before .before .before .loop) .t)) ((counted2 ((c .before .before .before .before .before .before .before .before .before .before .before .before .before .before .before .before .before .before .before .before .before .before .before .before .before)) (ap (λ n. eqb n 5 || false) ((c .before .before .before .before .before .before .before .before .before .before .before .before .before .before .before .before .before .before .before .before .before .before .before .before .if4) .taken)))))
+    ((c .before .before .before .before .before .before .before .before .before .before .before .before .before .before .before .before .before .before .position3) .ensures .0) ((c .before .before .before .before .before .before .before .before .before .before .before .before .before .before .before .before .before .place3) .ensures .0) ((c .before .before .before .before .before .before .before .before .before .before .before .before .before .before .before .found3) .ensures) ((c .before .before .before .before .before .before .before .before .before .before .before .before .unset) .ensures .0) (((c .before .before .before .before .before .before .before .before .before .before .before .capped2) .ensures) ∙ settled-few p (((c .before .before .before .before .before .before .before .before .before .before .before .before .before .before .before .before .before .before .before .before .before .before .before .before .before .before .before .before .before .before .before .before .before .before .loop) .t)) ((counted1 ((c .before .before .before .before .before .before .before .before .before .before .before .before .before .before .before .before .before .before .before .before .before .before .before .before .before)) (ap (λ n. eqb n 5 || false) ((c .before .before .before .before .before .before .before .before .before .before .before .before .before .before .before .before .before .before .before .before .before .before .before .before .if3) .taken)))))
     ((c .before .before .before .before .before .before .before .before .before .before .point) .ensures .0) (toZ-ofZ (fits32 (getD (p .draft) (((c .before .before .before .before .before .before .before .before .before .before .point) .result)) (pos 0)) (((c .before .before .before .before .before .before .before .before .before .old2) .given)))) ((c .before .before .decide-replay) .ensures) in
     let amount = toZ-ofZ (fits32 (d .amount) (((c .before .struct-told9) .given .0 .1))) in
-    (rw (line-replay l (((c .before .before .before .before .before .before .before .before .before .before .before .before .before .before .before .before .before .before .before .before .before .before .before .before .if4) .taken))) (meets-made _ p _ (rw (amount, g .1, g .2, g .0 ∙ replay-held p ((c .before .before .before .before .before .before .before .before .before .before .before .before .before .before .before .before .before .before .before .before .before .before .before .before .before .before .before .before .before .before .before .before .before .before .before .before .before .before .args) .sound) (still (Sound ((c .before .before .before .before .before .before .before .before .before .before .before .before .before .before .before .before .before .before .before .before .before .before .before .before .before .before .before .before .before .before .before .before .before .before .before .before .before .before .args) .sound)) (turned2 ((c .before .before .before .before .before .before .before .before .before .before .before .before .before .before .before .before .before .before .before .before .before .before .before .before .before))) (ap (λ n. eqb n 5 || false) ((c .before .before .before .before .before .before .before .before .before .before .before .before .before .before .before .before .before .before .before .before .before .before .before .before .if4) .taken)) ((c .before .before .before .before .before .before .before .before .before .before .before .before .before .before .before .before .before .before .before .before .before .before .before .before .before .before .before .before .before .before .before .before .before .before .before .loop) .inv .0)) (natural (l .a))) (replay-meets p ((turned2 ((c .before .before .before .before .before .before .before .before .before .before .before .before .before .before .before .before .before .before .before .before .before .before .before .before .before)) .sized)) (l .a)))), replay-sized p (((c .before .before .before .before .before .before .before .before .before .before .point) .result)) (((c .before .before .before .before .before .before .before .before .before .before .before .before .before .before .before .before .before .before .before .before .before .place2) .result)) (record { amount = toZ w32 (ofZ w32 (d .amount)); entry = d .entry; answer = d .answer }) ((turned2 ((c .before .before .before .before .before .before .before .before .before .before .before .before .before .before .before .before .before .before .before .before .before .before .before .before .before)) .sized)))
+    (rw (line-replay l (((c .before .before .before .before .before .before .before .before .before .before .before .before .before .before .before .before .before .before .before .before .before .before .before .before .if3) .taken))) (meets-made _ p _ (rw (amount, g .1, g .2, g .0 ∙ replay-held p ((c .before .before .before .before .before .before .before .before .before .before .before .before .before .before .before .before .before .before .before .before .before .before .before .before .before .before .before .before .before .before .before .before .before .before .before .before .before .before .args) .sound) (still (Sound ((c .before .before .before .before .before .before .before .before .before .before .before .before .before .before .before .before .before .before .before .before .before .before .before .before .before .before .before .before .before .before .before .before .before .before .before .before .before .before .args) .sound)) (turned1 ((c .before .before .before .before .before .before .before .before .before .before .before .before .before .before .before .before .before .before .before .before .before .before .before .before .before))) (ap (λ n. eqb n 5 || false) ((c .before .before .before .before .before .before .before .before .before .before .before .before .before .before .before .before .before .before .before .before .before .before .before .before .if3) .taken)) (on-line (c .before .before .before .before .before .before .before .before .before .before .before .before .before .before .before .before .before .before .before .before .before .before .before .before .before .before .before .before .before .before .before .before .before) .0)) (natural (l .a))) (replay-meets p ((turned1 ((c .before .before .before .before .before .before .before .before .before .before .before .before .before .before .before .before .before .before .before .before .before .before .before .before .before)) .sized)) (l .a)))), replay-sized p (((c .before .before .before .before .before .before .before .before .before .before .point) .result)) (((c .before .before .before .before .before .before .before .before .before .before .before .before .before .before .before .before .before .before .before .before .before .place2) .result)) (record { amount = toZ w32 (ofZ w32 (d .amount)); entry = d .entry; answer = d .answer }) ((turned1 ((c .before .before .before .before .before .before .before .before .before .before .before .before .before .before .before .before .before .before .before .before .before .before .before .before .before)) .sized)))
 
-replay-turned : (c : tie.After-entry2 Inv-loop μ-loop) {q : State} {a : Answer} → let d = ((c .before .before .decide-replay) .result) in q ≡ replaying.stored ((c .before .before .before .before .before .before .before .before .before .before .before .before .before .before .before .before .before .before .before .before .before .before .before .before .before .if2) .p) ((c .before .before .before .before .before .before .before .before .before .before .point) .result) ((c .before .before .before .before .before .before .before .before .before .before .before .before .before .before .before .before .before .before .before .before .before .place2) .result) (record { amount = toZ w32 (ofZ w32 (d .amount)); entry = d .entry; answer = d .answer }) → a ≡ d .answer → Turned (eqb ((c .before .before .before .before .before .before .before .before .before .before .before .before .before .before .before .before .before .before .before .before .before .before .before .before .before .before .before .before .before .before .before .read-line) .result .op) 8 || (eqb ((c .before .before .before .before .before .before .before .before .before .before .before .before .before .before .before .before .before .before .before .before .before .before .before .before .before .before .before .before .before .before .before .read-line) .result .op) 5 || false)) (lineIn ((c .before .before .before .before .before .before .before .before .before .before .before .before .before .before .before .before .before .before .before .before .before .before .before .before .before .before .before .before .before .before .before .read-line) .result)) ((c .before .before .before .before .before .before .before .before .before .before .before .before .before .before .before .before .before .before .before .before .before .before .before .before .before .before .before .before .before .before .before .before .before .before .before .loop) .p) q a 0 0
-replay-turned c e g = taken (turned2 ((c .before .before .before .before .before .before .before .before .before .before .before .before .before .before .before .before .before .before .before .before .before .before .before .before .before))) (eq-eqb _ 8 ((c .before .before .before .before .before .before .before .before .before .before .before .before .before .before .before .before .before .before .before .before .before .before .before .before .if4) .taken)) (ap (λ n. eqb n 5 || false) ((c .before .before .before .before .before .before .before .before .before .before .before .before .before .before .before .before .before .before .before .before .before .before .before .before .if4) .taken)) e g refl refl (replay-arm c .0) (replay-arm c .1)
+replay-turned : (c : tie.After-entry2 Inv-loop μ-loop) {q : State} {a : Answer} → let d = ((c .before .before .decide-replay) .result) in q ≡ replaying.stored ((c .before .before .before .before .before .before .before .before .before .before .before .before .before .before .before .before .before .before .before .before .before .before .before .before .before .if1) .p) ((c .before .before .before .before .before .before .before .before .before .before .point) .result) ((c .before .before .before .before .before .before .before .before .before .before .before .before .before .before .before .before .before .before .before .before .before .place2) .result) (record { amount = toZ w32 (ofZ w32 (d .amount)); entry = d .entry; answer = d .answer }) → a ≡ d .answer → Turned (eqb ((c .before .before .before .before .before .before .before .before .before .before .before .before .before .before .before .before .before .before .before .before .before .before .before .before .before .before .before .before .before .before .before .read-line) .result .op) 8 || (eqb ((c .before .before .before .before .before .before .before .before .before .before .before .before .before .before .before .before .before .before .before .before .before .before .before .before .before .before .before .before .before .before .before .read-line) .result .op) 5 || false)) (lineIn ((c .before .before .before .before .before .before .before .before .before .before .before .before .before .before .before .before .before .before .before .before .before .before .before .before .before .before .before .before .before .before .before .read-line) .result)) ((c .before .before .before .before .before .before .before .before .before .before .before .before .before .before .before .before .before .before .before .before .before .before .before .before .before .before .before .before .before .before .before .before .before .before .loop) .p) q a 0 0
+replay-turned c e g = taken (turned1 ((c .before .before .before .before .before .before .before .before .before .before .before .before .before .before .before .before .before .before .before .before .before .before .before .before .before))) (eq-eqb _ 8 ((c .before .before .before .before .before .before .before .before .before .before .before .before .before .before .before .before .before .before .before .before .before .before .before .before .if3) .taken)) (ap (λ n. eqb n 5 || false) ((c .before .before .before .before .before .before .before .before .before .before .before .before .before .before .before .before .before .before .before .before .before .before .before .before .if3) .taken)) e g refl refl (replay-arm c .0) (replay-arm c .1)
 
-turned4 : (c : tie.Joined4 Inv-loop μ-loop) → Turned (eqb ((c .before .before .before .before .before .before .before .read-line) .result .op) 8 || (eqb ((c .before .before .before .before .before .before .before .read-line) .result .op) 5 || false)) (lineIn ((c .before .before .before .before .before .before .before .read-line) .result)) ((c .before .before .before .before .before .before .before .before .before .before .before .loop) .p) ((c .if4) .p) ((c .if4) .answer) 0 0
-turned4 c =
-    on ((c .if4) .came)
-    (λ w. replay-turned (record { before = record { before = record { before = record { before = record { before = record { before = record { before = record { before = record { before = record { before = record { before = record { before = record { before = record { before = record { before = record { before = record { before = record { before = record { before = record { before = record { before = record { before = record { before = record { before = record { before = (c .before); if4 = w .0 }; h3 = w .1 }; position2 = w .2 }; place2 = w .3 }; standing2 = w .4 }; found2 = w .5 }; position3 = w .6 }; place3 = w .7 }; seen2 = w .8 }; found3 = w .9 }; p2 = w .10 }; unset-arg = w .11 }; unset = w .12 }; capped2 = w .13 }; point = w .14 }; old2 = w .15 }; p3 = w .16 }; decide-replay-arg = w .17 }; decide-replay-arg2 = w .18 }; decide-replay-arg3 = w .19 }; decide-replay-arg4 = w .20 }; decide-replay-arg5 = w .21 }; decide-replay = w .22 }; struct-told9 = w .23 }; entry2 = w .24 }) (w .25) (w .26))
-    (λ w. passed-by (turned2 (c .before)) (ne-eqb _ 8 (w .0 .left)) (w .1) (w .2) refl refl)
+turned3 : (c : tie.Joined3 Inv-loop μ-loop) → Turned (eqb ((c .before .before .before .before .before .before .before .read-line) .result .op) 8 || (eqb ((c .before .before .before .before .before .before .before .read-line) .result .op) 5 || false)) (lineIn ((c .before .before .before .before .before .before .before .read-line) .result)) ((c .before .before .before .before .before .before .before .before .before .before .loop) .p) ((c .if3) .p) ((c .if3) .answer) 0 0
+turned3 c =
+    on ((c .if3) .came)
+    (λ w. replay-turned (record { before = record { before = record { before = record { before = record { before = record { before = record { before = record { before = record { before = record { before = record { before = record { before = record { before = record { before = record { before = record { before = record { before = record { before = record { before = record { before = record { before = record { before = record { before = record { before = record { before = (c .before); if3 = w .0 }; h2 = w .1 }; position2 = w .2 }; place2 = w .3 }; standing2 = w .4 }; found2 = w .5 }; position3 = w .6 }; place3 = w .7 }; seen2 = w .8 }; found3 = w .9 }; p2 = w .10 }; unset-arg = w .11 }; unset = w .12 }; capped2 = w .13 }; point = w .14 }; old2 = w .15 }; p3 = w .16 }; decide-replay-arg = w .17 }; decide-replay-arg2 = w .18 }; decide-replay-arg3 = w .19 }; decide-replay-arg4 = w .20 }; decide-replay-arg5 = w .21 }; decide-replay = w .22 }; struct-told9 = w .23 }; entry2 = w .24 }) (w .25) (w .26))
+    (λ w. passed-by (turned1 (c .before)) (ne-eqb _ 8 (w .0 .left)) (w .1) (w .2) refl refl)
 
-counted4 : (c : tie.Joined4 Inv-loop μ-loop) → (eqb ((c .before .before .before .before .before .before .before .read-line) .result .op) 8 || (eqb ((c .before .before .before .before .before .before .before .read-line) .result .op) 5 || false)) ≡ false → Counted ((c .before .before .before .before .before .before .before .before .before .before .before .loop) .t) (keptOf (((c .if4) .p) .head) (((c .if4) .p) .edits))
-counted4 c n = still (λ s. Counted ((c .before .before .before .before .before .before .before .before .before .before .before .loop) .t) (keptOf (s .head) (s .edits))) (turned4 c) n ((c .before .before .before .before .before .before .before .before .before .before .before .loop) .inv .1 .counted)
+counted3 : (c : tie.Joined3 Inv-loop μ-loop) → (eqb ((c .before .before .before .before .before .before .before .read-line) .result .op) 8 || (eqb ((c .before .before .before .before .before .before .before .read-line) .result .op) 5 || false)) ≡ false → Counted ((c .before .before .before .before .before .before .before .before .before .before .loop) .t) (keptOf (((c .if3) .p) .head) (((c .if3) .p) .edits))
+counted3 c n = still (λ s. Counted ((c .before .before .before .before .before .before .before .before .before .before .loop) .t) (keptOf (s .head) (s .edits))) (turned3 c) n (on-line (c .before .before .before .before .before .before .before .before .before) .1 .counted)
 
 -- ---- a call that only reads
 
-read-is : (c : tie.After-read Inv-loop μ-loop) → (c .read .result) ≡ readingIn (((c .before .before .before .before .before .before .before .before .before .before .before .if4) .p)) (((c .before .before .before .before .before .before .before .before .before .before .before .before .before .before .before .before .before .before .before .before .before .before .loop) .t)) ((counted4 ((c .before .before .before .before .before .before .before .before .before .before .before)) (off-reads _ ((c .before .before .before .before .before .before .before .before .before .before .if5) .taken)))) (((c .before .before .before .before .before .before .before .before .before .before .before .before .before .before .before .before .before .before .read-line) .result .op)) (((c .before .before .before .before .before .before .before .before .before .before .before .before .before .before .before .before .before .before .read-line) .result .a))
+read-is : (c : tie.After-read Inv-loop μ-loop) → (c .read .result) ≡ readingIn (((c .before .before .before .before .before .before .before .before .before .before .before .if3) .p)) (((c .before .before .before .before .before .before .before .before .before .before .before .before .before .before .before .before .before .before .before .before .before .loop) .t)) ((counted3 ((c .before .before .before .before .before .before .before .before .before .before .before)) (off-reads _ ((c .before .before .before .before .before .before .before .before .before .before .if4) .taken)))) (((c .before .before .before .before .before .before .before .before .before .before .before .before .before .before .before .before .before .before .read-line) .result .op)) (((c .before .before .before .before .before .before .before .before .before .before .before .before .before .before .before .before .before .before .read-line) .result .a))
 read-is c =
-    let p = ((c .before .before .before .before .before .before .before .before .before .before .before .if4) .p) in
-    let t = ((c .before .before .before .before .before .before .before .before .before .before .before .before .before .before .before .before .before .before .before .before .before .before .loop) .t) in
+    let p = ((c .before .before .before .before .before .before .before .before .before .before .before .if3) .p) in
+    let t = ((c .before .before .before .before .before .before .before .before .before .before .before .before .before .before .before .before .before .before .before .before .before .loop) .t) in
     let l = ((c .before .before .before .before .before .before .before .before .before .before .before .before .before .before .before .before .before .before .read-line) .result) in
     let a = toZ-ofZ (fits32 (l .a) (((c .before .before .before .before .before .before .before .before .before .before .before .before .before .before .before .before .struct-told) .given .1 .0 .1))) in
     let position = ((c .before .before .before .before .before .before .before .before .position4) .ensures .0) ∙ ap (positionOf (endIn (p .head)) (keptIn (p .head))) (((c .before .before .before .before .before .before .before .before .before .before .before .before .before .before .before .number) .ensures) ∙ ap natural a) in
     let seat = ((c .before .before .before .before .before .before .before .place4) .ensures .0) ∙ ap placeOf position in
     (c .read .ensures) ∙ (λ j. readingOf (l .op) (a j) (p .head) (position j) (getD (p .edits) (seat j) noRecord) (p .arrived) (p .confirmed) (t .unsent) (t .settled))
 
-read-arm : (c : tie.After-read Inv-loop μ-loop) → let p = ((c .before .before .before .before .before .before .before .before .before .before .before .if4) .p) in let r = (c .read .result) in (Made (lineIn (((c .before .before .before .before .before .before .before .before .before .before .before .before .before .before .before .before .before .before .read-line) .result))) p p (r .answer) (row (p .values) (r .from) (r .width))) × (r .from ≤ 224) × (r .width ≤ 32)
+read-arm : (c : tie.After-read Inv-loop μ-loop) → let p = ((c .before .before .before .before .before .before .before .before .before .before .before .if3) .p) in let r = (c .read .result) in (Made (lineIn (((c .before .before .before .before .before .before .before .before .before .before .before .before .before .before .before .before .before .before .read-line) .result))) p p (r .answer) (row (p .values) (r .from) (r .width))) × (r .from ≤ 224) × (r .width ≤ 32)
 read-arm c =
-    let p = ((c .before .before .before .before .before .before .before .before .before .before .before .if4) .p) in
+    let p = ((c .before .before .before .before .before .before .before .before .before .before .before .if3) .p) in
     let l = ((c .before .before .before .before .before .before .before .before .before .before .before .before .before .before .before .before .before .before .read-line) .result) in
-    let g = reading-right p (((c .before .before .before .before .before .before .before .before .before .before .before .before .before .before .before .before .before .before .before .before .before .before .loop) .t)) ((counted4 ((c .before .before .before .before .before .before .before .before .before .before .before)) (off-reads _ ((c .before .before .before .before .before .before .before .before .before .before .if5) .taken)))) (l .op) (l .a) in
-    rw (read-is c, line-reads l (((c .before .before .before .before .before .before .before .before .before .before .if5) .taken))) (record { answer = g .0; plan = sym (g .1) }, reading-bounds p (((c .before .before .before .before .before .before .before .before .before .before .before .before .before .before .before .before .before .before .before .before .before .before .loop) .t)) ((counted4 ((c .before .before .before .before .before .before .before .before .before .before .before)) (off-reads _ ((c .before .before .before .before .before .before .before .before .before .before .if5) .taken)))) (l .op) (l .a) .0, reading-bounds p (((c .before .before .before .before .before .before .before .before .before .before .before .before .before .before .before .before .before .before .before .before .before .before .loop) .t)) ((counted4 ((c .before .before .before .before .before .before .before .before .before .before .before)) (off-reads _ ((c .before .before .before .before .before .before .before .before .before .before .if5) .taken)))) (l .op) (l .a) .1)
+    let g = reading-right p (((c .before .before .before .before .before .before .before .before .before .before .before .before .before .before .before .before .before .before .before .before .before .loop) .t)) ((counted3 ((c .before .before .before .before .before .before .before .before .before .before .before)) (off-reads _ ((c .before .before .before .before .before .before .before .before .before .before .if4) .taken)))) (l .op) (l .a) in
+    rw (read-is c, line-reads l (((c .before .before .before .before .before .before .before .before .before .before .if4) .taken))) (record { answer = g .0; plan = sym (g .1) }, reading-bounds p (((c .before .before .before .before .before .before .before .before .before .before .before .before .before .before .before .before .before .before .before .before .before .loop) .t)) ((counted3 ((c .before .before .before .before .before .before .before .before .before .before .before)) (off-reads _ ((c .before .before .before .before .before .before .before .before .before .before .if4) .taken)))) (l .op) (l .a) .0, reading-bounds p (((c .before .before .before .before .before .before .before .before .before .before .before .before .before .before .before .before .before .before .before .before .before .loop) .t)) ((counted3 ((c .before .before .before .before .before .before .before .before .before .before .before)) (off-reads _ ((c .before .before .before .before .before .before .before .before .before .before .if4) .taken)))) (l .op) (l .a) .1)
 
-read-turned : (c : tie.After-read Inv-loop μ-loop) {a : Answer} {f w : ℕ} → let r = (c .read .result) in a ≡ r .answer → f ≡ r .from → w ≡ r .width → Turned (ltb 11 ((c .before .before .before .before .before .before .before .before .before .before .before .before .before .before .before .before .before .before .read-line) .result .op) || (eqb ((c .before .before .before .before .before .before .before .before .before .before .before .before .before .before .before .before .before .before .read-line) .result .op) 8 || (eqb ((c .before .before .before .before .before .before .before .before .before .before .before .before .before .before .before .before .before .before .read-line) .result .op) 5 || false))) (lineIn ((c .before .before .before .before .before .before .before .before .before .before .before .before .before .before .before .before .before .before .read-line) .result)) ((c .before .before .before .before .before .before .before .before .before .before .before .before .before .before .before .before .before .before .before .before .before .before .loop) .p) ((c .before .before .before .before .before .before .before .before .before .before .before .if4) .p) a f w
-read-turned c e g h = let m = read-arm c in read-out (turned4 ((c .before .before .before .before .before .before .before .before .before .before .before))) (lt-ltb 11 _ ((c .before .before .before .before .before .before .before .before .before .before .if5) .taken)) (off-reads _ ((c .before .before .before .before .before .before .before .before .before .before .if5) .taken)) e g h (m .0) (m .1) (m .2)
+read-turned : (c : tie.After-read Inv-loop μ-loop) {a : Answer} {f w : ℕ} → let r = (c .read .result) in a ≡ r .answer → f ≡ r .from → w ≡ r .width → Turned (ltb 11 ((c .before .before .before .before .before .before .before .before .before .before .before .before .before .before .before .before .before .before .read-line) .result .op) || (eqb ((c .before .before .before .before .before .before .before .before .before .before .before .before .before .before .before .before .before .before .read-line) .result .op) 8 || (eqb ((c .before .before .before .before .before .before .before .before .before .before .before .before .before .before .before .before .before .before .read-line) .result .op) 5 || false))) (lineIn ((c .before .before .before .before .before .before .before .before .before .before .before .before .before .before .before .before .before .before .read-line) .result)) ((c .before .before .before .before .before .before .before .before .before .before .before .before .before .before .before .before .before .before .before .before .before .loop) .p) ((c .before .before .before .before .before .before .before .before .before .before .before .if3) .p) a f w
+read-turned c e g h = let m = read-arm c in read-out (turned3 ((c .before .before .before .before .before .before .before .before .before .before .before))) (lt-ltb 11 _ ((c .before .before .before .before .before .before .before .before .before .before .if4) .taken)) (off-reads _ ((c .before .before .before .before .before .before .before .before .before .before .if4) .taken)) e g h (m .0) (m .1) (m .2)
 
-turned5 : (c : tie.Joined5 Inv-loop μ-loop) → Turned (ltb 11 ((c .before .before .before .before .before .before .before .before .read-line) .result .op) || (eqb ((c .before .before .before .before .before .before .before .before .read-line) .result .op) 8 || (eqb ((c .before .before .before .before .before .before .before .before .read-line) .result .op) 5 || false))) (lineIn ((c .before .before .before .before .before .before .before .before .read-line) .result)) ((c .before .before .before .before .before .before .before .before .before .before .before .before .loop) .p) ((c .before .if4) .p) ((c .if5) .answer) ((c .if5) .first) ((c .if5) .width)
-turned5 c =
-    on ((c .if5) .came)
-    (λ w. read-turned (record { before = record { before = record { before = record { before = record { before = record { before = record { before = record { before = record { before = record { before = record { before = (c .before); if5 = w .0 }; h4 = w .1 }; position4 = w .2 }; place4 = w .3 }; seen3 = w .4 }; p4 = w .5 }; read-arg = w .6 }; read-arg2 = w .7 }; t = w .8 }; read-arg3 = w .9 }; read = w .10 }) (w .11) (w .12) (w .13))
-    (λ w. passed-by (turned4 (c .before)) (le-ltb 11 _ (w .0 .left)) refl (w .1) (w .2) (w .3))
+turned4 : (c : tie.Joined4 Inv-loop μ-loop) → Turned (ltb 11 ((c .before .before .before .before .before .before .before .before .read-line) .result .op) || (eqb ((c .before .before .before .before .before .before .before .before .read-line) .result .op) 8 || (eqb ((c .before .before .before .before .before .before .before .before .read-line) .result .op) 5 || false))) (lineIn ((c .before .before .before .before .before .before .before .before .read-line) .result)) ((c .before .before .before .before .before .before .before .before .before .before .before .loop) .p) ((c .before .if3) .p) ((c .if4) .answer) ((c .if4) .first) ((c .if4) .width)
+turned4 c =
+    on ((c .if4) .came)
+    (λ w. read-turned (record { before = record { before = record { before = record { before = record { before = record { before = record { before = record { before = record { before = record { before = record { before = (c .before); if4 = w .0 }; h3 = w .1 }; position4 = w .2 }; place4 = w .3 }; seen3 = w .4 }; p4 = w .5 }; read-arg = w .6 }; read-arg2 = w .7 }; t = w .8 }; read-arg3 = w .9 }; read = w .10 }) (w .11) (w .12) (w .13))
+    (λ w. passed-by (turned3 (c .before)) (le-ltb 11 _ (w .0 .left)) refl (w .1) (w .2) (w .3))
 
-counted5 : (c : tie.Joined5 Inv-loop μ-loop) → (ltb 11 ((c .before .before .before .before .before .before .before .before .read-line) .result .op) || (eqb ((c .before .before .before .before .before .before .before .before .read-line) .result .op) 8 || (eqb ((c .before .before .before .before .before .before .before .before .read-line) .result .op) 5 || false))) ≡ false → Counted ((c .before .before .before .before .before .before .before .before .before .before .before .before .loop) .t) (keptOf (((c .before .if4) .p) .head) (((c .before .if4) .p) .edits))
-counted5 c n = still (λ s. Counted ((c .before .before .before .before .before .before .before .before .before .before .before .before .loop) .t) (keptOf (s .head) (s .edits))) (turned5 c) n ((c .before .before .before .before .before .before .before .before .before .before .before .before .loop) .inv .1 .counted)
+counted4 : (c : tie.Joined4 Inv-loop μ-loop) → (ltb 11 ((c .before .before .before .before .before .before .before .before .read-line) .result .op) || (eqb ((c .before .before .before .before .before .before .before .before .read-line) .result .op) 8 || (eqb ((c .before .before .before .before .before .before .before .before .read-line) .result .op) 5 || false))) ≡ false → Counted ((c .before .before .before .before .before .before .before .before .before .before .before .loop) .t) (keptOf (((c .before .if3) .p) .head) (((c .before .if3) .p) .edits))
+counted4 c n = still (λ s. Counted ((c .before .before .before .before .before .before .before .before .before .before .before .loop) .t) (keptOf (s .head) (s .edits))) (turned4 c) n (on-line (c .before .before .before .before .before .before .before .before .before .before) .1 .counted)
 
 -- ---- a send
 
@@ -279,53 +292,53 @@ counted5 c n = still (λ s. Counted ((c .before .before .before .before .before 
 unsent-is : (p : State) (t : Tallies) → Counted t (keptOf (p .head) (p .edits)) → {i : ℕ} (s : ℕ) → i ≡ indexOf s → T (oneTo (sidesIn (p .head)) s) → getD (t .unsent) i 0 ≡ unsentOf s (keptOf (p .head) (p .edits))
 unsent-is p t h s e o = let r = range (sidesIn (p .head)) s o in ap (λ j. getD (t .unsent) j 0) e ∙ h .unsent s (r .0) (le-trans (r .1) (sides-most (p .head)))
 
-send-arm : (c : tie.After-next Inv-loop μ-loop) → let p = ((c .before .before .before .before .before .before .before .before .before .if4) .p) in let r = ((c .before .send-edits) .result) in
+send-arm : (c : tie.After-next Inv-loop μ-loop) → let p = ((c .before .before .before .before .before .before .before .before .before .if3) .p) in let r = ((c .before .send-edits) .result) in
     Made (lineIn (((c .before .before .before .before .before .before .before .before .before .before .before .before .before .before .before .before .read-line) .result))) p (steps.stored p (p .head) (p .base) (p .draft) (p .values) (set (p .arrived) (((c .before .before .before .before .before .index) .result)) (r .arrived)) (p .confirmed) (r .edits)) (r .answer) []
 send-arm c =
-    let p = ((c .before .before .before .before .before .before .before .before .before .if4) .p) in
-    let t = ((c .before .before .before .before .before .before .before .before .before .before .before .before .before .before .before .before .before .before .before .before .loop) .t) in
+    let p = ((c .before .before .before .before .before .before .before .before .before .if3) .p) in
+    let t = ((c .before .before .before .before .before .before .before .before .before .before .before .before .before .before .before .before .before .before .before .loop) .t) in
     let l = ((c .before .before .before .before .before .before .before .before .before .before .before .before .before .before .before .before .read-line) .result) in
     let z = toZ-ofZ (fits32 (l .a) (((c .before .before .before .before .before .before .before .before .before .before .before .before .before .before .struct-told) .given .1 .0 .1))) in
     let i = ((c .before .before .before .before .before .index) .ensures .0) ∙ ap indexOf (((c .before .before .before .before .before .before .before .before .before .before .before .before .before .number) .ensures) ∙ ap natural z) in
     let m = subst (λ x. Sends x (p .head) (p .edits) (getD (p .arrived) (((c .before .before .before .before .before .index) .result)) false) (getD (t .unsent) (((c .before .before .before .before .before .index) .result)) 0) (((c .before .send-edits) .result))) z (((c .before .send-edits) .ensures)) in
-    rw (line-send l (((c .before .before .before .before .before .before .before .if6) .taken)), i) (meets-made (send (l .a)) p _
-    (m (frameOf p) (p .arrived) (p .lower) (p .gap) (p .upper) (p .firm) ((turned5 ((c .before .before .before .before .before .before .before .before)) .sized .arrived)) (ap (λ j. getD (p .arrived) j false) i) (unsent-is p t ((counted5 ((c .before .before .before .before .before .before .before .before)) (off-send _ ((c .before .before .before .before .before .before .before .if6) .taken)))) (natural (l .a)) i)))
+    rw (line-send l (((c .before .before .before .before .before .before .before .if5) .taken)), i) (meets-made (send (l .a)) p _
+    (m (frameOf p) (p .arrived) (p .lower) (p .gap) (p .upper) (p .firm) ((turned4 ((c .before .before .before .before .before .before .before .before)) .sized .arrived)) (ap (λ j. getD (p .arrived) j false) i) (unsent-is p t ((counted4 ((c .before .before .before .before .before .before .before .before)) (off-send _ ((c .before .before .before .before .before .before .before .if5) .taken)))) (natural (l .a)) i)))
 
-send-sized : (c : tie.After-next Inv-loop μ-loop) → let p = ((c .before .before .before .before .before .before .before .before .before .if4) .p) in let r = ((c .before .send-edits) .result) in Sized (steps.stored p (p .head) (p .base) (p .draft) (p .values) (set (p .arrived) (((c .before .before .before .before .before .index) .result)) (r .arrived)) (p .confirmed) (r .edits))
+send-sized : (c : tie.After-next Inv-loop μ-loop) → let p = ((c .before .before .before .before .before .before .before .before .before .if3) .p) in let r = ((c .before .send-edits) .result) in Sized (steps.stored p (p .head) (p .base) (p .draft) (p .values) (set (p .arrived) (((c .before .before .before .before .before .index) .result)) (r .arrived)) (p .confirmed) (r .edits))
 send-sized c =
-    let z = (turned5 ((c .before .before .before .before .before .before .before .before)) .sized) in
+    let z = (turned4 ((c .before .before .before .before .before .before .before .before)) .sized) in
     let o = ((c .before .send-edits) .ok) in
-    record { base = z .base; draft = z .draft; values = z .values; arrived = length-set (((c .before .before .before .before .before .before .before .before .before .if4) .p .arrived)) (((c .before .before .before .before .before .index) .result)) (((c .before .send-edits) .result .arrived)) ∙ z .arrived; confirmed = z .confirmed; lower = z .lower; gap = z .gap; upper = z .upper; firm = z .firm; edits = search unmapped }
+    record { base = z .base; draft = z .draft; values = z .values; arrived = length-set (((c .before .before .before .before .before .before .before .before .before .if3) .p .arrived)) (((c .before .before .before .before .before .index) .result)) (((c .before .send-edits) .result .arrived)) ∙ z .arrived; confirmed = z .confirmed; lower = z .lower; gap = z .gap; upper = z .upper; firm = z .firm; edits = search unmapped }
 
-send-turned : (c : tie.After-next Inv-loop μ-loop) {q : State} {a : Answer} → let r = ((c .before .send-edits) .result) in let p = ((c .before .before .before .before .before .before .before .before .before .if4) .p) in q ≡ steps.stored p (p .head) (p .base) (p .draft) (p .values) (set (p .arrived) ((c .before .before .before .before .before .index) .result) (r .arrived)) (p .confirmed) (r .edits) → a ≡ r .answer → Turned (eqb ((c .before .before .before .before .before .before .before .before .before .before .before .before .before .before .before .before .read-line) .result .op) 7 || (ltb 11 ((c .before .before .before .before .before .before .before .before .before .before .before .before .before .before .before .before .read-line) .result .op) || (eqb ((c .before .before .before .before .before .before .before .before .before .before .before .before .before .before .before .before .read-line) .result .op) 8 || (eqb ((c .before .before .before .before .before .before .before .before .before .before .before .before .before .before .before .before .read-line) .result .op) 5 || false)))) (lineIn ((c .before .before .before .before .before .before .before .before .before .before .before .before .before .before .before .before .read-line) .result)) ((c .before .before .before .before .before .before .before .before .before .before .before .before .before .before .before .before .before .before .before .before .loop) .p) q a ((c .before .before .before .before .before .before .before .before .if5) .first) ((c .before .before .before .before .before .before .before .before .if5) .width)
-send-turned c e g = taken (turned5 ((c .before .before .before .before .before .before .before .before))) (eq-eqb _ 7 ((c .before .before .before .before .before .before .before .if6) .taken)) (off-send _ ((c .before .before .before .before .before .before .before .if6) .taken)) e g refl refl (send-arm c) (send-sized c)
+send-turned : (c : tie.After-next Inv-loop μ-loop) {q : State} {a : Answer} → let r = ((c .before .send-edits) .result) in let p = ((c .before .before .before .before .before .before .before .before .before .if3) .p) in q ≡ steps.stored p (p .head) (p .base) (p .draft) (p .values) (set (p .arrived) ((c .before .before .before .before .before .index) .result) (r .arrived)) (p .confirmed) (r .edits) → a ≡ r .answer → Turned (eqb ((c .before .before .before .before .before .before .before .before .before .before .before .before .before .before .before .before .read-line) .result .op) 7 || (ltb 11 ((c .before .before .before .before .before .before .before .before .before .before .before .before .before .before .before .before .read-line) .result .op) || (eqb ((c .before .before .before .before .before .before .before .before .before .before .before .before .before .before .before .before .read-line) .result .op) 8 || (eqb ((c .before .before .before .before .before .before .before .before .before .before .before .before .before .before .before .before .read-line) .result .op) 5 || false)))) (lineIn ((c .before .before .before .before .before .before .before .before .before .before .before .before .before .before .before .before .read-line) .result)) ((c .before .before .before .before .before .before .before .before .before .before .before .before .before .before .before .before .before .before .before .loop) .p) q a ((c .before .before .before .before .before .before .before .before .if4) .first) ((c .before .before .before .before .before .before .before .before .if4) .width)
+send-turned c e g = taken (turned4 ((c .before .before .before .before .before .before .before .before))) (eq-eqb _ 7 ((c .before .before .before .before .before .before .before .if5) .taken)) (off-send _ ((c .before .before .before .before .before .before .before .if5) .taken)) e g refl refl (send-arm c) (send-sized c)
 
-turned6 : (c : tie.Joined6 Inv-loop μ-loop) → Turned (eqb ((c .before .before .before .before .before .before .before .before .before .read-line) .result .op) 7 || (ltb 11 ((c .before .before .before .before .before .before .before .before .before .read-line) .result .op) || (eqb ((c .before .before .before .before .before .before .before .before .before .read-line) .result .op) 8 || (eqb ((c .before .before .before .before .before .before .before .before .before .read-line) .result .op) 5 || false)))) (lineIn ((c .before .before .before .before .before .before .before .before .before .read-line) .result)) ((c .before .before .before .before .before .before .before .before .before .before .before .before .before .loop) .p) ((c .if6) .p) ((c .if6) .answer) ((c .before .if5) .first) ((c .before .if5) .width)
-turned6 c =
-    on ((c .if6) .came)
-    (λ w. send-turned (record { before = record { before = record { before = record { before = record { before = record { before = record { before = record { before = (c .before); if6 = w .0 }; h5 = w .1 }; index = w .2 }; flag = w .3 }; unsent = w .4 }; edits = w .5 }; send-edits = w .6 }; next = w .7 }) (w .8) (w .9))
-    (λ w. passed-by (turned5 (c .before)) (ne-eqb _ 7 (w .0 .left)) (w .1) (w .2) refl refl)
+turned5 : (c : tie.Joined5 Inv-loop μ-loop) → Turned (eqb ((c .before .before .before .before .before .before .before .before .before .read-line) .result .op) 7 || (ltb 11 ((c .before .before .before .before .before .before .before .before .before .read-line) .result .op) || (eqb ((c .before .before .before .before .before .before .before .before .before .read-line) .result .op) 8 || (eqb ((c .before .before .before .before .before .before .before .before .before .read-line) .result .op) 5 || false)))) (lineIn ((c .before .before .before .before .before .before .before .before .before .read-line) .result)) ((c .before .before .before .before .before .before .before .before .before .before .before .before .loop) .p) ((c .if5) .p) ((c .if5) .answer) ((c .before .if4) .first) ((c .before .if4) .width)
+turned5 c =
+    on ((c .if5) .came)
+    (λ w. send-turned (record { before = record { before = record { before = record { before = record { before = record { before = record { before = record { before = (c .before); if5 = w .0 }; h4 = w .1 }; index = w .2 }; flag = w .3 }; unsent = w .4 }; edits = w .5 }; send-edits = w .6 }; next = w .7 }) (w .8) (w .9))
+    (λ w. passed-by (turned4 (c .before)) (ne-eqb _ 7 (w .0 .left)) (w .1) (w .2) refl refl)
 
-counted6 : (c : tie.Joined6 Inv-loop μ-loop) → (eqb ((c .before .before .before .before .before .before .before .before .before .read-line) .result .op) 7 || (ltb 11 ((c .before .before .before .before .before .before .before .before .before .read-line) .result .op) || (eqb ((c .before .before .before .before .before .before .before .before .before .read-line) .result .op) 8 || (eqb ((c .before .before .before .before .before .before .before .before .before .read-line) .result .op) 5 || false)))) ≡ false → Counted ((c .before .before .before .before .before .before .before .before .before .before .before .before .before .loop) .t) (keptOf (((c .if6) .p) .head) (((c .if6) .p) .edits))
-counted6 c n = still (λ s. Counted ((c .before .before .before .before .before .before .before .before .before .before .before .before .before .loop) .t) (keptOf (s .head) (s .edits))) (turned6 c) n ((c .before .before .before .before .before .before .before .before .before .before .before .before .before .loop) .inv .1 .counted)
+counted5 : (c : tie.Joined5 Inv-loop μ-loop) → (eqb ((c .before .before .before .before .before .before .before .before .before .read-line) .result .op) 7 || (ltb 11 ((c .before .before .before .before .before .before .before .before .before .read-line) .result .op) || (eqb ((c .before .before .before .before .before .before .before .before .before .read-line) .result .op) 8 || (eqb ((c .before .before .before .before .before .before .before .before .before .read-line) .result .op) 5 || false)))) ≡ false → Counted ((c .before .before .before .before .before .before .before .before .before .before .before .before .loop) .t) (keptOf (((c .if5) .p) .head) (((c .if5) .p) .edits))
+counted5 c n = still (λ s. Counted ((c .before .before .before .before .before .before .before .before .before .before .before .before .loop) .t) (keptOf (s .head) (s .edits))) (turned5 c) n (on-line (c .before .before .before .before .before .before .before .before .before .before .before) .1 .counted)
 
 -- ---- a call on the frame
 
-move-arm : (c : tie.After-confirmed Inv-loop μ-loop) → let p = ((c .before .before .before .before .before .before .before .before .before .before .before .before .before .before .before .before .before .before .if6) .p) in let r = ((c .before .before .before .before .before .before .before .move-frame) .result) in
+move-arm : (c : tie.After-confirmed Inv-loop μ-loop) → let p = ((c .before .before .before .before .before .before .before .before .before .before .before .before .before .before .before .before .before .before .if5) .p) in let r = ((c .before .before .before .before .before .before .before .move-frame) .result) in
     Made (lineIn (((c .before .before .before .before .before .before .before .before .before .before .before .before .before .before .before .before .before .before .before .before .before .before .before .before .before .before .before .read-line) .result))) p (around (r .frame) (p .lower) (p .gap) (p .upper) (p .firm) (p .edits)) (r .answer) []
 move-arm c =
-    let p = ((c .before .before .before .before .before .before .before .before .before .before .before .before .before .before .before .before .before .before .if6) .p) in
-    let t = ((c .before .before .before .before .before .before .before .before .before .before .before .before .before .before .before .before .before .before .before .before .before .before .before .before .before .before .before .before .before .before .before .loop) .t) in
+    let p = ((c .before .before .before .before .before .before .before .before .before .before .before .before .before .before .before .before .before .before .if5) .p) in
+    let t = ((c .before .before .before .before .before .before .before .before .before .before .before .before .before .before .before .before .before .before .before .before .before .before .before .before .before .before .before .before .before .before .loop) .t) in
     let l = ((c .before .before .before .before .before .before .before .before .before .before .before .before .before .before .before .before .before .before .before .before .before .before .before .before .before .before .before .read-line) .result) in
     let z = toZ-ofZ (fits32 (l .a) (((c .before .before .before .before .before .before .before .before .before .before .before .before .before .before .before .before .before .before .before .before .before .before .before .before .before .struct-told) .given .1 .0 .1))) in
     let i = ((c .before .before .before .before .before .before .before .before .before .before .before .before .before .before .index2) .ensures .0) ∙ ap indexOf (((c .before .before .before .before .before .before .before .before .before .before .before .before .before .before .before .before .before .before .before .before .before .before .before .before .number) .ensures) ∙ ap natural z) in
     let m = subst (λ x. Moves (moveCall (l .op) x) (frameOf p) (Counts (frameOf p) (natural x) (getD (t .unsent) (((c .before .before .before .before .before .before .before .before .before .before .before .before .before .before .index2) .result)) 0) (t .waiting)) (((c .before .before .before .before .before .before .before .move-frame) .result))) z (((c .before .before .before .before .before .before .before .move-frame) .ensures)) in
-    rw (line-moves l (sym ((c .before .before .before .before .before .before .before .before .before .before .before .before .before .before .before .before .before .moves) .ensures) ∙ ((c .before .before .before .before .before .before .before .before .before .before .before .before .before .before .before .before .if7) .taken)))
-    (meets-made (moveCall (l .op) (l .a)) p _ (m (p .lower) (p .gap) (p .upper) (p .firm) (p .edits) (unsent-is p t ((counted6 ((c .before .before .before .before .before .before .before .before .before .before .before .before .before .before .before .before .before .before)) (off-moves ((c .before .before .before .before .before .before .before .before .before .before .before .before .before .before .before .before .before .before .before .before .before .before .before .before .before .before .before .read-line) .result .op) (sym ((c .before .before .before .before .before .before .before .before .before .before .before .before .before .before .before .before .before .moves) .ensures) ∙ ((c .before .before .before .before .before .before .before .before .before .before .before .before .before .before .before .before .if7) .taken))))) (natural (l .a)) i, ((counted6 ((c .before .before .before .before .before .before .before .before .before .before .before .before .before .before .before .before .before .before)) (off-moves ((c .before .before .before .before .before .before .before .before .before .before .before .before .before .before .before .before .before .before .before .before .before .before .before .before .before .before .before .read-line) .result .op) (sym ((c .before .before .before .before .before .before .before .before .before .before .before .before .before .before .before .before .before .moves) .ensures) ∙ ((c .before .before .before .before .before .before .before .before .before .before .before .before .before .before .before .before .if7) .taken)))) .waiting))))
+    rw (line-moves l (sym ((c .before .before .before .before .before .before .before .before .before .before .before .before .before .before .before .before .before .moves) .ensures) ∙ ((c .before .before .before .before .before .before .before .before .before .before .before .before .before .before .before .before .if6) .taken)))
+    (meets-made (moveCall (l .op) (l .a)) p _ (m (p .lower) (p .gap) (p .upper) (p .firm) (p .edits) (unsent-is p t ((counted5 ((c .before .before .before .before .before .before .before .before .before .before .before .before .before .before .before .before .before .before)) (off-moves ((c .before .before .before .before .before .before .before .before .before .before .before .before .before .before .before .before .before .before .before .before .before .before .before .before .before .before .before .read-line) .result .op) (sym ((c .before .before .before .before .before .before .before .before .before .before .before .before .before .before .before .before .before .moves) .ensures) ∙ ((c .before .before .before .before .before .before .before .before .before .before .before .before .before .before .before .before .if6) .taken))))) (natural (l .a)) i, ((counted5 ((c .before .before .before .before .before .before .before .before .before .before .before .before .before .before .before .before .before .before)) (off-moves ((c .before .before .before .before .before .before .before .before .before .before .before .before .before .before .before .before .before .before .before .before .before .before .before .before .before .before .before .read-line) .result .op) (sym ((c .before .before .before .before .before .before .before .before .before .before .before .before .before .before .before .before .before .moves) .ensures) ∙ ((c .before .before .before .before .before .before .before .before .before .before .before .before .before .before .before .before .if6) .taken)))) .waiting))))
 
-move-sized : (c : tie.After-confirmed Inv-loop μ-loop) → let p = ((c .before .before .before .before .before .before .before .before .before .before .before .before .before .before .before .before .before .before .if6) .p) in let r = ((c .before .before .before .before .before .before .before .move-frame) .result) in Sized (around (r .frame) (p .lower) (p .gap) (p .upper) (p .firm) (p .edits))
+move-sized : (c : tie.After-confirmed Inv-loop μ-loop) → let p = ((c .before .before .before .before .before .before .before .before .before .before .before .before .before .before .before .before .before .before .if5) .p) in let r = ((c .before .before .before .before .before .before .before .move-frame) .result) in Sized (around (r .frame) (p .lower) (p .gap) (p .upper) (p .firm) (p .edits))
 move-sized c =
-    let z = (turned6 ((c .before .before .before .before .before .before .before .before .before .before .before .before .before .before .before .before .before .before)) .sized) in
+    let z = (turned5 ((c .before .before .before .before .before .before .before .before .before .before .before .before .before .before .before .before .before .before)) .sized) in
     let t = ((c .before .before .before .before .before .before .before .move-frame) .ok .1 .1 .0) in
     let u = t .1 .1 in
     let b = u .1 .0 in
@@ -335,23 +348,23 @@ move-sized c =
     let f = u .1 .1 .1 .1 .1 .0 in
     record { base = search needs; draft = search needs; values = search needs; arrived = search needs; confirmed = search needs; lower = z .lower; gap = z .gap; upper = z .upper; firm = z .firm; edits = z .edits }
 
-move-turned : (c : tie.After-confirmed Inv-loop μ-loop) {q : State} {a : Answer} → let r = ((c .before .before .before .before .before .before .before .move-frame) .result) in let p = ((c .before .before .before .before .before .before .before .before .before .before .before .before .before .before .before .before .before .before .if6) .p) in q ≡ around (r .frame) (p .lower) (p .gap) (p .upper) (p .firm) (p .edits) → a ≡ r .answer → Turned (isMove ((c .before .before .before .before .before .before .before .before .before .before .before .before .before .before .before .before .before .before .before .before .before .before .before .before .before .before .before .read-line) .result .op) || isHot ((c .before .before .before .before .before .before .before .before .before .before .before .before .before .before .before .before .before .before .before .before .before .before .before .before .before .before .before .read-line) .result .op)) (lineIn ((c .before .before .before .before .before .before .before .before .before .before .before .before .before .before .before .before .before .before .before .before .before .before .before .before .before .before .before .read-line) .result)) ((c .before .before .before .before .before .before .before .before .before .before .before .before .before .before .before .before .before .before .before .before .before .before .before .before .before .before .before .before .before .before .before .loop) .p) q a ((c .before .before .before .before .before .before .before .before .before .before .before .before .before .before .before .before .before .before .before .if5) .first) ((c .before .before .before .before .before .before .before .before .before .before .before .before .before .before .before .before .before .before .before .if5) .width)
-move-turned c e g = taken (turned6 ((c .before .before .before .before .before .before .before .before .before .before .before .before .before .before .before .before .before .before))) (sym ((c .before .before .before .before .before .before .before .before .before .before .before .before .before .before .before .before .before .moves) .ensures) ∙ ((c .before .before .before .before .before .before .before .before .before .before .before .before .before .before .before .before .if7) .taken)) (off-moves ((c .before .before .before .before .before .before .before .before .before .before .before .before .before .before .before .before .before .before .before .before .before .before .before .before .before .before .before .read-line) .result .op) (sym ((c .before .before .before .before .before .before .before .before .before .before .before .before .before .before .before .before .before .moves) .ensures) ∙ ((c .before .before .before .before .before .before .before .before .before .before .before .before .before .before .before .before .if7) .taken))) e g refl refl (move-arm c) (move-sized c)
+move-turned : (c : tie.After-confirmed Inv-loop μ-loop) {q : State} {a : Answer} → let r = ((c .before .before .before .before .before .before .before .move-frame) .result) in let p = ((c .before .before .before .before .before .before .before .before .before .before .before .before .before .before .before .before .before .before .if5) .p) in q ≡ around (r .frame) (p .lower) (p .gap) (p .upper) (p .firm) (p .edits) → a ≡ r .answer → Turned (isMove ((c .before .before .before .before .before .before .before .before .before .before .before .before .before .before .before .before .before .before .before .before .before .before .before .before .before .before .before .read-line) .result .op) || isHot ((c .before .before .before .before .before .before .before .before .before .before .before .before .before .before .before .before .before .before .before .before .before .before .before .before .before .before .before .read-line) .result .op)) (lineIn ((c .before .before .before .before .before .before .before .before .before .before .before .before .before .before .before .before .before .before .before .before .before .before .before .before .before .before .before .read-line) .result)) ((c .before .before .before .before .before .before .before .before .before .before .before .before .before .before .before .before .before .before .before .before .before .before .before .before .before .before .before .before .before .before .loop) .p) q a ((c .before .before .before .before .before .before .before .before .before .before .before .before .before .before .before .before .before .before .before .if4) .first) ((c .before .before .before .before .before .before .before .before .before .before .before .before .before .before .before .before .before .before .before .if4) .width)
+move-turned c e g = taken (turned5 ((c .before .before .before .before .before .before .before .before .before .before .before .before .before .before .before .before .before .before))) (sym ((c .before .before .before .before .before .before .before .before .before .before .before .before .before .before .before .before .before .moves) .ensures) ∙ ((c .before .before .before .before .before .before .before .before .before .before .before .before .before .before .before .before .if6) .taken)) (off-moves ((c .before .before .before .before .before .before .before .before .before .before .before .before .before .before .before .before .before .before .before .before .before .before .before .before .before .before .before .read-line) .result .op) (sym ((c .before .before .before .before .before .before .before .before .before .before .before .before .before .before .before .before .before .moves) .ensures) ∙ ((c .before .before .before .before .before .before .before .before .before .before .before .before .before .before .before .before .if6) .taken))) e g refl refl (move-arm c) (move-sized c)
 
-turned7 : (c : tie.Joined7 Inv-loop μ-loop) → Turned (isMove ((c .before .before .before .before .before .before .before .before .before .before .before .read-line) .result .op) || isHot ((c .before .before .before .before .before .before .before .before .before .before .before .read-line) .result .op)) (lineIn ((c .before .before .before .before .before .before .before .before .before .before .before .read-line) .result)) ((c .before .before .before .before .before .before .before .before .before .before .before .before .before .before .before .loop) .p) ((c .if7) .p) ((c .if7) .answer) ((c .before .before .before .if5) .first) ((c .before .before .before .if5) .width)
-turned7 c =
-    on ((c .if7) .came)
-    (λ w. move-turned (record { before = record { before = record { before = record { before = record { before = record { before = record { before = record { before = record { before = record { before = record { before = record { before = record { before = record { before = record { before = record { before = record { before = (c .before); if7 = w .0 }; h6 = w .1 }; index2 = w .2 }; unsent2 = w .3 }; old-base = w .4 }; old-draft = w .5 }; old-values = w .6 }; old-arrived = w .7 }; old-confirmed = w .8 }; move-frame = w .9 }; g = w .10 }; head2 = w .11 }; base = w .12 }; draft = w .13 }; values = w .14 }; arrived = w .15 }; confirmed = w .16 }) (w .17) (w .18))
-    (λ w. passed-by (turned6 (c .before .before)) (sym ((c .before .moves) .ensures) ∙ (w .0 .left)) (w .1) (w .2) refl refl)
+turned6 : (c : tie.Joined6 Inv-loop μ-loop) → Turned (isMove ((c .before .before .before .before .before .before .before .before .before .before .before .read-line) .result .op) || isHot ((c .before .before .before .before .before .before .before .before .before .before .before .read-line) .result .op)) (lineIn ((c .before .before .before .before .before .before .before .before .before .before .before .read-line) .result)) ((c .before .before .before .before .before .before .before .before .before .before .before .before .before .before .loop) .p) ((c .if6) .p) ((c .if6) .answer) ((c .before .before .before .if4) .first) ((c .before .before .before .if4) .width)
+turned6 c =
+    on ((c .if6) .came)
+    (λ w. move-turned (record { before = record { before = record { before = record { before = record { before = record { before = record { before = record { before = record { before = record { before = record { before = record { before = record { before = record { before = record { before = record { before = record { before = (c .before); if6 = w .0 }; h5 = w .1 }; index2 = w .2 }; unsent2 = w .3 }; old-base = w .4 }; old-draft = w .5 }; old-values = w .6 }; old-arrived = w .7 }; old-confirmed = w .8 }; move-frame = w .9 }; g = w .10 }; head2 = w .11 }; base = w .12 }; draft = w .13 }; values = w .14 }; arrived = w .15 }; confirmed = w .16 }) (w .17) (w .18))
+    (λ w. passed-by (turned5 (c .before .before)) (sym ((c .before .moves) .ensures) ∙ (w .0 .left)) (w .1) (w .2) refl refl)
 
 -- ---- a call that draws up the plan
 
-draw-arm : (c : tie.After-q Inv-loop μ-loop) → let r = ((c .before .draw-up) .result) in Made (lineIn (((c .before .before .before .before .before .before .before .before .before .before .before .before .before .before .before .before .before .before .read-line) .result))) (((c .before .before .before .before .before .before .before .if7) .p)) (r .state) (r .answer) []
+draw-arm : (c : tie.After-q Inv-loop μ-loop) → let r = ((c .before .draw-up) .result) in Made (lineIn (((c .before .before .before .before .before .before .before .before .before .before .before .before .before .before .before .before .before .before .read-line) .result))) (((c .before .before .before .before .before .before .before .if6) .p)) (r .state) (r .answer) []
 draw-arm c =
-    let p = ((c .before .before .before .before .before .before .before .if7) .p) in
+    let p = ((c .before .before .before .before .before .before .before .if6) .p) in
     let l = ((c .before .before .before .before .before .before .before .before .before .before .before .before .before .before .before .before .before .before .read-line) .result) in
     let t = ((c .before .before .before .before .before .before .before .before .before .before .before .before .before .before .before .before .struct-told) .given) in
-    let e = line-draws l (sym ((c .before .before .before .before .before .before .draws) .ensures) ∙ ((c .before .before .before .before .before .if8) .taken)) in
+    let e = line-draws l (sym ((c .before .before .before .before .before .before .draws) .ensures) ∙ ((c .before .before .before .before .before .if7) .taken)) in
     rw e (performs-made _ p (((c .before .draw-up) .result)) (rw (← toZ-ofZ (fits32 (l .a) (t .1 .0 .1)), ← toZ-ofZ (fits32 (l .b) (t .1 .1 .0 .1)), ← toZ-ofZ (fits32 (l .c) (t .1 .1 .1 .0 .1)), ← toZ-ofZ (fits32 (l .d) (t .1 .1 .1 .1 .0 .1))) (((c .before .draw-up) .ensures))))
 
 -- what owning a result tells of its state
@@ -373,64 +386,69 @@ drawn-sized r xs t =
 draw-sized : (c : tie.After-q Inv-loop μ-loop) → Sized (((c .before .draw-up) .result .state))
 draw-sized c = drawn-sized ((c .before .draw-up) .result) ((c .before .draw-up) .ok .0 .0) ((c .before .draw-up) .ok .1 .1 .0)
 
-draw-turned : (c : tie.After-q Inv-loop μ-loop) {q : State} {a : Answer} → let r = ((c .before .draw-up) .result) in q ≡ r .state → a ≡ r .answer → Turned (isDraw ((c .before .before .before .before .before .before .before .before .before .before .before .before .before .before .before .before .before .before .read-line) .result .op) || (isMove ((c .before .before .before .before .before .before .before .before .before .before .before .before .before .before .before .before .before .before .read-line) .result .op) || isHot ((c .before .before .before .before .before .before .before .before .before .before .before .before .before .before .before .before .before .before .read-line) .result .op))) (lineIn ((c .before .before .before .before .before .before .before .before .before .before .before .before .before .before .before .before .before .before .read-line) .result)) ((c .before .before .before .before .before .before .before .before .before .before .before .before .before .before .before .before .before .before .before .before .before .before .loop) .p) q a ((c .before .before .before .before .before .before .before .before .before .before .if5) .first) ((c .before .before .before .before .before .before .before .before .before .before .if5) .width)
-draw-turned c e g = taken (turned7 ((c .before .before .before .before .before .before .before))) (sym ((c .before .before .before .before .before .before .draws) .ensures) ∙ ((c .before .before .before .before .before .if8) .taken)) (off-draws ((c .before .before .before .before .before .before .before .before .before .before .before .before .before .before .before .before .before .before .read-line) .result .op) (sym ((c .before .before .before .before .before .before .draws) .ensures) ∙ ((c .before .before .before .before .before .if8) .taken))) e g refl refl (draw-arm c) (draw-sized c)
+draw-turned : (c : tie.After-q Inv-loop μ-loop) {q : State} {a : Answer} → let r = ((c .before .draw-up) .result) in q ≡ r .state → a ≡ r .answer → Turned (isDraw ((c .before .before .before .before .before .before .before .before .before .before .before .before .before .before .before .before .before .before .read-line) .result .op) || (isMove ((c .before .before .before .before .before .before .before .before .before .before .before .before .before .before .before .before .before .before .read-line) .result .op) || isHot ((c .before .before .before .before .before .before .before .before .before .before .before .before .before .before .before .before .before .before .read-line) .result .op))) (lineIn ((c .before .before .before .before .before .before .before .before .before .before .before .before .before .before .before .before .before .before .read-line) .result)) ((c .before .before .before .before .before .before .before .before .before .before .before .before .before .before .before .before .before .before .before .before .before .loop) .p) q a ((c .before .before .before .before .before .before .before .before .before .before .if4) .first) ((c .before .before .before .before .before .before .before .before .before .before .if4) .width)
+draw-turned c e g = taken (turned6 ((c .before .before .before .before .before .before .before))) (sym ((c .before .before .before .before .before .before .draws) .ensures) ∙ ((c .before .before .before .before .before .if7) .taken)) (off-draws ((c .before .before .before .before .before .before .before .before .before .before .before .before .before .before .before .before .before .before .read-line) .result .op) (sym ((c .before .before .before .before .before .before .draws) .ensures) ∙ ((c .before .before .before .before .before .if7) .taken))) e g refl refl (draw-arm c) (draw-sized c)
 
-turned8 : (c : tie.Joined8 Inv-loop μ-loop) → Turned (isDraw ((c .before .before .before .before .before .before .before .before .before .before .before .before .before .read-line) .result .op) || (isMove ((c .before .before .before .before .before .before .before .before .before .before .before .before .before .read-line) .result .op) || isHot ((c .before .before .before .before .before .before .before .before .before .before .before .before .before .read-line) .result .op))) (lineIn ((c .before .before .before .before .before .before .before .before .before .before .before .before .before .read-line) .result)) ((c .before .before .before .before .before .before .before .before .before .before .before .before .before .before .before .before .before .loop) .p) ((c .if8) .p) ((c .if8) .answer) ((c .before .before .before .before .before .if5) .first) ((c .before .before .before .before .before .if5) .width)
-turned8 c =
-    on ((c .if8) .came)
-    (λ w. draw-turned (record { before = record { before = record { before = record { before = record { before = record { before = (c .before); if8 = w .0 }; struct-told10 = w .1 }; struct-told11 = w .2 }; struct-told12 = w .3 }; draw-up = w .4 }; q = w .5 }) (w .6) (w .7))
-    (λ w. passed-by (turned7 (c .before .before)) (sym ((c .before .draws) .ensures) ∙ (w .0 .left)) (w .1) (w .2) refl refl)
+turned7 : (c : tie.Joined7 Inv-loop μ-loop) → Turned (isDraw ((c .before .before .before .before .before .before .before .before .before .before .before .before .before .read-line) .result .op) || (isMove ((c .before .before .before .before .before .before .before .before .before .before .before .before .before .read-line) .result .op) || isHot ((c .before .before .before .before .before .before .before .before .before .before .before .before .before .read-line) .result .op))) (lineIn ((c .before .before .before .before .before .before .before .before .before .before .before .before .before .read-line) .result)) ((c .before .before .before .before .before .before .before .before .before .before .before .before .before .before .before .before .loop) .p) ((c .if7) .p) ((c .if7) .answer) ((c .before .before .before .before .before .if4) .first) ((c .before .before .before .before .before .if4) .width)
+turned7 c =
+    on ((c .if7) .came)
+    (λ w. draw-turned (record { before = record { before = record { before = record { before = record { before = record { before = (c .before); if7 = w .0 }; struct-told10 = w .1 }; struct-told11 = w .2 }; struct-told12 = w .3 }; draw-up = w .4 }; q = w .5 }) (w .6) (w .7))
+    (λ w. passed-by (turned6 (c .before .before)) (sym ((c .before .draws) .ensures) ∙ (w .0 .left)) (w .1) (w .2) refl refl)
 
 -- ---- any line
 
-joined : (c : tie.Joined8 Inv-loop μ-loop) → let q = ((c .if8) .p) in (Made (lineIn ((c .before .before .before .before .before .before .before .before .before .before .before .before .before .read-line) .result)) ((c .before .before .before .before .before .before .before .before .before .before .before .before .before .before .before .before .before .loop) .p) q ((c .if8) .answer) (row (q .values) ((c .before .before .before .before .before .if5) .first) ((c .before .before .before .before .before .if5) .width))) × Sized q × (((c .before .before .before .before .before .if5) .first) ≤ 224) × (((c .before .before .before .before .before .if5) .width) ≤ 32)
-joined c = let k = turned8 c in (turned k (line-left ((c .before .before .before .before .before .before .before .before .before .before .before .before .before .read-line) .result)), k .sized, k .from, k .width)
+joined : (c : tie.Joined7 Inv-loop μ-loop) → let q = ((c .if7) .p) in (Made (lineIn ((c .before .before .before .before .before .before .before .before .before .before .before .before .before .read-line) .result)) ((c .before .before .before .before .before .before .before .before .before .before .before .before .before .before .before .before .loop) .p) q ((c .if7) .answer) (row (q .values) ((c .before .before .before .before .before .if4) .first) ((c .before .before .before .before .before .if4) .width))) × Sized q × (((c .before .before .before .before .before .if4) .first) ≤ 224) × (((c .before .before .before .before .before .if4) .width) ≤ 32)
+joined c = let k = turned7 c in (turned k (line-left ((c .before .before .before .before .before .before .before .before .before .before .before .before .before .read-line) .result)), k .sized, k .from, k .width)
 
 -- ---- its answer, put into the rest of the area
 
 abbrev told : tie.After-put Inv-loop μ-loop → List ℕ
-told c = lineOf (((c .before .before .before .before .before .before .before .before .before .before .if8) .answer)) (take (((c .before .before .before .before .before .before .before .before .before .before .before .before .before .before .before .if5) .first) + ((c .before .before .before .before .before .before .before .before .before .before .before .before .before .before .before .if5) .width) - ((c .before .before .before .before .before .before .before .before .before .before .before .before .before .before .before .if5) .first)) (drop (((c .before .before .before .before .before .before .before .before .before .before .before .before .before .before .before .if5) .first)) (((c .before .before .before .before .before .before .before .before .before .before .if8) .p .values))))
+told c = lineOf (((c .before .before .before .before .before .before .before .before .before .before .if7) .answer)) (take (((c .before .before .before .before .before .before .before .before .before .before .before .before .before .before .before .if4) .first) + ((c .before .before .before .before .before .before .before .before .before .before .before .before .before .before .before .if4) .width) - ((c .before .before .before .before .before .before .before .before .before .before .before .before .before .before .before .if4) .first)) (drop (((c .before .before .before .before .before .before .before .before .before .before .before .before .before .before .before .if4) .first)) (((c .before .before .before .before .before .before .before .before .before .before .if7) .p .values))))
 
-told-is : (c : tie.After-put Inv-loop μ-loop) → told c ≡ text (turn (line ((c .before .before .before .before .before .before .before .before .before .before .before .before .before .before .before .before .before .before .before .before .before .before .before))) (view (((c .before .before .before .before .before .before .before .before .before .before .before .before .before .before .before .before .before .before .before .before .before .before .before .before .before .before .before .loop) .p))) .answer)
+told-is : (c : tie.After-put Inv-loop μ-loop) → told c ≡ text (turn (line ((c .before .before .before .before .before .before .before .before .before .before .before .before .before .before .before .before .before .before .before .before .before .before .before))) (view (((c .before .before .before .before .before .before .before .before .before .before .before .before .before .before .before .before .before .before .before .before .before .before .before .before .before .before .loop) .p))) .answer)
 unfolding lineOf turn
 told-is c =
     let j = joined ((c .before .before .before .before .before .before .before .before .before .before)) in
-    ap (λ vs. text (withRow (answerOf (((c .before .before .before .before .before .before .before .before .before .before .if8) .answer))) vs)) (lent-row (((c .before .before .before .before .before .before .before .before .before .before .if8) .p .values)) (((c .before .before .before .before .before .before .before .before .before .before .before .before .before .before .before .if5) .first)) (((c .before .before .before .before .before .before .before .before .before .before .before .before .before .before .before .if5) .width)) (le-same (le-sum (j .2) (j .3)) (j .1 .values)))
-    ∙ ap text (j .0 .answer ∙ ap (λ o. stepOf o (view (((c .before .before .before .before .before .before .before .before .before .before .before .before .before .before .before .before .before .before .before .before .before .before .before .before .before .before .before .loop) .p))) .answer) (call-is ((c .before .before .before .before .before .before .before .before .before .before .before .before .before .before .before .before .before .before .before .before .before))))
+    ap (λ vs. text (withRow (answerOf (((c .before .before .before .before .before .before .before .before .before .before .if7) .answer))) vs)) (lent-row (((c .before .before .before .before .before .before .before .before .before .before .if7) .p .values)) (((c .before .before .before .before .before .before .before .before .before .before .before .before .before .before .before .if4) .first)) (((c .before .before .before .before .before .before .before .before .before .before .before .before .before .before .before .if4) .width)) (le-same (le-sum (j .2) (j .3)) (j .1 .values)))
+    ∙ ap text (j .0 .answer ∙ ap (λ o. stepOf o (view (((c .before .before .before .before .before .before .before .before .before .before .before .before .before .before .before .before .before .before .before .before .before .before .before .before .before .before .loop) .p))) .answer) (call-is ((c .before .before .before .before .before .before .before .before .before .before .before .before .before .before .before .before .before .before .before .before .before))))
 
-left-is : (c : tie.After-put Inv-loop μ-loop) → view (((c .before .before .before .before .before .before .before .before .before .before .if8) .p)) ≡ turn (line ((c .before .before .before .before .before .before .before .before .before .before .before .before .before .before .before .before .before .before .before .before .before .before .before))) (view (((c .before .before .before .before .before .before .before .before .before .before .before .before .before .before .before .before .before .before .before .before .before .before .before .before .before .before .before .loop) .p))) .plan
+left-is : (c : tie.After-put Inv-loop μ-loop) → view (((c .before .before .before .before .before .before .before .before .before .before .if7) .p)) ≡ turn (line ((c .before .before .before .before .before .before .before .before .before .before .before .before .before .before .before .before .before .before .before .before .before .before .before))) (view (((c .before .before .before .before .before .before .before .before .before .before .before .before .before .before .before .before .before .before .before .before .before .before .before .before .before .before .loop) .p))) .plan
 unfolding turn
-left-is c = (joined ((c .before .before .before .before .before .before .before .before .before .before))) .0 .plan ∙ ap (λ o. stepOf o (view (((c .before .before .before .before .before .before .before .before .before .before .before .before .before .before .before .before .before .before .before .before .before .before .before .before .before .before .before .loop) .p))) .plan) (call-is ((c .before .before .before .before .before .before .before .before .before .before .before .before .before .before .before .before .before .before .before .before .before)))
+left-is c = (joined ((c .before .before .before .before .before .before .before .before .before .before))) .0 .plan ∙ ap (λ o. stepOf o (view (((c .before .before .before .before .before .before .before .before .before .before .before .before .before .before .before .before .before .before .before .before .before .before .before .before .before .before .loop) .p))) .plan) (call-is ((c .before .before .before .before .before .before .before .before .before .before .before .before .before .before .before .before .before .before .before .before .before)))
 
-enough : (c : tie.After-put Inv-loop μ-loop) → ((c .before .before .before .before .before .before .before .before .before .before .before .before .before .before .before .before .before .before .before .before .before .before .before .before .before .before .before .before .before .before .args) .reserve) ≤ length (((c .before .before .before .before .before .before .before .before .before .before .before .before .before .before .before .before .before .before .before .before .before .before .before .before .before .before .before .before .before .before .args) .area .now)) - ((c .before .before .before .before .before .before .before .before .before .before .before .before .before .before .before .before .before .before .before .before .before .before .before .before .before .before .before .loop) .at)
-enough c = subst (λ n. ((c .before .before .before .before .before .before .before .before .before .before .before .before .before .before .before .before .before .before .before .before .before .before .before .before .before .before .before .before .before .before .args) .reserve) ≤ n - ((c .before .before .before .before .before .before .before .before .before .before .before .before .before .before .before .before .before .before .before .before .before .before .before .before .before .before .before .loop) .at)) (((c .before .before .before .before .before .before .before .before .before .before .before .before .before .before .before .before .before .before .before .before .before .before .before .before .before .before .before .loop) .inv .1 .same)) (((c .before .before .before .before .before .before .before .before .before .before .before .before .before .before .before .before .before .before .before .before .before .before .before .before .before .if1) .left))
+enough : (c : tie.After-put Inv-loop μ-loop) → ((c .before .before .before .before .before .before .before .before .before .before .before .before .before .before .before .before .before .before .before .before .before .before .before .before .before .before .before .before .before .before .args) .reserve) ≤ length (((c .before .before .before .before .before .before .before .before .before .before .before .before .before .before .before .before .before .before .before .before .before .before .before .before .before .before .before .before .before .before .args) .area .now)) - ((c .before .before .before .before .before .before .before .before .before .before .before .before .before .before .before .before .before .before .before .before .before .before .before .before .before .before .loop) .at)
+enough c = subst (λ n. ((c .before .before .before .before .before .before .before .before .before .before .before .before .before .before .before .before .before .before .before .before .before .before .before .before .before .before .before .before .before .before .args) .reserve) ≤ n - ((c .before .before .before .before .before .before .before .before .before .before .before .before .before .before .before .before .before .before .before .before .before .before .before .before .before .before .loop) .at)) (on-line (c .before .before .before .before .before .before .before .before .before .before .before .before .before .before .before .before .before .before .before .before .before .before .before .before .before) .1 .same) (inside (c .before .before .before .before .before .before .before .before .before .before .before .before .before .before .before .before .before .before .before .before .before .before .before .before .before .before .loop .inv) (c .before .before .before .before .before .before .before .before .before .before .before .before .before .before .before .before .before .before .before .before .before .before .before .before .before .loop-test .taken) .2)
 
 -- the counts after the line
-tallies-are : (c : tie.After-put Inv-loop μ-loop) → let l = ((c .before .before .before .before .before .before .before .before .before .before .before .before .before .before .before .before .before .before .before .before .before .before .before .read-line) .result) in ((c .before .before .before .before .before .before .before .before .tallied) .result) ≡ tallyAfter (movedOp (((c .before .before .before .before .before .before .before .before .before .before .if8) .answer)) (l .op)) (natural (l .a)) (is whole (modeOf (((c .before .before .before .before .before .before .before .before .before .before .before .before .before .before .before .before .before .before .before .before .before .before .before .before .before .before .before .loop) .p .head .mode)))) (((c .before .before .before .before .before .before .before .before .before .before .before .before .before .before .before .before .before .before .before .before .before .before .before .before .before .before .before .loop) .t))
+counts-moved : (c : tie.After-tallied Inv-loop μ-loop) {t : Tallies} → t ≡ (c .tallied .result) → t ≡ tallyAfter (movedOp (((c .before .before .before .before .if7) .answer)) ((c .before .before .before .before .before .before .before .before .before .before .before .before .before .before .before .before .before .read-line) .result .op)) (natural ((c .before .before .before .before .before .before .before .before .before .before .before .before .before .before .before .before .before .read-line) .result .a)) (is whole (modeOf (((c .before .before .before .before .before .before .before .before .before .before .before .before .before .before .before .before .before .before .before .before .loop) .p .head .mode)))) (((c .before .before .before .before .before .before .before .before .before .before .before .before .before .before .before .before .before .before .before .before .loop) .t))
+counts-moved c e =
+    e ∙ (c .tallied .ensures) ∙ (λ j. tallyAfter ((c .before .moved-op .ensures) j) (((c .before .before .before .before .before .before .before .before .before .before .before .before .before .before .number .ensures) ∙ ap natural (toZ-ofZ (fits32 ((c .before .before .before .before .before .before .before .before .before .before .before .before .before .before .before .before .before .read-line) .result .a) (((c .before .before .before .before .before .before .before .before .before .before .before .before .before .before .before .struct-told) .given .1 .0 .1))))) j) (eqb ((c .before .before .before .before .before .before .before .before .before .before .before .before .mode-number .ensures) j) 1) (((c .before .before .before .before .before .before .before .before .before .before .before .before .before .before .before .before .before .before .before .before .loop) .t)))
+
+tallies-are : (c : tie.Joined8 Inv-loop μ-loop) → (c .if8 .t) ≡ tallyAfter (movedOp (((c .before .before .if7) .answer)) ((c .before .before .before .before .before .before .before .before .before .before .before .before .before .before .before .read-line) .result .op)) (natural ((c .before .before .before .before .before .before .before .before .before .before .before .before .before .before .before .read-line) .result .a)) (is whole (modeOf (((c .before .before .before .before .before .before .before .before .before .before .before .before .before .before .before .before .before .before .loop) .p .head .mode)))) (((c .before .before .before .before .before .before .before .before .before .before .before .before .before .before .before .before .before .before .loop) .t))
 tallies-are c =
-    let l = ((c .before .before .before .before .before .before .before .before .before .before .before .before .before .before .before .before .before .before .before .before .before .before .before .read-line) .result) in
-    ((c .before .before .before .before .before .before .before .before .tallied) .ensures) ∙ (λ j. tallyAfter (((c .before .before .before .before .before .before .before .before .before .moved-op) .ensures) j) ((((c .before .before .before .before .before .before .before .before .before .before .before .before .before .before .before .before .before .before .before .before .number) .ensures) ∙ ap natural (toZ-ofZ (fits32 (l .a) (((c .before .before .before .before .before .before .before .before .before .before .before .before .before .before .before .before .before .before .before .before .before .struct-told) .given .1 .0 .1))))) j) (eqb (((c .before .before .before .before .before .before .before .before .before .before .before .before .before .before .before .before .before .before .mode-number) .ensures) j) 1) (((c .before .before .before .before .before .before .before .before .before .before .before .before .before .before .before .before .before .before .before .before .before .before .before .before .before .before .before .loop) .t)))
+    on (c .if8 .came)
+    (λ w. counts-moved (record { before = record { before = record { before = (c .before); if8 = w .0 }; moved-op = w .1 }; tallied = w .2 }) (w .3))
+    (λ w. w .1 ∙ sym (counts-stay ((c .before .before .if7) .answer) ((c .before .before .before .before .before .before .before .before .before .before .before .before .before .before .before .read-line) .result .op) (natural ((c .before .before .before .before .before .before .before .before .before .before .before .before .before .before .before .read-line) .result .a)) (is whole (modeOf (((c .before .before .before .before .before .before .before .before .before .before .before .before .before .before .before .before .before .before .loop) .p .head .mode)))) ((c .before .before .before .before .before .before .before .before .before .before .before .before .before .before .before .before .before .before .loop) .t) (sym ((c .before .moves-counts) .ensures) ∙ (w .0 .left))))
 
-counted-now : (c : tie.After-put Inv-loop μ-loop) → Counted (((c .before .before .before .before .before .before .before .before .tallied) .result)) (keptOf (((c .before .before .before .before .before .before .before .before .before .before .if8) .p .head)) (((c .before .before .before .before .before .before .before .before .before .before .if8) .p .edits)))
+counted-now : (c : tie.Joined8 Inv-loop μ-loop) → Counted (c .if8 .t) (keptOf (((c .before .before .if7) .p .head)) (((c .before .before .if7) .p .edits)))
 counted-now c =
-    let l = ((c .before .before .before .before .before .before .before .before .before .before .before .before .before .before .before .before .before .before .before .before .before .before .before .read-line) .result) in
-    let p = ((c .before .before .before .before .before .before .before .before .before .before .before .before .before .before .before .before .before .before .before .before .before .before .before .before .before .before .before .loop) .p) in
-    let m = (joined ((c .before .before .before .before .before .before .before .before .before .before))) .0 in
-    subst (λ t. Counted t (keptOf (((c .before .before .before .before .before .before .before .before .before .before .if8) .p .head)) (((c .before .before .before .before .before .before .before .before .before .before .if8) .p .edits)))) (sym (tallies-are c)) (counted-made (((c .before .before .before .before .before .before .before .before .before .before .before .before .before .before .before .before .before .before .before .before .before .before .before .before .before .before .before .loop) .t)) p (((c .before .before .before .before .before .before .before .before .before .before .if8) .p)) (((c .before .before .before .before .before .before .before .before .before .before .before .before .before .before .before .before .before .before .before .before .before .before .before .before .before .before .before .loop) .inv .1 .long)) (((c .before .before .before .before .before .before .before .before .before .before .before .before .before .before .before .before .before .before .before .before .before .before .before .before .before .before .before .loop) .inv .1 .counted)) l (((c .before .before .before .before .before .before .before .before .before .before .if8) .answer)) _ m)
+    let l = ((c .before .before .before .before .before .before .before .before .before .before .before .before .before .before .before .read-line) .result) in
+    let p = ((c .before .before .before .before .before .before .before .before .before .before .before .before .before .before .before .before .before .before .loop) .p) in
+    let m = (joined ((c .before .before))) .0 in
+    subst (λ t. Counted t (keptOf (((c .before .before .if7) .p .head)) (((c .before .before .if7) .p .edits)))) (sym (tallies-are c)) (counted-made (((c .before .before .before .before .before .before .before .before .before .before .before .before .before .before .before .before .before .before .loop) .t)) p (((c .before .before .if7) .p)) ((on-line (c .before .before .before .before .before .before .before .before .before .before .before .before .before .before .before .before .before) .1 .long)) ((on-line (c .before .before .before .before .before .before .before .before .before .before .before .before .before .before .before .before .before) .1 .counted)) l (((c .before .before .if7) .answer)) _ m)
 
-long-now : (c : tie.After-put Inv-loop μ-loop) → length (((c .before .before .before .before .before .before .before .before .tallied) .result .unsent)) ≡ 8
-long-now c = ap (λ t. length (t .unsent)) (tallies-are c) ∙ tallied-long (movedOp (((c .before .before .before .before .before .before .before .before .before .before .if8) .answer)) (((c .before .before .before .before .before .before .before .before .before .before .before .before .before .before .before .before .before .before .before .before .before .before .before .read-line) .result .op))) (natural (((c .before .before .before .before .before .before .before .before .before .before .before .before .before .before .before .before .before .before .before .before .before .before .before .read-line) .result .a))) (is whole (modeOf (((c .before .before .before .before .before .before .before .before .before .before .before .before .before .before .before .before .before .before .before .before .before .before .before .before .before .before .before .loop) .p .head .mode)))) (((c .before .before .before .before .before .before .before .before .before .before .before .before .before .before .before .before .before .before .before .before .before .before .before .before .before .before .before .loop) .t)) (((c .before .before .before .before .before .before .before .before .before .before .before .before .before .before .before .before .before .before .before .before .before .before .before .before .before .before .before .loop) .inv .1 .long))
+long-now : (c : tie.Joined8 Inv-loop μ-loop) → length (c .if8 .t .unsent) ≡ 8
+long-now c = ap (λ t. length (t .unsent)) (tallies-are c) ∙ tallied-long (movedOp (((c .before .before .if7) .answer)) (((c .before .before .before .before .before .before .before .before .before .before .before .before .before .before .before .read-line) .result .op))) (natural (((c .before .before .before .before .before .before .before .before .before .before .before .before .before .before .before .read-line) .result .a))) (is whole (modeOf (((c .before .before .before .before .before .before .before .before .before .before .before .before .before .before .before .before .before .before .loop) .p .head .mode)))) (((c .before .before .before .before .before .before .before .before .before .before .before .before .before .before .before .before .before .before .loop) .t)) ((on-line (c .before .before .before .before .before .before .before .before .before .before .before .before .before .before .before .before .before) .1 .long))
 
 -- what was put, and how many bytes
-room-is : (c : tie.After-put Inv-loop μ-loop) → take (length (((c .before .before .before .before .before .before .before .before .before .before .before .before .before .before .before .before .before .before .before .before .before .before .before .before .before .before .before .loop) .area)) - ((c .before .before .before .before .before .before .before .before .before .before .before .before .before .before .before .before .before .before .before .before .before .before .before .before .before .before .before .loop) .at)) (drop (((c .before .before .before .before .before .before .before .before .before .before .before .before .before .before .before .before .before .before .before .before .before .before .before .before .before .before .before .loop) .at)) (((c .before .before .before .before .before .before .before .before .before .before .before .before .before .before .before .before .before .before .before .before .before .before .before .before .before .before .before .loop) .area))) ≡ drop (((c .before .before .before .before .before .before .before .before .before .before .before .before .before .before .before .before .before .before .before .before .before .before .before .before .before .before .before .loop) .at)) (((c .before .before .before .before .before .before .before .before .before .before .before .before .before .before .before .before .before .before .before .before .before .before .before .before .before .before .before .loop) .area))
-room-is c = lent-rest (((c .before .before .before .before .before .before .before .before .before .before .before .before .before .before .before .before .before .before .before .before .before .before .before .before .before .before .before .loop) .at)) (((c .before .before .before .before .before .before .before .before .before .before .before .before .before .before .before .before .before .before .before .before .before .before .before .before .before .before .before .loop) .area))
+room-is : (c : tie.After-put Inv-loop μ-loop) → take (length (((c .before .before .before .before .before .before .before .before .before .before .before .before .before .before .before .before .before .before .before .before .before .before .before .before .before .before .loop) .area)) - ((c .before .before .before .before .before .before .before .before .before .before .before .before .before .before .before .before .before .before .before .before .before .before .before .before .before .before .loop) .at)) (drop (((c .before .before .before .before .before .before .before .before .before .before .before .before .before .before .before .before .before .before .before .before .before .before .before .before .before .before .loop) .at)) (((c .before .before .before .before .before .before .before .before .before .before .before .before .before .before .before .before .before .before .before .before .before .before .before .before .before .before .loop) .area))) ≡ drop (((c .before .before .before .before .before .before .before .before .before .before .before .before .before .before .before .before .before .before .before .before .before .before .before .before .before .before .loop) .at)) (((c .before .before .before .before .before .before .before .before .before .before .before .before .before .before .before .before .before .before .before .before .before .before .before .before .before .before .loop) .area))
+room-is c = lent-rest (((c .before .before .before .before .before .before .before .before .before .before .before .before .before .before .before .before .before .before .before .before .before .before .before .before .before .before .loop) .at)) (((c .before .before .before .before .before .before .before .before .before .before .before .before .before .before .before .before .before .before .before .before .before .before .before .before .before .before .loop) .area))
 
-fits-now : (c : tie.After-put Inv-loop μ-loop) → ((c .put .result) ≡ 0 → ⊥) → leb (length (told c)) (length (drop (((c .before .before .before .before .before .before .before .before .before .before .before .before .before .before .before .before .before .before .before .before .before .before .before .before .before .before .before .loop) .at)) (((c .before .before .before .before .before .before .before .before .before .before .before .before .before .before .before .before .before .before .before .before .before .before .before .before .before .before .before .loop) .area)))) ≡ true
-fits-now c h = fitted-put (told c) (drop (((c .before .before .before .before .before .before .before .before .before .before .before .before .before .before .before .before .before .before .before .before .before .before .before .before .before .before .before .loop) .at)) (((c .before .before .before .before .before .before .before .before .before .before .before .before .before .before .before .before .before .before .before .before .before .before .before .before .before .before .before .loop) .area))) ((c .put .result)) (text-some (told c) (turn (line ((c .before .before .before .before .before .before .before .before .before .before .before .before .before .before .before .before .before .before .before .before .before .before .before))) (view (((c .before .before .before .before .before .before .before .before .before .before .before .before .before .before .before .before .before .before .before .before .before .before .before .before .before .before .before .loop) .p))) .answer) (told-is c)) (subst (λ xs. (c .put .result) ≡ cond (leb (length (told c)) (length xs)) (length (told c)) 0) (room-is c) ((c .put .ensures .1))) h
+fits-now : (c : tie.After-put Inv-loop μ-loop) → ((c .put .result) ≡ 0 → ⊥) → leb (length (told c)) (length (drop (((c .before .before .before .before .before .before .before .before .before .before .before .before .before .before .before .before .before .before .before .before .before .before .before .before .before .before .loop) .at)) (((c .before .before .before .before .before .before .before .before .before .before .before .before .before .before .before .before .before .before .before .before .before .before .before .before .before .before .loop) .area)))) ≡ true
+fits-now c h = fitted-put (told c) (drop (((c .before .before .before .before .before .before .before .before .before .before .before .before .before .before .before .before .before .before .before .before .before .before .before .before .before .before .loop) .at)) (((c .before .before .before .before .before .before .before .before .before .before .before .before .before .before .before .before .before .before .before .before .before .before .before .before .before .before .loop) .area))) ((c .put .result)) (text-some (told c) (turn (line ((c .before .before .before .before .before .before .before .before .before .before .before .before .before .before .before .before .before .before .before .before .before .before .before))) (view (((c .before .before .before .before .before .before .before .before .before .before .before .before .before .before .before .before .before .before .before .before .before .before .before .before .before .before .loop) .p))) .answer) (told-is c)) (subst (λ xs. (c .put .result) ≡ cond (leb (length (told c)) (length xs)) (length (told c)) 0) (room-is c) ((c .put .ensures .1))) h
 
-unfit-now : (c : tie.After-put Inv-loop μ-loop) → (c .put .result) ≡ 0 → leb (length (told c)) (length (drop (((c .before .before .before .before .before .before .before .before .before .before .before .before .before .before .before .before .before .before .before .before .before .before .before .before .before .before .before .loop) .at)) (((c .before .before .before .before .before .before .before .before .before .before .before .before .before .before .before .before .before .before .before .before .before .before .before .before .before .before .before .loop) .area)))) ≡ false
-unfit-now c e = unfitted-put (told c) (drop (((c .before .before .before .before .before .before .before .before .before .before .before .before .before .before .before .before .before .before .before .before .before .before .before .before .before .before .before .loop) .at)) (((c .before .before .before .before .before .before .before .before .before .before .before .before .before .before .before .before .before .before .before .before .before .before .before .before .before .before .before .loop) .area))) ((c .put .result)) (text-some (told c) (turn (line ((c .before .before .before .before .before .before .before .before .before .before .before .before .before .before .before .before .before .before .before .before .before .before .before))) (view (((c .before .before .before .before .before .before .before .before .before .before .before .before .before .before .before .before .before .before .before .before .before .before .before .before .before .before .before .loop) .p))) .answer) (told-is c)) (subst (λ xs. (c .put .result) ≡ cond (leb (length (told c)) (length xs)) (length (told c)) 0) (room-is c) ((c .put .ensures .1))) e
+unfit-now : (c : tie.After-put Inv-loop μ-loop) → (c .put .result) ≡ 0 → leb (length (told c)) (length (drop (((c .before .before .before .before .before .before .before .before .before .before .before .before .before .before .before .before .before .before .before .before .before .before .before .before .before .before .loop) .at)) (((c .before .before .before .before .before .before .before .before .before .before .before .before .before .before .before .before .before .before .before .before .before .before .before .before .before .before .loop) .area)))) ≡ false
+unfit-now c e = unfitted-put (told c) (drop (((c .before .before .before .before .before .before .before .before .before .before .before .before .before .before .before .before .before .before .before .before .before .before .before .before .before .before .loop) .at)) (((c .before .before .before .before .before .before .before .before .before .before .before .before .before .before .before .before .before .before .before .before .before .before .before .before .before .before .loop) .area))) ((c .put .result)) (text-some (told c) (turn (line ((c .before .before .before .before .before .before .before .before .before .before .before .before .before .before .before .before .before .before .before .before .before .before .before))) (view (((c .before .before .before .before .before .before .before .before .before .before .before .before .before .before .before .before .before .before .before .before .before .before .before .before .before .before .loop) .p))) .answer) (told-is c)) (subst (λ xs. (c .put .result) ≡ cond (leb (length (told c)) (length xs)) (length (told c)) 0) (room-is c) ((c .put .ensures .1))) e
 
 -- how many bytes were written, and the area with them
 count-is : (c : tie.After-put Inv-loop μ-loop) → ((c .put .result) ≡ 0 → ⊥) → (c .put .result) ≡ length (told c)
@@ -439,58 +457,61 @@ count-is c h = subst (λ xs. (c .put .result) ≡ cond (leb (length (told c)) (l
 area-fits : (c : tie.After-put Inv-loop μ-loop) → Fits w64 (length (((c .before .before .before .before .before .before .before .before .before .before .before .before .before .before .before .before .before .before .before .before .before .before .before .before .before .before .before .before .before .before .args) .area .now)))
 area-fits c = lent-fits ((c .before .before .before .before .before .before .before .before .before .before .before .before .before .before .before .before .before .before .before .before .before .before .before .before .before .before .before .before))
 
-at-fits : (c : tie.After-put Inv-loop μ-loop) → ((c .put .result) ≡ 0 → ⊥) → Fits w64 (((c .before .before .before .before .before .before .before .before .before .before .before .before .before .before .before .before .before .before .before .before .before .before .before .before .before .before .before .loop) .at) + (c .put .result))
-at-fits c h = fits-le (put-most _ _ (length (told c)) (length (drop (((c .before .before .before .before .before .before .before .before .before .before .before .before .before .before .before .before .before .before .before .before .before .before .before .before .before .before .before .loop) .at)) (((c .before .before .before .before .before .before .before .before .before .before .before .before .before .before .before .before .before .before .before .before .before .before .before .before .before .before .before .loop) .area)))) (length (((c .before .before .before .before .before .before .before .before .before .before .before .before .before .before .before .before .before .before .before .before .before .before .before .before .before .before .before .loop) .area))) _ (count-is c h) (fits-now c h) (length-drop (((c .before .before .before .before .before .before .before .before .before .before .before .before .before .before .before .before .before .before .before .before .before .before .before .before .before .before .before .loop) .at)) (((c .before .before .before .before .before .before .before .before .before .before .before .before .before .before .before .before .before .before .before .before .before .before .before .before .before .before .before .loop) .area))) (((c .before .before .before .before .before .before .before .before .before .before .before .before .before .before .before .before .before .before .before .before .before .before .before .before .before .before .before .loop) .inv .1 .same)) (((c .before .before .before .before .before .before .before .before .before .before .before .before .before .before .before .before .before .before .before .before .before .before .before .before .before .before .before .loop) .inv .1 .most))) (area-fits c)
+at-most : (c : tie.After-put Inv-loop μ-loop) → ((c .before .before .before .before .before .before .before .before .before .before .before .before .before .before .before .before .before .before .before .before .before .before .before .before .before .before .loop) .at) + (c .put .result) ≤ length ((c .before .before .before .before .before .before .before .before .before .before .before .before .before .before .before .before .before .before .before .before .before .before .before .before .before .before .before .before .before .before .args) .area .now)
+at-most c =
+    cases (eqb (c .put .result) 0) (λ e. let z = eqb-true (c .put .result) 0 e in let m = (on-line (c .before .before .before .before .before .before .before .before .before .before .before .before .before .before .before .before .before .before .before .before .before .before .before .before .before) .1 .most) in omega (arith, z, m))
+    (λ e. let h = eqb-false (c .put .result) 0 e in put-most _ _ (length (told c)) (length (drop (((c .before .before .before .before .before .before .before .before .before .before .before .before .before .before .before .before .before .before .before .before .before .before .before .before .before .before .loop) .at)) (((c .before .before .before .before .before .before .before .before .before .before .before .before .before .before .before .before .before .before .before .before .before .before .before .before .before .before .loop) .area)))) (length (((c .before .before .before .before .before .before .before .before .before .before .before .before .before .before .before .before .before .before .before .before .before .before .before .before .before .before .loop) .area))) _ (count-is c h) (fits-now c h) (length-drop (((c .before .before .before .before .before .before .before .before .before .before .before .before .before .before .before .before .before .before .before .before .before .before .before .before .before .before .loop) .at)) (((c .before .before .before .before .before .before .before .before .before .before .before .before .before .before .before .before .before .before .before .before .before .before .before .before .before .before .loop) .area))) (on-line (c .before .before .before .before .before .before .before .before .before .before .before .before .before .before .before .before .before .before .before .before .before .before .before .before .before) .1 .same) (on-line (c .before .before .before .before .before .before .before .before .before .before .before .before .before .before .before .before .before .before .before .before .before .before .before .before .before) .1 .most))
+
+at-fits : (c : tie.After-put Inv-loop μ-loop) → Fits w64 (((c .before .before .before .before .before .before .before .before .before .before .before .before .before .before .before .before .before .before .before .before .before .before .before .before .before .before .loop) .at) + (c .put .result))
+at-fits c = fits-le (at-most c) (area-fits c)
 
 -- the rest of the area as it was lent, and after
 abbrev after : tie.After-put Inv-loop μ-loop → List ℕ
 after c = (c .put .last .1 .1 .0)
 
-after-is : (c : tie.After-put Inv-loop μ-loop) → after c ≡ cond (leb (length (told c)) (length (drop (((c .before .before .before .before .before .before .before .before .before .before .before .before .before .before .before .before .before .before .before .before .before .before .before .before .before .before .before .loop) .at)) (((c .before .before .before .before .before .before .before .before .before .before .before .before .before .before .before .before .before .before .before .before .before .before .before .before .before .before .before .loop) .area))))) (inFront (told c) (drop (((c .before .before .before .before .before .before .before .before .before .before .before .before .before .before .before .before .before .before .before .before .before .before .before .before .before .before .before .loop) .at)) (((c .before .before .before .before .before .before .before .before .before .before .before .before .before .before .before .before .before .before .before .before .before .before .before .before .before .before .before .loop) .area)))) (drop (((c .before .before .before .before .before .before .before .before .before .before .before .before .before .before .before .before .before .before .before .before .before .before .before .before .before .before .before .loop) .at)) (((c .before .before .before .before .before .before .before .before .before .before .before .before .before .before .before .before .before .before .before .before .before .before .before .before .before .before .before .loop) .area)))
+after-is : (c : tie.After-put Inv-loop μ-loop) → after c ≡ cond (leb (length (told c)) (length (drop (((c .before .before .before .before .before .before .before .before .before .before .before .before .before .before .before .before .before .before .before .before .before .before .before .before .before .before .loop) .at)) (((c .before .before .before .before .before .before .before .before .before .before .before .before .before .before .before .before .before .before .before .before .before .before .before .before .before .before .loop) .area))))) (inFront (told c) (drop (((c .before .before .before .before .before .before .before .before .before .before .before .before .before .before .before .before .before .before .before .before .before .before .before .before .before .before .loop) .at)) (((c .before .before .before .before .before .before .before .before .before .before .before .before .before .before .before .before .before .before .before .before .before .before .before .before .before .before .loop) .area)))) (drop (((c .before .before .before .before .before .before .before .before .before .before .before .before .before .before .before .before .before .before .before .before .before .before .before .before .before .before .loop) .at)) (((c .before .before .before .before .before .before .before .before .before .before .before .before .before .before .before .before .before .before .before .before .before .before .before .before .before .before .loop) .area)))
 after-is c = subst (λ xs. after c ≡ cond (leb (length (told c)) (length xs)) (inFront (told c) xs) xs) (room-is c) ((c .put .ensures .0))
 
-area-after : (c : tie.After-put Inv-loop μ-loop) → ((c .put .result) ≡ 0 → ⊥) → putMid (((c .before .before .before .before .before .before .before .before .before .before .before .before .before .before .before .before .before .before .before .before .before .before .before .before .before .before .before .loop) .at)) (length (((c .before .before .before .before .before .before .before .before .before .before .before .before .before .before .before .before .before .before .before .before .before .before .before .before .before .before .before .loop) .area)) - ((c .before .before .before .before .before .before .before .before .before .before .before .before .before .before .before .before .before .before .before .before .before .before .before .before .before .before .before .loop) .at)) (((c .before .before .before .before .before .before .before .before .before .before .before .before .before .before .before .before .before .before .before .before .before .before .before .before .before .before .before .loop) .area)) (after c) ≡ take (((c .before .before .before .before .before .before .before .before .before .before .before .before .before .before .before .before .before .before .before .before .before .before .before .before .before .before .before .loop) .at)) (((c .before .before .before .before .before .before .before .before .before .before .before .before .before .before .before .before .before .before .before .before .before .before .before .before .before .before .before .loop) .area)) ++ inFront (told c) (drop (((c .before .before .before .before .before .before .before .before .before .before .before .before .before .before .before .before .before .before .before .before .before .before .before .before .before .before .before .loop) .at)) (((c .before .before .before .before .before .before .before .before .before .before .before .before .before .before .before .before .before .before .before .before .before .before .before .before .before .before .before .loop) .area)))
-area-after c h = put-back (((c .before .before .before .before .before .before .before .before .before .before .before .before .before .before .before .before .before .before .before .before .before .before .before .before .before .before .before .loop) .at)) (((c .before .before .before .before .before .before .before .before .before .before .before .before .before .before .before .before .before .before .before .before .before .before .before .before .before .before .before .loop) .area)) (after c) ∙ ap (λ xs. take (((c .before .before .before .before .before .before .before .before .before .before .before .before .before .before .before .before .before .before .before .before .before .before .before .before .before .before .before .loop) .at)) (((c .before .before .before .before .before .before .before .before .before .before .before .before .before .before .before .before .before .before .before .before .before .before .before .before .before .before .before .loop) .area)) ++ xs) (after-is c ∙ rw (fits-now c h))
+area-after : (c : tie.After-put Inv-loop μ-loop) → ((c .put .result) ≡ 0 → ⊥) → putMid (((c .before .before .before .before .before .before .before .before .before .before .before .before .before .before .before .before .before .before .before .before .before .before .before .before .before .before .loop) .at)) (length (((c .before .before .before .before .before .before .before .before .before .before .before .before .before .before .before .before .before .before .before .before .before .before .before .before .before .before .loop) .area)) - ((c .before .before .before .before .before .before .before .before .before .before .before .before .before .before .before .before .before .before .before .before .before .before .before .before .before .before .loop) .at)) (((c .before .before .before .before .before .before .before .before .before .before .before .before .before .before .before .before .before .before .before .before .before .before .before .before .before .before .loop) .area)) (after c) ≡ take (((c .before .before .before .before .before .before .before .before .before .before .before .before .before .before .before .before .before .before .before .before .before .before .before .before .before .before .loop) .at)) (((c .before .before .before .before .before .before .before .before .before .before .before .before .before .before .before .before .before .before .before .before .before .before .before .before .before .before .loop) .area)) ++ inFront (told c) (drop (((c .before .before .before .before .before .before .before .before .before .before .before .before .before .before .before .before .before .before .before .before .before .before .before .before .before .before .loop) .at)) (((c .before .before .before .before .before .before .before .before .before .before .before .before .before .before .before .before .before .before .before .before .before .before .before .before .before .before .loop) .area)))
+area-after c h = put-back (((c .before .before .before .before .before .before .before .before .before .before .before .before .before .before .before .before .before .before .before .before .before .before .before .before .before .before .loop) .at)) (((c .before .before .before .before .before .before .before .before .before .before .before .before .before .before .before .before .before .before .before .before .before .before .before .before .before .before .loop) .area)) (after c) ∙ ap (λ xs. take (((c .before .before .before .before .before .before .before .before .before .before .before .before .before .before .before .before .before .before .before .before .before .before .before .before .before .before .loop) .at)) (((c .before .before .before .before .before .before .before .before .before .before .before .before .before .before .before .before .before .before .before .before .before .before .before .before .before .before .loop) .area)) ++ xs) (after-is c ∙ rw (fits-now c h))
 
-area-same : (c : tie.After-put Inv-loop μ-loop) → (c .put .result) ≡ 0 → putMid (((c .before .before .before .before .before .before .before .before .before .before .before .before .before .before .before .before .before .before .before .before .before .before .before .before .before .before .before .loop) .at)) (length (((c .before .before .before .before .before .before .before .before .before .before .before .before .before .before .before .before .before .before .before .before .before .before .before .before .before .before .before .loop) .area)) - ((c .before .before .before .before .before .before .before .before .before .before .before .before .before .before .before .before .before .before .before .before .before .before .before .before .before .before .before .loop) .at)) (((c .before .before .before .before .before .before .before .before .before .before .before .before .before .before .before .before .before .before .before .before .before .before .before .before .before .before .before .loop) .area)) (after c) ≡ ((c .before .before .before .before .before .before .before .before .before .before .before .before .before .before .before .before .before .before .before .before .before .before .before .before .before .before .before .loop) .area)
-area-same c e = put-back (((c .before .before .before .before .before .before .before .before .before .before .before .before .before .before .before .before .before .before .before .before .before .before .before .before .before .before .before .loop) .at)) (((c .before .before .before .before .before .before .before .before .before .before .before .before .before .before .before .before .before .before .before .before .before .before .before .before .before .before .before .loop) .area)) (after c) ∙ ap (λ xs. take (((c .before .before .before .before .before .before .before .before .before .before .before .before .before .before .before .before .before .before .before .before .before .before .before .before .before .before .before .loop) .at)) (((c .before .before .before .before .before .before .before .before .before .before .before .before .before .before .before .before .before .before .before .before .before .before .before .before .before .before .before .loop) .area)) ++ xs) (after-is c ∙ rw (unfit-now c e)) ∙ take-append-drop (((c .before .before .before .before .before .before .before .before .before .before .before .before .before .before .before .before .before .before .before .before .before .before .before .before .before .before .before .loop) .at)) (((c .before .before .before .before .before .before .before .before .before .before .before .before .before .before .before .before .before .before .before .before .before .before .before .before .before .before .before .loop) .area))
+area-same : (c : tie.After-put Inv-loop μ-loop) → (c .put .result) ≡ 0 → putMid (((c .before .before .before .before .before .before .before .before .before .before .before .before .before .before .before .before .before .before .before .before .before .before .before .before .before .before .loop) .at)) (length (((c .before .before .before .before .before .before .before .before .before .before .before .before .before .before .before .before .before .before .before .before .before .before .before .before .before .before .loop) .area)) - ((c .before .before .before .before .before .before .before .before .before .before .before .before .before .before .before .before .before .before .before .before .before .before .before .before .before .before .loop) .at)) (((c .before .before .before .before .before .before .before .before .before .before .before .before .before .before .before .before .before .before .before .before .before .before .before .before .before .before .loop) .area)) (after c) ≡ ((c .before .before .before .before .before .before .before .before .before .before .before .before .before .before .before .before .before .before .before .before .before .before .before .before .before .before .loop) .area)
+area-same c e = put-back (((c .before .before .before .before .before .before .before .before .before .before .before .before .before .before .before .before .before .before .before .before .before .before .before .before .before .before .loop) .at)) (((c .before .before .before .before .before .before .before .before .before .before .before .before .before .before .before .before .before .before .before .before .before .before .before .before .before .before .loop) .area)) (after c) ∙ ap (λ xs. take (((c .before .before .before .before .before .before .before .before .before .before .before .before .before .before .before .before .before .before .before .before .before .before .before .before .before .before .loop) .at)) (((c .before .before .before .before .before .before .before .before .before .before .before .before .before .before .before .before .before .before .before .before .before .before .before .before .before .before .loop) .area)) ++ xs) (after-is c ∙ rw (unfit-now c e)) ∙ take-append-drop (((c .before .before .before .before .before .before .before .before .before .before .before .before .before .before .before .before .before .before .before .before .before .before .before .before .before .before .loop) .at)) (((c .before .before .before .before .before .before .before .before .before .before .before .before .before .before .before .before .before .before .before .before .before .before .before .before .before .before .loop) .area))
 
 going-on : (c : tie.After-put Inv-loop μ-loop) → ((c .put .result) ≡ 0 → ⊥)
-    → Going (((c .before .before .before .before .before .before .before .before .before .before .before .before .before .before .before .before .before .before .before .before .before .before .before .before .before .before .before .before .before .before .args) .reserve)) (((c .before .before .before .before .before .before .before .before .before .before .before .before .before .before .before .before .before .before .before .before .before .before .before .before .before .before .before .before .before .before .args) .sheet .now)) (((c .before .before .before .before .before .before .before .before .before .before .before .before .before .before .before .before .before .before .before .before .before .before .before .before .before .before .before .before .before .before .args) .from)) (((c .before .before .before .before .before .before .before .before .before .before .before .before .before .before .before .before .before .before .before .before .before .before .before .before .before .before .before .before .before .before .args) .area .now)) (((c .before .before .before .before .before .before .before .before .before .before .before .before .before .before .before .before .before .before .before .before .before .before .before .before .before .before .before .before .before .before .args) .start)) (putMid (((c .before .before .before .before .before .before .before .before .before .before .before .before .before .before .before .before .before .before .before .before .before .before .before .before .before .before .before .loop) .at)) (length (((c .before .before .before .before .before .before .before .before .before .before .before .before .before .before .before .before .before .before .before .before .before .before .before .before .before .before .before .loop) .area)) - ((c .before .before .before .before .before .before .before .before .before .before .before .before .before .before .before .before .before .before .before .before .before .before .before .before .before .before .before .loop) .at)) (((c .before .before .before .before .before .before .before .before .before .before .before .before .before .before .before .before .before .before .before .before .before .before .before .before .before .before .before .loop) .area)) (after c)) (((c .before .before .before .before .before .before .before .before .before .before .if8) .p)) (((c .before .before .before .before .before .before .before .before .tallied) .result)) (((c .before .before .before .before .before .before .before .before .before .before .before .before .before .before .before .before .before .before .before .before .before .before .before .before .before .before .before .loop) .at) + (c .put .result)) ((((c .before .before .before .before .before .before .before .before .before .before .before .before .before .before .before .before .before .before .before .before .before .before .before .before .before .before .before .loop) .i) + ((c .before .before .before .before .before .before .before .before .before .before .before .before .before .before .before .before .before .before .before .before .before .before .before .read-line) .result .end)) + 1)
+    → Going (((c .before .before .before .before .before .before .before .before .before .before .before .before .before .before .before .before .before .before .before .before .before .before .before .before .before .before .before .before .before .before .args) .reserve)) (((c .before .before .before .before .before .before .before .before .before .before .before .before .before .before .before .before .before .before .before .before .before .before .before .before .before .before .before .before .before .before .args) .sheet .now)) (((c .before .before .before .before .before .before .before .before .before .before .before .before .before .before .before .before .before .before .before .before .before .before .before .before .before .before .before .before .before .before .args) .from)) (((c .before .before .before .before .before .before .before .before .before .before .before .before .before .before .before .before .before .before .before .before .before .before .before .before .before .before .before .before .before .before .args) .area .now)) (((c .before .before .before .before .before .before .before .before .before .before .before .before .before .before .before .before .before .before .before .before .before .before .before .before .before .before .before .before .before .before .args) .t1)) (putMid (((c .before .before .before .before .before .before .before .before .before .before .before .before .before .before .before .before .before .before .before .before .before .before .before .before .before .before .loop) .at)) (length (((c .before .before .before .before .before .before .before .before .before .before .before .before .before .before .before .before .before .before .before .before .before .before .before .before .before .before .loop) .area)) - ((c .before .before .before .before .before .before .before .before .before .before .before .before .before .before .before .before .before .before .before .before .before .before .before .before .before .before .loop) .at)) (((c .before .before .before .before .before .before .before .before .before .before .before .before .before .before .before .before .before .before .before .before .before .before .before .before .before .before .loop) .area)) (after c)) (((c .before .before .before .before .before .before .before .before .before .before .if7) .p)) (c .before .before .before .before .before .before .before .before .if8 .t) (((c .before .before .before .before .before .before .before .before .before .before .before .before .before .before .before .before .before .before .before .before .before .before .before .before .before .before .loop) .at) + (c .put .result)) ((((c .before .before .before .before .before .before .before .before .before .before .before .before .before .before .before .before .before .before .before .before .before .before .before .before .before .before .loop) .i) + ((c .before .before .before .before .before .before .before .before .before .before .before .before .before .before .before .before .before .before .before .before .before .before .before .read-line) .result .end)) + 1)
 going-on c h =
-    moved (area-after c h) (ap (λ n. ((c .before .before .before .before .before .before .before .before .before .before .before .before .before .before .before .before .before .before .before .before .before .before .before .before .before .before .before .loop) .at) + n) (count-is c h)) (ap (λ n. n + 1) (end-is ((c .before .before .before .before .before .before .before .before .before .before .before .before .before .before .before .before .before .before .before .before .before .before .before))))
-    (next-line _ _ _ _ _ _ _ _ _ _ (((c .before .before .before .before .before .before .before .before .before .before .before .before .before .before .before .before .before .before .before .before .before .before .before .before .before .before .before .loop) .inv .1)) (((c .before .before .before .before .before .before .before .before .before .before .before .before .before .before .before .before .before .before .before .before .before .before .before .before .before .before .loop-test) .taken)) (enough c) (((c .before .before .before .before .before .before .before .before .before .before .if8) .p)) (((c .before .before .before .before .before .before .before .before .tallied) .result)) (told c) (told-is c) (left-is c) (fits-now c h) ((joined ((c .before .before .before .before .before .before .before .before .before .before))) .1) (long-now c) (counted-now c))
+    moved (area-after c h) (ap (λ n. ((c .before .before .before .before .before .before .before .before .before .before .before .before .before .before .before .before .before .before .before .before .before .before .before .before .before .before .loop) .at) + n) (count-is c h)) (ap (λ n. n + 1) (end-is ((c .before .before .before .before .before .before .before .before .before .before .before .before .before .before .before .before .before .before .before .before .before .before .before))))
+    (next-line _ _ _ _ _ _ _ _ _ _ ((on-line (c .before .before .before .before .before .before .before .before .before .before .before .before .before .before .before .before .before .before .before .before .before .before .before .before .before) .1)) (begun (c .before .before .before .before .before .before .before .before .before .before .before .before .before .before .before .before .before .before .before .before .before .before .before .before .before)) (enough c) (((c .before .before .before .before .before .before .before .before .before .before .if7) .p)) (c .before .before .before .before .before .before .before .before .if8 .t) (told c) (told-is c) (left-is c) (fits-now c h) ((joined ((c .before .before .before .before .before .before .before .before .before .before))) .1) (long-now (c .before .before .before .before .before .before .before .before)) (counted-now (c .before .before .before .before .before .before .before .before)))
 
 ending : (c : tie.After-put Inv-loop μ-loop) → (c .put .result) ≡ 0
-    → Advanced (((c .before .before .before .before .before .before .before .before .before .before .before .before .before .before .before .before .before .before .before .before .before .before .before .before .before .before .before .before .before .before .args) .reserve)) (((c .before .before .before .before .before .before .before .before .before .before .before .before .before .before .before .before .before .before .before .before .before .before .before .before .before .before .before .before .before .before .args) .sheet .now)) (((c .before .before .before .before .before .before .before .before .before .before .before .before .before .before .before .before .before .before .before .before .before .before .before .before .before .before .before .before .before .before .args) .from)) (((c .before .before .before .before .before .before .before .before .before .before .before .before .before .before .before .before .before .before .before .before .before .before .before .before .before .before .before .before .before .before .args) .start)) (((c .before .before .before .before .before .before .before .before .before .before .before .before .before .before .before .before .before .before .before .before .before .before .before .before .before .before .before .before .before .before .args) .area .now)) (record { state = ((c .before .before .before .before .before .before .before .before .before .before .if8) .p); next = (((c .before .before .before .before .before .before .before .before .before .before .before .before .before .before .before .before .before .before .before .before .before .before .before .before .before .before .before .loop) .i) + ((c .before .before .before .before .before .before .before .before .before .before .before .before .before .before .before .before .before .before .before .before .before .before .before .read-line) .result .end)) + 1; written = ((c .before .before .before .before .before .before .before .before .before .before .before .before .before .before .before .before .before .before .before .before .before .before .before .before .before .before .before .loop) .at); ended = true }) (putMid (((c .before .before .before .before .before .before .before .before .before .before .before .before .before .before .before .before .before .before .before .before .before .before .before .before .before .before .before .loop) .at)) (length (((c .before .before .before .before .before .before .before .before .before .before .before .before .before .before .before .before .before .before .before .before .before .before .before .before .before .before .before .loop) .area)) - ((c .before .before .before .before .before .before .before .before .before .before .before .before .before .before .before .before .before .before .before .before .before .before .before .before .before .before .before .loop) .at)) (((c .before .before .before .before .before .before .before .before .before .before .before .before .before .before .before .before .before .before .before .before .before .before .before .before .before .before .before .loop) .area)) (after c))
+    → Advanced (((c .before .before .before .before .before .before .before .before .before .before .before .before .before .before .before .before .before .before .before .before .before .before .before .before .before .before .before .before .before .before .args) .reserve)) (((c .before .before .before .before .before .before .before .before .before .before .before .before .before .before .before .before .before .before .before .before .before .before .before .before .before .before .before .before .before .before .args) .sheet .now)) (((c .before .before .before .before .before .before .before .before .before .before .before .before .before .before .before .before .before .before .before .before .before .before .before .before .before .before .before .before .before .before .args) .from)) (((c .before .before .before .before .before .before .before .before .before .before .before .before .before .before .before .before .before .before .before .before .before .before .before .before .before .before .before .before .before .before .args) .t1)) (((c .before .before .before .before .before .before .before .before .before .before .before .before .before .before .before .before .before .before .before .before .before .before .before .before .before .before .before .before .before .before .args) .area .now)) (record { state = ((c .before .before .before .before .before .before .before .before .before .before .if7) .p); next = (((c .before .before .before .before .before .before .before .before .before .before .before .before .before .before .before .before .before .before .before .before .before .before .before .before .before .before .loop) .i) + ((c .before .before .before .before .before .before .before .before .before .before .before .before .before .before .before .before .before .before .before .before .before .before .before .read-line) .result .end)) + 1; written = ((c .before .before .before .before .before .before .before .before .before .before .before .before .before .before .before .before .before .before .before .before .before .before .before .before .before .before .loop) .at); ended = true }) (putMid (((c .before .before .before .before .before .before .before .before .before .before .before .before .before .before .before .before .before .before .before .before .before .before .before .before .before .before .loop) .at)) (length (((c .before .before .before .before .before .before .before .before .before .before .before .before .before .before .before .before .before .before .before .before .before .before .before .before .before .before .loop) .area)) - ((c .before .before .before .before .before .before .before .before .before .before .before .before .before .before .before .before .before .before .before .before .before .before .before .before .before .before .loop) .at)) (((c .before .before .before .before .before .before .before .before .before .before .before .before .before .before .before .before .before .before .before .before .before .before .before .before .before .before .loop) .area)) (after c))
 ending c e =
     ended-at (area-same c e) (ap (λ n. n + 1) (end-is ((c .before .before .before .before .before .before .before .before .before .before .before .before .before .before .before .before .before .before .before .before .before .before .before))))
-    (unfit _ _ _ _ _ _ _ _ _ _ (((c .before .before .before .before .before .before .before .before .before .before .before .before .before .before .before .before .before .before .before .before .before .before .before .before .before .before .before .loop) .inv .1)) (((c .before .before .before .before .before .before .before .before .before .before .before .before .before .before .before .before .before .before .before .before .before .before .before .before .before .before .loop-test) .taken)) (enough c) (((c .before .before .before .before .before .before .before .before .before .before .if8) .p)) (((c .before .before .before .before .before .before .before .before .tallied) .result)) (told c) (told-is c) (left-is c) (unfit-now c e))
+    (unfit _ _ _ _ _ _ _ _ _ _ ((on-line (c .before .before .before .before .before .before .before .before .before .before .before .before .before .before .before .before .before .before .before .before .before .before .before .before .before) .1)) (begun (c .before .before .before .before .before .before .before .before .before .before .before .before .before .before .before .before .before .before .before .before .before .before .before .before .before)) (enough c) (((c .before .before .before .before .before .before .before .before .before .before .if7) .p)) (c .before .before .before .before .before .before .before .before .if8 .t) (told c) (told-is c) (left-is c) (unfit-now c e))
 
 -- the area's length stays
-same-after : (c : tie.After-put Inv-loop μ-loop) → (c .put .result) ≡ 0 → length (putMid (((c .before .before .before .before .before .before .before .before .before .before .before .before .before .before .before .before .before .before .before .before .before .before .before .before .before .before .before .loop) .at)) (length (((c .before .before .before .before .before .before .before .before .before .before .before .before .before .before .before .before .before .before .before .before .before .before .before .before .before .before .before .loop) .area)) - ((c .before .before .before .before .before .before .before .before .before .before .before .before .before .before .before .before .before .before .before .before .before .before .before .before .before .before .before .loop) .at)) (((c .before .before .before .before .before .before .before .before .before .before .before .before .before .before .before .before .before .before .before .before .before .before .before .before .before .before .before .loop) .area)) (after c)) ≡ length (((c .before .before .before .before .before .before .before .before .before .before .before .before .before .before .before .before .before .before .before .before .before .before .before .before .before .before .before .before .before .before .args) .area .now))
-same-after c e = ap length (area-same c e) ∙ ((c .before .before .before .before .before .before .before .before .before .before .before .before .before .before .before .before .before .before .before .before .before .before .before .before .before .before .before .loop) .inv .1 .same)
+same-now : (c : tie.After-put Inv-loop μ-loop) → length (putMid (((c .before .before .before .before .before .before .before .before .before .before .before .before .before .before .before .before .before .before .before .before .before .before .before .before .before .before .loop) .at)) (length (((c .before .before .before .before .before .before .before .before .before .before .before .before .before .before .before .before .before .before .before .before .before .before .before .before .before .before .loop) .area)) - ((c .before .before .before .before .before .before .before .before .before .before .before .before .before .before .before .before .before .before .before .before .before .before .before .before .before .before .loop) .at)) (((c .before .before .before .before .before .before .before .before .before .before .before .before .before .before .before .before .before .before .before .before .before .before .before .before .before .before .loop) .area)) (after c)) ≡ length (((c .before .before .before .before .before .before .before .before .before .before .before .before .before .before .before .before .before .before .before .before .before .before .before .before .before .before .before .before .before .before .args) .area .now))
+same-now c = cases (eqb (c .put .result) 0) (λ e. ap length (area-same c (eqb-true (c .put .result) 0 e)) ∙ (on-line (c .before .before .before .before .before .before .before .before .before .before .before .before .before .before .before .before .before .before .before .before .before .before .before .before .before) .1 .same)) (λ e. going-on c (eqb-false (c .put .result) 0 e) .same)
+
+last-requires : tie.Need-last-requires Inv-loop μ-loop
+last-requires c κs = search needs
 
 loop-holds : tie.Need-loop-holds Inv-loop μ-loop
 loop-holds c =
-    let s = ((c .before .before)) in
-    (s .pre .1, begins (s .args .reserve) (s .args .sheet .now) (s .args .from) (s .args .area .now) (s .args .start) (s .args .counts) (owned-sized (s .args .start) (s .good .0)) (counts-long s) (s .pre .0))
-
-sub-if1 : tie.Need-sub-if1 Inv-loop μ-loop
-sub-if1 c = let g = ((c .before .loop) .inv .1) in le-same (g .most) (g .same)
-
-same-length : tie.Need-same-length Inv-loop μ-loop
-same-length c = ((c .before .before .loop) .inv .1 .same)
-
-returns : tie.Need-returns Inv-loop μ-loop
-returns c =
-    paused _ _ _ _ _ _ _ _ _ _ (((c .before .before .loop) .inv .1)) (((c .before .loop-test) .taken)) (subst (λ n. n - ((c .before .before .loop) .at) < ((c .before .before .before .before .before .args) .reserve)) (((c .before .before .loop) .inv .1 .same)) ((c .if1 .taken)))
+    let s = (c .before .before .before) in
+    record {
+      same = refl;
+      last = (c .last .ensures) ∙ (let z : length (s .args .area .now) ≡ length (s .args .area .now) - 0 = omega arith in ap (λ n. lastOf (length (s .args .sheet .now)) false n (s .args .reserve)) z);
+      over = λ e. absurd (is-yes e);
+      under = λ e. (s .pre .1, begins (s .args .reserve) (s .args .sheet .now) (s .args .from) (s .args .area .now) (s .args .t1) (s .args .t2) (owned-sized (s .args .t1) (s .good .0)) (counts-long s) (s .pre .0));
+    }
 
 sub-read-line : tie.Need-sub-read-line Inv-loop μ-loop
-sub-read-line c = let h = ((c .before .loop-test) .taken) in omega (arith, h)
+sub-read-line c = let h = (begun (c)) in omega (arith, h)
 
 part-read-line-start : tie.Need-part-read-line-start Inv-loop μ-loop
-part-read-line-start c = let h = ((c .before .loop-test) .taken) in omega (arith, h)
+part-read-line-start c = let h = (begun (c)) in omega (arith, h)
 
 part-read-line-end : tie.Need-part-read-line-end Inv-loop μ-loop
 part-read-line-end c = le-self _
@@ -669,6 +690,9 @@ send-edits-requires c κs = search needs
 element-write-p : tie.Need-element-write-p Inv-loop μ-loop
 element-write-p c = omega arith
 
+moves-requires : tie.Need-moves-requires Inv-loop μ-loop
+moves-requires c κs = search needs
+
 index-requires-2 : tie.Need-index-requires-2 Inv-loop μ-loop
 index-requires-2 c κs = search needs
 
@@ -681,14 +705,14 @@ element-copy-out-unsent-2 c = omega arith
 move-frame-requires : tie.Need-move-frame-requires Inv-loop μ-loop
 move-frame-requires c κs = search needs
 
+draws-requires : tie.Need-draws-requires Inv-loop μ-loop
+draws-requires c κs = search needs
+
 draw-up-requires : tie.Need-draw-up-requires Inv-loop μ-loop
 draw-up-requires c κs = search needs
 
-moves-requires : tie.Need-moves-requires Inv-loop μ-loop
-moves-requires c κs = search needs
-
-draws-requires : tie.Need-draws-requires Inv-loop μ-loop
-draws-requires c κs = search needs
+moves-counts-requires : tie.Need-moves-counts-requires Inv-loop μ-loop
+moves-counts-requires c κs = search needs
 
 moved-op-requires : tie.Need-moved-op-requires Inv-loop μ-loop
 moved-op-requires c κs = search needs
@@ -716,11 +740,11 @@ part-put-end c =
 
 sub-put-2 : tie.Need-sub-put-2 Inv-loop μ-loop
 sub-put-2 c =
-    let g = ((c .before .before .before .before .before .before .before .before .before .before .before .before .before .before .before .before .before .before .before .before .before .before .before .before .before .loop) .inv .1) in le-same (g .most) (g .same)
+    let g = (on-line (c .before .before .before .before .before .before .before .before .before .before .before .before .before .before .before .before .before .before .before .before .before .before .before) .1) in le-same (g .most) (g .same)
 
 part-put-start-2 : tie.Need-part-put-start-2 Inv-loop μ-loop
 part-put-start-2 c =
-    let g = ((c .before .before .before .before .before .before .before .before .before .before .before .before .before .before .before .before .before .before .before .before .before .before .before .before .before .loop) .inv .1) in le-same (g .most) (g .same)
+    let g = (on-line (c .before .before .before .before .before .before .before .before .before .before .before .before .before .before .before .before .before .before .before .before .before .before .before) .1) in le-same (g .most) (g .same)
 
 part-put-end-2 : tie.Need-part-put-end-2 Inv-loop μ-loop
 part-put-end-2 c = le-self _
@@ -728,35 +752,37 @@ part-put-end-2 c = le-self _
 put-requires : tie.Need-put-requires Inv-loop μ-loop
 put-requires c κs = search needs
 
-add-t180 : tie.Need-add-t180 Inv-loop μ-loop
-add-t180 c =
-    end-fits ((c .before .before .before .before .before .before .before .before .before .before .before .before .before .before .before .before .before .before .before .before .before .before .before .before .before .before))
-
-same-length-2 : tie.Need-same-length-2 Inv-loop μ-loop
-same-length-2 c = same-after ((c .before .before .before)) ((c .if9 .taken))
-
-returns-2 : tie.Need-returns-2 Inv-loop μ-loop
-returns-2 c = ending ((c .before .before .before)) ((c .if9 .taken))
-
 add-at : tie.Need-add-at Inv-loop μ-loop
-add-at c = at-fits ((c .before .before .before)) ((c .if9 .left))
+add-at c = at-fits (c .before .before)
 
 add-i : tie.Need-add-i Inv-loop μ-loop
 add-i c =
-    end-fits ((c .before .before .before .before .before .before .before .before .before .before .before .before .before .before .before .before .before .before .before .before .before .before .before .before .before .before))
+    end-fits ((c .before .before .before .before .before .before .before .before .before .before .before .before .before .before .before .before .before .before .before .before .before .before .before .before .before))
+
+sub-last : tie.Need-sub-last Inv-loop μ-loop
+sub-last c = le-same (at-most (c .before .before)) (same-now (c .before .before))
+
+last-requires-2 : tie.Need-last-requires-2 Inv-loop μ-loop
+last-requires-2 c κs = search needs
 
 loop-less : tie.Need-loop-less Inv-loop μ-loop
 loop-less c =
     nearer ((c .before .before .before .before .before .before .before .before .before .before .before .before .before .before .before .before .before .before .before .before .before .before .before .before .before .before))
 
 loop-again : tie.Need-loop-again Inv-loop μ-loop
-loop-again c = (sound-made (joined ((c .before .before .before .before .before .before .before .before .before .before .before .before .before)) .0) ((c .before .before .before .before .before .before .before .before .before .before .before .before .before .before .before .before .before .before .before .before .before .before .before .before .before .before .before .before .before .before .loop) .inv .0), going-on ((c .before .before .before)) ((c .if9 .left)))
+loop-again c =
+    record {
+      same = same-now (c .before .before .before);
+      last = (c .last2 .ensures);
+      over = λ e. ended-with (eqb-true _ 0 e) (ending (c .before .before .before) (eqb-true _ 0 e));
+      under = λ e. (sound-made (joined (c .before .before .before .before .before .before .before .before .before .before .before .before .before) .0) (on-line (c .before .before .before .before .before .before .before .before .before .before .before .before .before .before .before .before .before .before .before .before .before .before .before .before .before .before .before .before) .0), going-on (c .before .before .before) (eqb-false _ 0 e));
+    }
 
-same-length-3 : tie.Need-same-length-3 Inv-loop μ-loop
-same-length-3 c = ((c .before .loop) .inv .1 .same)
+same-length : tie.Need-same-length Inv-loop μ-loop
+same-length c = (c .before .loop .inv .same)
 
-returns-3 : tie.Need-returns-3 Inv-loop μ-loop
-returns-3 c = over _ _ _ _ _ _ _ _ _ _ (((c .before .loop) .inv .1)) ((c .loop-test .left))
+returns : tie.Need-returns Inv-loop μ-loop
+returns c = finished (c .before .loop .inv) (c .loop-test .left)
 
 pub go-spec : {M : Type 1} → statement M
 go-spec =
@@ -764,10 +790,8 @@ go-spec =
     (tie.spec
     Inv-loop
     μ-loop
+    last-requires
     loop-holds
-    sub-if1
-    same-length
-    returns
     sub-read-line
     part-read-line-start
     part-read-line-end
@@ -834,6 +858,7 @@ go-spec =
     move-frame-requires
     draws-requires
     draw-up-requires
+    moves-counts-requires
     moved-op-requires
     tallied-requires
     add-put
@@ -845,12 +870,11 @@ go-spec =
     part-put-start-2
     part-put-end-2
     put-requires
-    add-t180
-    same-length-2
-    returns-2
     add-at
     add-i
+    sub-last
+    last-requires-2
     loop-less
     loop-again
-    same-length-3
-    returns-3)
+    same-length
+    returns)
