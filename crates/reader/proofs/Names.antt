@@ -4,32 +4,28 @@ use native.Mathlib.Omega.{arith}
 use native.Mathlib.Numerals.{add-one}
 use native.Mathlib.Nat.{pow-le-pow-right, mul-le-mul-right, mul-assoc}
 use mathlib.Core.Bool.{Bool, true, false, cond, _&&_}
-use mathlib.Core.Path.{_≡_, refl, sym, ap, ap₂, _∙_}
-use mathlib.Core.List.{List, [], _∷_}
-use mathlib.Core.Option.{some}
-use borrow.Author.Tests.{eqb-true, eq-eqb, ne-eqb, leb-true, le-leb, lt-leb, ltb-true, ltb-false}
+use mathlib.Core.Path.{_≡_, refl, sym, ap, ap₂, _∙_, subst}
+use mathlib.Core.List.{List, [], _∷_, _++_}
+use borrow.Author.Tests.{eqb-true, eq-eqb, ne-eqb, leb-true, leb-false, ltb-true, ltb-false}
 use lib.Dec.{eqb, leb, ltb}
-use lib.ListN.{length, getD}
+use lib.ListN.{length, getD, take, List·getD-eq-default}
+use lib.Seq.{take-suc, length-take-le}
 use Rattle.protocol.specs.Lists.{all}
 use Rattle.protocol.proofs.Laws.{cases}
-use Rattle.format.specs.Lines.{Form, forms, space, sameBytes}
+use Rattle.format.specs.Lines.{Form, forms, space, lineFeed, sameBytes}
 use Rattle.format.proofs.Digits.{and-true}
-use Rattle.reader.specs.Cut.{upTo}
-use Rattle.reader.specs.Reads.{wordAt, place, opOf, packedBehind, placeOfCode}
-use Rattle.reader.proofs.Cuts.{upTo-next}
+use Rattle.reader.specs.Cut.{firstLine}
+use Rattle.reader.specs.Reads.{wordAt, isEnd, place, opOf, packedBehind, placeOfCode}
+use Rattle.reader.proofs.Cuts.{upTo-length}
 
 abbrev pub Bytes : List ℕ → Type 0
 Bytes bs = (k : ℕ) → getD bs k 0 < 256
 
-pub upTo-bytes : (b : ℕ) (xs : List ℕ) → Bytes xs → Bytes (upTo b xs)
-upTo-bytes b [] h k = h k
-upTo-bytes b (x ∷ xs) h k =
-    let ih = upTo-bytes b xs (λ j. h (suc j)) in
-    cases (eqb x b) (λ t. rw t (omega arith)) (λ t. rw t (at ih k))
-  where
-    at : Bytes (upTo b xs) → Bytes (x ∷ upTo b xs)
-    at ih zero = h 0
-    at ih (suc j) = ih j
+pub take-bytes : (n : ℕ) (xs : List ℕ) → Bytes xs → Bytes (take n xs)
+take-bytes zero xs h k = omega arith
+take-bytes (suc n) [] h k = h k
+take-bytes (suc n) (x ∷ xs) h zero = h 0
+take-bytes (suc n) (x ∷ xs) h (suc k) = take-bytes n xs (λ j. h (suc j)) k
 
 -- ---- packing is injective
 
@@ -93,10 +89,6 @@ packed-injective xs ys p q e = cases (ltb (length xs) (length ys))
 
 -- ---- a name's code
 
--- packed, if it is as short as some call's name
-abbrev pub codeOf : List ℕ → ℕ
-codeOf w = cond (leb (length w) 7) (packedBehind 1 w) 0
-
 same-is : (xs ys : List ℕ) → sameBytes xs ys ≡ true → xs ≡ ys
 same-is [] [] e = refl
 same-is [] (y ∷ ys) e = let z : _≡_ {A = Bool} false true = e in cc
@@ -109,47 +101,32 @@ same-self : (xs : List ℕ) → sameBytes xs xs ≡ true
 same-self [] = refl
 same-self (x ∷ xs) = rw (eq-eqb x x refl) (same-self xs)
 
--- what holds of the fourteen names
-abbrev pub short : Form → Bool
-short f = leb (length (f .name)) 7 && all (λ b. ltb b 256) (f .name)
+abbrev pub ofBytes : List ℕ → Bool
+ofBytes bs = all (λ b. ltb b 256) bs
 
-all-bytes : (bs : List ℕ) → all (λ b. ltb b 256) bs ≡ true → Bytes bs
+all-bytes : (bs : List ℕ) → ofBytes bs ≡ true → Bytes bs
 all-bytes [] e k = omega arith
-all-bytes (b ∷ bs) e zero = ltb-true b 256 (and-true (ltb b 256) (all (λ x. ltb x 256) bs) e .0)
-all-bytes (b ∷ bs) e (suc k) = all-bytes bs (and-true (ltb b 256) (all (λ x. ltb x 256) bs) e .1) k
+all-bytes (b ∷ bs) e zero = ltb-true b 256 (and-true (ltb b 256) (ofBytes bs) e .0)
+all-bytes (b ∷ bs) e (suc k) = all-bytes bs (and-true (ltb b 256) (ofBytes bs) e .1) k
 
-pub same-code : (w : List ℕ) (f : Form) → Bytes w → short f ≡ true → sameBytes w (f .name) ≡ eqb (codeOf w) (packedBehind 1 (f .name))
-same-code w f h e =
-    let n = f .name in
-    let s = and-true (leb (length n) 7) (all (λ b. ltb b 256) n) e in
-    let l = leb-true (length n) 7 (s .0) in
-    cases (sameBytes w n)
-    (λ t.
-    let q = same-is w n t in
-    rw (t, q, s .0) (sym (eq-eqb (packedBehind 1 n) (packedBehind 1 n) refl)))
-    (λ t. rw t (sym (ne-eqb (codeOf w) (packedBehind 1 n) (other n t (all-bytes n (s .1))))))
-  where
-    other : (n : List ℕ) → sameBytes w n ≡ false → Bytes n → codeOf w ≡ packedBehind 1 n → ⊥
-    other n t b q = cases (leb (length w) 7)
-        (λ u.
-        let i = packed-injective w n h b (rw u at q) in
-        let z : _≡_ {A = Bool} true false = sym (same-self w) ∙ ap (sameBytes w) i ∙ t in
-        let o : _≡_ {A = ℕ} 0 1 = cc in
-        omega arith)
-        (λ u.
-        let i : 0 ≡ packedBehind 1 n = rw u at q in
-        let m = packed-least 1 n in
-        let p = pow-le-pow-right {n = 256} (omega arith) {i = 0} {j = length n} (omega arith) in
-        omega arith)
+same-code : (w n : List ℕ) → Bytes w → Bytes n → sameBytes w n ≡ eqb (packedBehind 1 w) (packedBehind 1 n)
+same-code w n h b = cases (sameBytes w n)
+    (λ t. rw t (sym (eq-eqb (packedBehind 1 w) (packedBehind 1 n) (ap (packedBehind 1) (same-is w n t)))))
+    (λ t. rw t (sym (ne-eqb (packedBehind 1 w) (packedBehind 1 n) (λ q.
+    let z : _≡_ {A = Bool} true false = sym (same-self w) ∙ ap (sameBytes w) (packed-injective w n h b q) ∙ t in
+    let o : _≡_ {A = ℕ} 0 1 = cc in
+    omega arith))))
 
-pub place-code : (w : List ℕ) (fs : List Form) → Bytes w → all short fs ≡ true → place w fs ≡ placeOfCode (codeOf w) fs
+place-code : (w : List ℕ) (fs : List Form) → Bytes w → all (λ f. ofBytes (f .name)) fs ≡ true → place w fs ≡ placeOfCode (packedBehind 1 w) fs
 place-code w [] h e = refl
 place-code w (f ∷ fs) h e =
-    let s = and-true (short f) (all short fs) e in
-    rw (same-code w f h (s .0), place-code w fs h (s .1))
+    let s = and-true (ofBytes (f .name)) (all (λ g. ofBytes (g .name)) fs) e in
+    rw (same-code w (f .name) h (all-bytes (f .name) (s .0)), place-code w fs h (s .1))
 
-pub forms-short : all short forms ≡ true
-forms-short = refl
+-- the call of a code is the call of the bytes that it packs
+pub op-code : (w : List ℕ) → Bytes w → opOf w ≡ placeOfCode (packedBehind 1 w) forms
+unfolding opOf
+op-code w h = place-code w forms h refl
 
 -- a code that is no name's, in the form in which the last arm of a match knows it
 abbrev pub Missing : Type 0 → ℕ → List Form → Type 0
@@ -166,39 +143,128 @@ no-place P code (f ∷ fs) m =
     let Q = P × (code ≡ packedBehind 1 (f .name) → ⊥) in
     rw (ne-eqb code (packedBehind 1 (f .name)) (known-before Q code fs m .1), no-place Q code fs m)
 
+-- ---- the first word of a sheet
+
+abbrev pub wordIn : List ℕ → List ℕ
+wordIn bs = wordAt (firstLine bs) 0
+
+word-step : (x : ℕ) (xs : List ℕ) → wordIn (x ∷ xs) ≡ cond (isEnd x) [] (x ∷ wordIn xs)
+word-step x xs = cases (eqb x space)
+    (λ s. cases (eqb x lineFeed) (λ l. rw (l, s)) (λ l. rw (l, s)))
+    (λ s. cases (eqb x lineFeed) (λ l. rw (l, s)) (λ l. rw (l, s)))
+
+pub word-most : (bs : List ℕ) → length (wordIn bs) ≤ length bs
+word-most bs = omega (arith, upTo-length space (firstLine bs), upTo-length lineFeed bs)
+
+-- the word of fewer bytes is no longer
+word-less : (i : ℕ) (bs : List ℕ) → length (wordIn (take i bs)) ≤ length (wordIn bs)
+word-less zero bs = omega arith
+word-less (suc i) [] = omega arith
+word-less (suc i) (x ∷ xs) =
+    let ih = word-less i xs in
+    rw (word-step x (take i xs), word-step x xs) (cases (isEnd x) (λ t. rw t (omega arith)) (λ t. rw t (omega arith)))
+
+word-front : (bs : List ℕ) → take (length (wordIn bs)) bs ≡ wordIn bs
+word-front [] = refl
+word-front (x ∷ xs) = rw (word-step x xs) (cases (isEnd x) (λ t. rw t) (λ t. rw t (ap (λ w. x ∷ w) (word-front xs))))
+
+-- it ends before the byte at a place
+word-stops : (bs : List ℕ) (i : ℕ) → isEnd (getD bs i lineFeed) ≡ true → length (wordIn bs) ≤ i
+word-stops [] i e = omega arith
+word-stops (x ∷ xs) zero e = rw (word-step x xs, e) (omega arith)
+word-stops (x ∷ xs) (suc i) e =
+    let ih = word-stops xs i e in
+    rw (word-step x xs) (cases (isEnd x) (λ t. rw t (omega arith)) (λ t. rw t (omega arith)))
+
+-- or goes on with it
+word-reaches : (bs : List ℕ) (i : ℕ) → i ≤ length (wordIn bs) → isEnd (getD bs i lineFeed) ≡ false → i < length (wordIn bs)
+word-reaches [] i h e = let z : _≡_ {A = Bool} true false = e in let o : _≡_ {A = ℕ} 0 1 = cc in omega arith
+word-reaches (x ∷ xs) zero h e = rw (word-step x xs, e) (omega arith)
+word-reaches (x ∷ xs) (suc i) h e = cases (isEnd x)
+    (λ t. absurd (let l : suc i ≤ 0 = rw (word-step x xs, t) at h in omega arith))
+    (λ t. let l : suc i ≤ suc (length (wordIn xs)) = rw (word-step x xs, t) at h in let ih = word-reaches xs i (omega arith) e in rw (word-step x xs, t) (omega arith))
+
+-- ---- bytes that are no name's
+
+-- a name has no more than 7 letters, and 4 or more before a space or a line feed
+abbrev pub nameLike : List ℕ → Bool
+nameLike n = leb 4 (length (wordIn n)) && leb (length n) 7
+
+no-place-for : (w : List ℕ) (fs : List Form) → all (λ f. nameLike (f .name)) fs ≡ true → (4 ≤ length (wordIn w) → length w ≤ 7 → ⊥) → place w fs ≡ 0
+no-place-for w [] e un = refl
+no-place-for w (f ∷ fs) e un =
+    let n = f .name in
+    let a = and-true (nameLike n) (all (λ g. nameLike (g .name)) fs) e in
+    let s = and-true (leb 4 (length (wordIn n))) (leb (length n) 7) (a .0) in
+    cases (sameBytes w n)
+    (λ t.
+    let q = sym (same-is w n t) in
+    absurd (un (subst (λ v. 4 ≤ length (wordIn v)) q (leb-true 4 (length (wordIn n)) (s .0))) (subst (λ v. length v ≤ 7) q (leb-true (length n) 7 (s .1)))))
+    (λ t. rw (t, no-place-for w fs (a .1) un))
+
+nameless : (w : List ℕ) → (4 ≤ length (wordIn w) → length w ≤ 7 → ⊥) → opOf w ≡ 0
+unfolding opOf
+nameless w un = no-place-for w forms refl un
+
+pub nameless-few : (bs : List ℕ) → length (wordIn bs) < 4 → opOf (wordIn bs) ≡ 0
+nameless-few bs h = nameless (wordIn bs) (λ p q. omega (arith, word-most (wordIn bs)))
+
 -- ---- reading it
 
--- the bytes up to a place are packed
+packed-snoc : (n : ℕ) (xs : List ℕ) (b : ℕ) → packedBehind n (xs ++ (b ∷ [])) ≡ packedBehind n xs * 256 + b
+packed-snoc n [] b = refl
+packed-snoc n (x ∷ xs) b = packed-snoc (n * 256 + x) xs b
+
+pub packed-four : (bs : List ℕ) → 4 ≤ length bs → packedBehind 1 (take 4 bs) ≡ (((1 * 256 + getD bs 0 0) * 256 + getD bs 1 0) * 256 + getD bs 2 0) * 256 + getD bs 3 0
+packed-four [] h = absurd (omega arith)
+packed-four (a ∷ []) h = absurd (omega arith)
+packed-four (a ∷ b ∷ []) h = absurd (omega arith)
+packed-four (a ∷ b ∷ c ∷ []) h = absurd (omega arith)
+packed-four (a ∷ b ∷ c ∷ d ∷ bs) h = refl
+
+-- the bytes up to a place are packed; behind the fourth none ends the word
 abbrev pub Packing : List ℕ → ℕ → ℕ → Type 0
-Packing line code i =
-    (i ≤ length line) × (i ≤ 7) × (code < 2 * 256 ^ i) × (length (wordAt line 0) ≡ i + length (wordAt line i)) × (packedBehind 1 (wordAt line 0) ≡ packedBehind code (wordAt line i))
+Packing bs code i =
+    (i ≤ length bs) × (i ≤ 7) × (code ≡ packedBehind 1 (take i bs)) × (4 ≤ length (wordIn bs) → i ≤ length (wordIn bs))
 
-pub packing-begin : (line : List ℕ) → Packing line 1 0
-packing-begin line = (omega arith, omega arith, omega arith, omega arith, refl)
+pub packing-begin : (bs : List ℕ) (code : ℕ) → 4 ≤ length bs → code ≡ packedBehind 1 (take 4 bs) → Packing bs code 4
+packing-begin bs code h e = (h, omega arith, e, λ l. l)
 
-module _ (line : List ℕ) (code i : ℕ) (r : Packing line code i) where
-  pub packing-next : i < length line → (getD line i 0 ≡ 32 → ⊥) → getD line i 0 < 256 → i < 7 → Packing line (code * 256 + getD line i 0) (i + 1)
-  packing-next h ne b l =
-      let e = upTo-next space line i h ne in
-      let p = power i in
-      (omega arith, omega arith, rw (add-one i) (omega (arith, r .2)), r .3 ∙ (let f = ap length e in omega arith), r .4 ∙ ap (packedBehind code) e)
-
+module _ (bs : List ℕ) (h : Bytes bs) (code i : ℕ) (r : Packing bs code i) where
   pub packing-small : i < 7 → code < 562949953421312
-  packing-small l = let m = pow-le-pow-right {n = 256} (omega arith) {i = i} {j = 6} (omega arith) in omega (arith, r .2)
+  packing-small l =
+      let m = packed-most 1 (take i bs) (take-bytes i bs h) in
+      let p = pow-le-pow-right {n = 256} (omega arith) {i = length (take i bs)} {j = 6} (omega (arith, length-take-le i bs (r .0))) in
+      omega (arith, r .2)
 
-  module _ (h : Bytes line) where
-    placed : opOf (wordAt line 0) ≡ placeOfCode (codeOf (wordAt line 0)) forms
-    unfolding opOf
-    placed = place-code (wordAt line 0) forms (upTo-bytes space line h) forms-short
+  module _ (e : isEnd (getD bs i lineFeed) ≡ false) where
+    going : i < length bs
+    going = cases (ltb i (length bs))
+        (λ t. ltb-true i (length bs) t)
+        (λ t.
+        let z : _≡_ {A = Bool} true false = ap isEnd (sym (List·getD-eq-default bs lineFeed {n = i} (ltb-false i (length bs) t))) ∙ e in
+        let o : _≡_ {A = ℕ} 0 1 = cc in
+        omega arith)
 
-    pub packing-stop : wordAt line i ≡ [] → (placeOfCode code forms ≡ opOf (wordAt line 0)) × (i ≡ length (wordAt line 0))
-    packing-stop e =
-        let l : length (wordAt line 0) ≡ i = let f = ap length e in omega (arith, r .3) in
-        let c : codeOf (wordAt line 0) ≡ code = rw (l, le-leb i 7 (r .1)) (r .4 ∙ ap (packedBehind code) e) in
-        (sym (placed ∙ ap (λ k. placeOfCode k forms) c), sym l)
+    pub packing-next : i < 7 → Packing bs (code * 256 + getD bs i lineFeed) (i + 1)
+    packing-next l = (
+      omega (arith, going),
+      omega arith,
+      rw (add-one i, take-suc bs i lineFeed going, packed-snoc 1 (take i bs) (getD bs i lineFeed), r .2),
+      λ p. omega (arith, word-reaches bs i (r .3 p) e),
+    )
 
-    pub packing-long : i < length line → (getD line i 0 ≡ 32 → ⊥) → 7 ≤ i → 0 ≡ opOf (wordAt line 0)
-    packing-long g ne l =
-        let f = ap length (upTo-next space line i g ne) in
-        let c : codeOf (wordAt line 0) ≡ 0 = rw (lt-leb (length (wordAt line 0)) 7 (omega (arith, r .3))) in
-        sym (placed ∙ ap (λ k. placeOfCode k forms) c)
+    pub packing-long : 7 ≤ i → 0 ≡ opOf (wordIn bs)
+    packing-long l = sym (nameless (wordIn bs) (λ p q. omega (arith, word-reaches bs i (r .3 (omega (arith, word-most (wordIn bs)))) e)))
+
+  pub packing-stop : isEnd (getD bs i lineFeed) ≡ true → (placeOfCode code forms ≡ opOf (wordIn bs)) × ((placeOfCode code forms ≡ 0 → ⊥) → i ≡ length (wordIn bs))
+  packing-stop e =
+      let c : placeOfCode code forms ≡ opOf (take i bs) = ap (λ k. placeOfCode k forms) (r .2) ∙ sym (op-code (take i bs) (take-bytes i bs h)) in
+      cases (leb 4 (length (wordIn bs)))
+      (λ t.
+      let l : length (wordIn bs) ≡ i = omega (arith, r .3 (leb-true 4 (length (wordIn bs)) t), word-stops bs i e) in
+      (c ∙ ap opOf (rw l at (word-front bs)), λ z. sym l))
+      (λ t.
+      let l = leb-false 4 (length (wordIn bs)) t in
+      let n = nameless (take i bs) (λ p q. omega (arith, word-less i bs)) in
+      (c ∙ n ∙ sym (nameless-few bs l), λ z. absurd (z (c ∙ n))))

@@ -101,12 +101,11 @@ unfoldable pub callOfCode : ℕ → declared.Call
 unfolding takenBy
 callOfCode code = record { op = placeOfCode code forms; count = takenBy (placeOfCode code forms) }
 
--- a name that is a call's is read to its end
+-- a name that is a call's is read to its end; where another word ends is not said
 pub record Named (line : List ℕ) (r : Name) : Type 0 where
   pub op : r .op ≡ opOf (wordAt line 0)
   pub count : r .count ≡ takenBy (r .op)
   pub end : (r .op ≡ 0 → ⊥) → r .end ≡ length (wordAt line 0)
-  pub within : r .end ≤ length line
 
 -- ---- a line
 

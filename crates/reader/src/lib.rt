@@ -2,14 +2,14 @@
 // met where a word ends.
 ghost use mathlib.Core.Path.{_≡_};
 ghost use mathlib.Core.Bool.{_&&_};
-ghost use Prim.Native.Nat.{_+_, _<_, _≤_, min};
+ghost use Prim.Native.Nat.{_+_, _*_, _<_, _≤_, min};
 ghost use mathlib.Core.Option.{none};
-ghost use lib.ListN.{length, drop, getD};
+ghost use lib.ListN.{length, drop, take, getD};
 ghost use Rattle.protocol.specs.Lists.{bit};
 ghost use Rattle.format.specs.Numbers.{isDigit};
 ghost use Rattle.format.specs.Lines.{lineFeed, lineCall};
 ghost use Rattle.reader.specs.Cut.{upTo, firstLine};
-ghost use Rattle.reader.specs.Reads.{wordAt, numberAt, magnitudeAt, followed, isEnd, ending, callOfCode, Named, lineFrom, lineFor, lineIn, Taken};
+ghost use Rattle.reader.specs.Reads.{wordAt, numberAt, magnitudeAt, followed, isEnd, ending, packedBehind, callOfCode, Named, lineFrom, lineFor, lineIn, Taken};
 
 // A number with the place behind it, or a word that is none.
 pub enum Number {
@@ -29,7 +29,7 @@ struct Call {
     count: usize,
 }
 
-// A line's call, and where its name ends.
+// A line's call, and where its name ends, if it has one.
 struct Name {
     op: u32,
     count: usize,
@@ -231,28 +231,46 @@ fn named(code: u64, end: usize) -> Name
     }
 }
 
-// The call of a line's first word. A word longer than any name is not read on.
+fn packed(code: u64, b: u8) -> u64
+    requires { ⌜ code < 72057594037927936 ⌝ }
+    ensures { λ r. ⌜ r ≡ code * 256 + b ⌝ }
+{
+    code * 256 + b as u64
+}
+
+// The first four bytes, packed.
+fn first_four(sheet: &[u8]) -> u64
+    requires { ⌜ 4 ≤ length (now sheet) ⌝ }
+    ensures { λ r. ⌜ r ≡ packedBehind 1 (take 4 (now (sheet .entry))) ⌝ }
+{
+    let a = packed(1, sheet[0]);
+    let b = packed(a, sheet[1]);
+    let c = packed(b, sheet[2]);
+    packed(c, sheet[3])
+}
+
+// The call of a line's first word. Every name has 4 letters or more, so 4 bytes are taken as they are: where the word ends among them, the code
+// is no name's, as 0 is none's. A word longer than any name is not read on.
 fn read_name(sheet: &[u8]) -> Name
     ensures { λ r. ⌜ Named (firstLine (now (sheet .entry))) r ⌝ }
 {
-    let mut code: u64 = 1;
-    let mut i: usize = 0;
+    if sheet.len() < 4 {
+        return named(0, 0);
+    }
+    let mut code = first_four(sheet);
+    let mut i: usize = 4;
     while i < 7 {
         let b = byte_at(sheet, i);
         if ends(b) {
             return named(code, i);
         }
-        code = code * 256 + b as u64;
+        code = packed(code, b);
         i += 1;
     }
     if ends(byte_at(sheet, i)) {
         return named(code, i);
     }
-    Name {
-        op: 0,
-        count: 0,
-        end: i,
-    }
+    named(0, 0)
 }
 
 // ---- lines
@@ -301,7 +319,7 @@ fn read_call(sheet: &[u8]) -> Line
     let name = read_name(sheet);
     let op = name.op;
     if op == 0 {
-        return unreadable(name.end);
+        return unreadable(0);
     }
     let count = name.count;
     let mut xs = [0i32; 6];

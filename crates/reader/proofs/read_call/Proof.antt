@@ -12,7 +12,7 @@ use lib.Signed.{mag}
 use borrow.Author.Needs.{needs}
 use native.Mathlib.Omega.{arith}
 use mathlib.Core.Path.{_≡_, refl, sym, _∙_}
-use Rattle.format.specs.Lines.{lineFeed}
+use Rattle.format.specs.Lines.{space, lineFeed}
 use Rattle.reader.specs.Cut.{firstLine}
 use Rattle.reader.specs.Reads.{wordAt, takenBy}
 use Rattle.reader.proofs.Cuts.{upTo-length, line-over, line-here}
@@ -58,7 +58,7 @@ unreadable-requires c κs = search needs
 
 returns : tie.Need-returns Inv-loop μ-loop
 returns c =
-    unread _ (firstLine ((c .before .before .before .before .args .sheet .now))) _ ((c .unreadable .ensures)) (sym (unnamed (firstLine ((c .before .before .before .before .args .sheet .now))) (sym ((c .before .before .read-name .ensures .op)) ∙ ((c .before .if1 .taken))))) ((c .before .before .read-name .ensures .within))
+    unread _ (firstLine ((c .before .before .before .before .args .sheet .now))) _ ((c .unreadable .ensures)) (sym (unnamed (firstLine ((c .before .before .before .before .args .sheet .now))) (sym ((c .before .before .read-name .ensures .op)) ∙ ((c .before .if1 .taken))))) (omega arith)
 
 loop-holds : tie.Need-loop-holds Inv-loop μ-loop
 loop-holds c =
@@ -66,7 +66,9 @@ loop-holds c =
     let op = ((c .before .read-name .result .op)) in
     let m = op-most (wordAt (firstLine ((c .before .before .before .args .sheet .now))) 0) in
     let p : 0 < op = omega (arith, ((c .if1 .left))) in
-    (omega (arith, n .op, m), p, n .count, n .within, listing-begin (firstLine ((c .before .before .before .args .sheet .now))) op ((c .before .read-name .result .end)) (replicate 6 (pos 0)) refl nought (n .op) (n .end ((c .if1 .left))))
+    let e = n .end ((c .if1 .left)) in
+    let w = upTo-length space (firstLine ((c .before .before .before .args .sheet .now))) in
+    (omega (arith, n .op, m), p, n .count, omega (arith, e, w), listing-begin (firstLine ((c .before .before .before .args .sheet .now))) op ((c .before .read-name .result .end)) (replicate 6 (pos 0)) refl nought (n .op) e)
 
 byte-at-requires : tie.Need-byte-at-requires Inv-loop μ-loop
 byte-at-requires c κs = search needs
