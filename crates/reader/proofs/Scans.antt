@@ -15,13 +15,14 @@ use lib.ListN.{length, getD}
 use mir.Syntax.{w32}
 use mir.Val.{SFits, toZ, ofZ}
 use mir.Facts.{toZ-pos, toZ-ofZ}
-use Rattle.protocol.specs.Lists.{all, neg}
+use Rattle.protocol.specs.Lists.{bit, all, neg}
 use Rattle.protocol.proofs.Laws.{cases}
 use Rattle.format.specs.Lines.{space, lineFeed}
 use Rattle.format.specs.Numbers.{minus, nought, isDigit, decimal, isMagnitude, number}
 use Rattle.format.proofs.Digits.{digit-range}
 use Rattle.format.proofs.Inverse.{magnitude, magnitude-below, decimal-first}
 use Rattle.reader.specs.declared.Number.the-variants.{Value, Unreadable}
+use Rattle.reader.specs.declared.Magnitude.{Magnitude}
 use Rattle.reader.specs.declared.Magnitude.the-variants.{Of, Nothing}
 use Rattle.reader.specs.Cut.{firstLine}
 use Rattle.reader.specs.Reads.{wordAt, numberAt, magnitudeAt, followed, isEnd, ending}
@@ -253,10 +254,10 @@ module _ (bs : List ℕ) (at : ℕ) (h : at ≤ length (firstLine bs)) where
     abbrev there : (at < length (firstLine bs)) × (getD (firstLine bs) at 0 ≡ 48)
     there = let l = line-here bs at h (λ z. omega arith) in (l .0, l .1 ∙ e)
 
-    pub nought-alone : isEnd (getD bs (at + 1) lineFeed) ≡ true → Value (pos 0) (at + 1) ≡ numberAt (firstLine bs) at
+    nought-alone : isEnd (getD bs (at + 1) lineFeed) ≡ true → Value (pos 0) (at + 1) ≡ numberAt (firstLine bs) at
     nought-alone t = sym (number-nought (firstLine bs) at (there .0) (there .1) (word-ends bs (at + 1) (omega (arith, there .0)) t))
 
-    pub nought-more : isEnd (getD bs (at + 1) lineFeed) ≡ false → Unreadable ≡ numberAt (firstLine bs) at
+    nought-more : isEnd (getD bs (at + 1) lineFeed) ≡ false → Unreadable ≡ numberAt (firstLine bs) at
     nought-more t = let g = word-goes bs (at + 1) (omega (arith, there .0)) t in sym (number-noughts (firstLine bs) at (there .0) (there .1) (g .0) (g .2))
 
   -- a minus and digits
@@ -264,24 +265,32 @@ module _ (bs : List ℕ) (at : ℕ) (h : at ≤ length (firstLine bs)) where
     abbrev signed : (at < length (firstLine bs)) × (getD (firstLine bs) at 0 ≡ 45)
     signed = let l = line-here bs at h (λ z. omega arith) in (l .0, l .1 ∙ e)
 
-    pub minus-room : at + 1 ≤ length (firstLine bs)
+    minus-room : at + 1 ≤ length (firstLine bs)
     minus-room = omega (arith, signed .0)
 
-    pub minus-not : magnitudeAt (firstLine bs) (at + 1) ≡ Nothing → Unreadable ≡ numberAt (firstLine bs) at
+    minus-not : magnitudeAt (firstLine bs) (at + 1) ≡ Nothing → Unreadable ≡ numberAt (firstLine bs) at
     minus-not f = sym (number-minus (firstLine bs) at (signed .0) (signed .1) f)
 
-    pub minus-of : (n next : ℕ) → magnitudeAt (firstLine bs) (at + 1) ≡ Of n next → Value (neg n) next ≡ numberAt (firstLine bs) at
+    minus-of : (n next : ℕ) → magnitudeAt (firstLine bs) (at + 1) ≡ Of n next → Value (neg n) next ≡ numberAt (firstLine bs) at
     minus-of n next f = sym (number-negative (firstLine bs) at n next (signed .0) (signed .1) f)
 
   -- digits alone
-  module _ (p : b ≡ 48 → ⊥) (q : b ≡ 45 → ⊥) where
-    pub plain-not : magnitudeAt (firstLine bs) at ≡ Nothing → Unreadable ≡ numberAt (firstLine bs) at
-    plain-not f = sym (byte (numberAt (firstLine bs) at ≡ Unreadable) (number-over (firstLine bs) at) (λ l e. number-not (firstLine bs) at l (λ z. p (sym e ∙ z)) (λ z. q (sym e ∙ z)) f))
+  module _ (q : b ≡ 45 → ⊥) where
+    plain-not : (b ≡ 48 → isEnd (getD bs (at + 1) lineFeed) ≡ false) → magnitudeAt (firstLine bs) at ≡ Nothing → Unreadable ≡ numberAt (firstLine bs) at
+    plain-not p f = cases (eqb b 48)
+        (λ t. let z = eqb-true b 48 t in nought-more z (p z))
+        (λ t. sym (byte (numberAt (firstLine bs) at ≡ Unreadable) (number-over (firstLine bs) at) (λ l e. number-not (firstLine bs) at l (λ z. eqb-false b 48 t (sym e ∙ z)) (λ z. q (sym e ∙ z)) f)))
 
-    pub plain-of : (n next : ℕ) → magnitudeAt (firstLine bs) at ≡ Of n next → Value (pos n) next ≡ numberAt (firstLine bs) at
+    plain-of : (n next : ℕ) → magnitudeAt (firstLine bs) at ≡ Of n next → Value (pos n) next ≡ numberAt (firstLine bs) at
     plain-of n next f = sym (byte (numberAt (firstLine bs) at ≡ Value (pos n) next)
         (λ l. let z : Nothing ≡ Of n next = sym (magnitude-over (firstLine bs) at l) ∙ f in cc)
-        (λ l e. number-positive (firstLine bs) at n next l (λ z. p (sym e ∙ z)) (λ z. q (sym e ∙ z)) f))
+        (λ l e. number-positive (firstLine bs) at n next l (λ z. some-first (sym e ∙ z)) (λ z. q (sym e ∙ z)) f))
+      where
+        some-first : b ≡ 48 → ⊥
+        some-first z =
+            let g : Nothing ≡ Of n next = no-digits (λ k l. omega arith) ∙ f in
+            let o : _≡_ {A = ℕ} 0 1 = cc in
+            omega arith
 
   -- a digit alone, a nought among them
   pub digit-alone : 48 ≤ b → b ≤ 57 → isEnd (getD bs (at + 1) lineFeed) ≡ true → Value (pos (b - 48)) (at + 1) ≡ numberAt (firstLine bs) at
@@ -290,7 +299,27 @@ module _ (bs : List ℕ) (at : ℕ) (h : at ≤ length (firstLine bs)) where
       (λ e.
       let z = eqb-false b 48 e in
       let f = first-digit (omega arith) q in
-      plain-of z (λ m. omega arith) (b - 48) (at + 1) (sym (f .1) ∙ ap (followed 0 (b - 48) (at + 1)) (word-ends bs (at + 1) (f .0) t) ∙ followed-end 0 (b - 48) (at + 1) (omega arith)))
+      plain-of (λ m. omega arith) (b - 48) (at + 1) (sym (f .1) ∙ ap (followed 0 (b - 48) (at + 1)) (word-ends bs (at + 1) (f .0) t) ∙ followed-end 0 (b - 48) (at + 1) (omega arith)))
+
+  -- a minus or none, where the byte is x, and the digits behind it
+  module _ (x : ℕ) (s : x ≡ b) where
+    pub signed-room : at + bit (eqb x 45) ≤ length (firstLine bs)
+    signed-room = cases (eqb x 45) (λ t. rw t (minus-room (sym s ∙ eqb-true x 45 t))) (λ t. rw t (omega arith))
+
+    module _ (m : Magnitude) (e : magnitudeAt (firstLine bs) (at + bit (eqb x 45)) ≡ m) where
+      bare : eqb x 45 ≡ false → magnitudeAt (firstLine bs) at ≡ m
+      bare t = let z : at + 0 ≡ at = omega arith in rw (t, z) at e
+
+      pub signed-not : (b ≡ 48 → isEnd (getD bs (at + 1) lineFeed) ≡ false) → m ≡ Nothing → Unreadable ≡ numberAt (firstLine bs) at
+      signed-not p f = cases (eqb x 45)
+          (λ t. minus-not (sym s ∙ eqb-true x 45 t) ((rw t at e) ∙ f))
+          (λ t. plain-not (λ z. eqb-false x 45 t (s ∙ z)) p (bare t ∙ f))
+
+      pub signed-minus : (n next : ℕ) → eqb x 45 ≡ true → m ≡ Of n next → Value (neg n) next ≡ numberAt (firstLine bs) at
+      signed-minus n next t f = minus-of (sym s ∙ eqb-true x 45 t) n next ((rw t at e) ∙ f)
+
+      pub signed-plain : (n next : ℕ) → eqb x 45 ≡ false → m ≡ Of n next → Value (pos n) next ≡ numberAt (firstLine bs) at
+      signed-plain n next t f = plain-of (λ z. eqb-false x 45 t (s ∙ z)) n next (bare t ∙ f)
 
 -- a magnitude is below 1,000,000,000
 pub magnitude-small : (line : List ℕ) (at n next : ℕ) → magnitudeAt line at ≡ Of n next → n < 1000000000

@@ -1,7 +1,7 @@
 // Reads the first line of a sheet's rest (01, "The sheet program"): a call's name and its numbers, with one space between. One pass: the line feed is
 // met where a word ends.
 ghost use mathlib.Core.Path.{_≡_};
-ghost use mathlib.Core.Bool.{_&&_};
+ghost use mathlib.Core.Bool.{false};
 ghost use Prim.Native.Nat.{_+_, _*_, _<_, _≤_, min};
 ghost use mathlib.Core.Option.{none};
 ghost use lib.ListN.{length, drop, take, getD};
@@ -21,6 +21,12 @@ pub enum Number {
 enum Magnitude {
     Of(u32, usize),
     Nothing,
+}
+
+// Where a number's digits begin, and the byte there.
+struct Start {
+    at: usize,
+    byte: u8,
 }
 
 // Which of the fourteen calls, from 1 (0: none), and how many numbers it takes.
@@ -90,6 +96,15 @@ fn line_end(sheet: &[u8], at: usize) -> usize
 
 // ---- numbers
 
+fn is_digit(b: u8) -> bool
+    ensures { λ t. ⌜ t ≡ isDigit b ⌝ }
+{
+    if b < 48 {
+        return false;
+    }
+    b <= 57
+}
+
 // A number's digits end before a byte, or go on with something else.
 fn ended(b: u8, n: u32, at: usize) -> Magnitude
     ensures { λ r. ⌜ r ≡ ending b n at ⌝ }
@@ -121,12 +136,11 @@ fn further(sheet: &[u8], from: usize, first: u32) -> Magnitude
     ended(byte_at(sheet, i), n, i)
 }
 
-// 1 to 9 digits of which the first is not 0.
-fn read_digits(sheet: &[u8], at: usize) -> Magnitude
-    requires { ⌜ at ≤ length (firstLine (now sheet)) ⌝ }
+// 1 to 9 digits of which the first, b, is not 0.
+fn read_digits(sheet: &[u8], at: usize, b: u8) -> Magnitude
+    requires { ⌜ (at ≤ length (firstLine (now sheet))) × (b ≡ getD (now sheet) at lineFeed) ⌝ }
     ensures { λ r. ⌜ r ≡ magnitudeAt (firstLine (now (sheet .entry))) at ⌝ }
 {
-    let b = byte_at(sheet, at);
     if b < 49 {
         return Magnitude::Nothing;
     }
@@ -136,31 +150,31 @@ fn read_digits(sheet: &[u8], at: usize) -> Magnitude
     further(sheet, at + 1, (b - 48) as u32)
 }
 
-// Where the digits begin, behind a minus or at once.
-fn digits_from(at: usize, minus: bool) -> usize
+// The digits begin behind a minus or at once.
+fn digits_from(sheet: &[u8], at: usize, minus: bool) -> Start
     requires { ⌜ at < 9223372036854775808 ⌝ }
-    ensures { λ r. ⌜ r ≡ at + bit minus ⌝ }
+    ensures { λ r. ⌜ (r .at ≡ at + bit minus) × (r .byte ≡ getD (now (sheet .entry)) (r .at) lineFeed) ⌝ }
 {
     if minus {
-        return at + 1;
+        return Start {
+            at: at + 1,
+            byte: byte_at(sheet, at + 1),
+        };
     }
-    at
+    Start {
+        at,
+        byte: byte_at(sheet, at),
+    }
 }
 
-// The number written by the word that begins at a place, whatever its length and sign.
+// The number written by the word that begins at a place, whatever its length and sign, but for a 0 alone.
 fn read_signed(sheet: &[u8], at: usize) -> Number
-    requires { ⌜ at ≤ length (firstLine (now sheet)) ⌝ }
+    requires { ⌜ (at ≤ length (firstLine (now sheet))) × (getD (now sheet) at lineFeed ≡ 48 → isEnd (getD (now sheet) (at + 1) lineFeed) ≡ false) ⌝ }
     ensures { λ r. ⌜ r ≡ numberAt (firstLine (now (sheet .entry))) at ⌝ }
 {
-    let b = byte_at(sheet, at);
-    if b == 48 {
-        if ends(byte_at(sheet, at + 1)) {
-            return Number::Value(0, at + 1);
-        }
-        return Number::Unreadable;
-    }
-    let minus = b == 45;
-    let size = read_digits(sheet, digits_from(at, minus));
+    let minus = byte_at(sheet, at) == 45;
+    let start = digits_from(sheet, at, minus);
+    let size = read_digits(sheet, start.at, start.byte);
     let Magnitude::Of(n, next) = size else {
         return Number::Unreadable;
     };
@@ -170,27 +184,16 @@ fn read_signed(sheet: &[u8], at: usize) -> Number
     Number::Value(n as i32, next)
 }
 
-// A digit, and behind it the end of its word.
-fn lone_digit(b: u8, next: u8) -> bool
-    ensures { λ t. ⌜ t ≡ (isDigit b && isEnd next) ⌝ }
-{
-    if b < 48 {
-        return false;
-    }
-    if 57 < b {
-        return false;
-    }
-    ends(next)
-}
-
-// The same. Most numbers have one digit, and are read at once.
+// The number written by the word that begins at a place. Most have one digit, and are read at once.
 fn read_number(sheet: &[u8], at: usize) -> Number
     requires { ⌜ at ≤ length (firstLine (now sheet)) ⌝ }
     ensures { λ r. ⌜ r ≡ numberAt (firstLine (now (sheet .entry))) at ⌝ }
 {
     let b = byte_at(sheet, at);
-    if lone_digit(b, byte_at(sheet, at + 1)) {
-        return Number::Value((b - 48) as i32, at + 1);
+    if is_digit(b) {
+        if ends(byte_at(sheet, at + 1)) {
+            return Number::Value((b - 48) as i32, at + 1);
+        }
     }
     read_signed(sheet, at)
 }

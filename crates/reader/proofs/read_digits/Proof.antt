@@ -11,23 +11,19 @@ use Rattle.reader.proofs.read_digits.Statement.{statement}
 use Rattle.reader.proofs.read_digits.Tie as tie
 use Rattle.reader.proofs.read_digits.Reads as reads
 use Rattle.reader.proofs.read_digits.Lts as lts
-use Rattle.reader.proofs.byte_at.Reads as byte-at-reads
 use Rattle.reader.proofs.further.Reads as further-reads
-
-byte-at-requires : tie.Need-byte-at-requires
-byte-at-requires c κs = search needs
 
 returns : tie.Need-returns
 returns c =
-    no-digits ((c .before .before .before .args .sheet .now)) ((c .before .before .before .args .at)) ((c .before .before .before .pre)) (λ p q. omega (arith, ((c .before .byte-at .ensures)), ((c .if1 .taken))))
+    no-digits ((c .before .before .args .sheet .now)) ((c .before .before .args .at)) ((c .before .before .pre .0)) (λ p q. omega (arith, (c .before .before .pre .1), (c .if1 .taken)))
 
 returns-2 : tie.Need-returns-2
 returns-2 c =
-    no-digits ((c .before .before .before .before .args .sheet .now)) ((c .before .before .before .before .args .at)) ((c .before .before .before .before .pre)) (λ p q. omega (arith, ((c .before .before .byte-at .ensures)), ((c .if2 .taken))))
+    no-digits ((c .before .before .before .args .sheet .now)) ((c .before .before .before .args .at)) ((c .before .before .before .pre .0)) (λ p q. omega (arith, (c .before .before .before .pre .1), (c .if2 .taken)))
 
 add-further : tie.Need-add-further
 add-further c =
-    let l = upTo-length lineFeed ((c .before .before .before .before .args .sheet .now)) in omega (arith, l, ((c .before .before .before .before .pre)))
+    let l = upTo-length lineFeed ((c .before .before .before .args .sheet .now)) in omega (arith, l, (c .before .before .before .pre .0))
 
 sub-further : tie.Need-sub-further
 sub-further c = search needs
@@ -37,22 +33,16 @@ cast-further c = search needs
 
 further-requires : tie.Need-further-requires
 further-requires c κs =
-    (omega (arith, ((c .if2 .left))), first-digit ((c .before .before .before .before .args .sheet .now)) ((c .before .before .before .before .args .at)) ((c .before .before .before .before .pre)) (omega (arith, ((c .before .before .byte-at .ensures)), ((c .before .if1 .left)))) (omega (arith, ((c .before .before .byte-at .ensures)), ((c .if2 .left)))) .0)
+    (omega (arith, (c .if2 .left)), first-digit ((c .before .before .before .args .sheet .now)) ((c .before .before .before .args .at)) ((c .before .before .before .pre .0)) (omega (arith, (c .before .before .before .pre .1), (c .before .if1 .left))) (omega (arith, (c .before .before .before .pre .1), (c .if2 .left))) .0)
 
 returns-3 : tie.Need-returns-3
 returns-3 c =
-    ((c .further .ensures)) ∙ ap (λ b. followed 0 (b - 48) (((c .before .before .before .before .before .args .at)) + 1) (wordAt (firstLine ((c .before .before .before .before .before .args .sheet .now))) (((c .before .before .before .before .before .args .at)) + 1))) ((c .before .before .before .byte-at .ensures))
-    ∙ first-digit ((c .before .before .before .before .before .args .sheet .now)) ((c .before .before .before .before .before .args .at)) ((c .before .before .before .before .before .pre)) (omega (arith, ((c .before .before .before .byte-at .ensures)), ((c .before .before .if1 .left)))) (omega (arith, ((c .before .before .before .byte-at .ensures)), ((c .before .if2 .left)))) .1
+    let bs = (c .before .before .before .before .args .sheet .now) in
+    let at = (c .before .before .before .before .args .at) in
+    ((c .further .ensures)) ∙ ap (λ b. followed 0 (b - 48) (at + 1) (wordAt (firstLine bs) (at + 1))) ((c .before .before .before .before .pre .1))
+    ∙ first-digit bs at ((c .before .before .before .before .pre .0)) (omega (arith, (c .before .before .before .before .pre .1), (c .before .before .if1 .left))) (omega (arith, (c .before .before .before .before .pre .1), (c .before .if2 .left))) .1
 
 pub read-digits-spec : {M : Type 1} → statement M
 read-digits-spec =
     tie.close
-    (tie.spec
-    byte-at-requires
-    returns
-    returns-2
-    add-further
-    sub-further
-    cast-further
-    further-requires
-    returns-3)
+    (tie.spec returns returns-2 add-further sub-further cast-further further-requires returns-3)
