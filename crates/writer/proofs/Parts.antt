@@ -1,5 +1,5 @@
 -- Laws of the parts of a line, and of a line that goes in whole or not at all. Assumes nothing.
-use Prim.Native.Nat.{ℕ, zero, suc, _+_, _<_, _≤_}
+use Prim.Native.Nat.{ℕ, zero, suc, _+_, _-_, _<_, _≤_}
 use native.Mathlib.Omega.{arith}
 use native.Mathlib.Nat.{zero-add}
 use mathlib.Core.Path.{_≡_, refl, sym, ap, ap₂, _∙_}
@@ -16,7 +16,7 @@ use Rattle.format.proofs.Texts.{written-pos, spaced-none, spaced-more, text-no,
 use Rattle.state.specs.declared.Answer.{Answer}
 use Rattle.state.specs.declared.Answer.the-variants.{Refused, Done, Number, Pair}
 use Rattle.writer.specs.Writes.{lineOf, putIn, putLength, headOf, partsOf, asTold, toldBehind}
-use Rattle.writer.proofs.Puts.{sets-append, sets-front}
+use Rattle.writer.proofs.Puts.{sets-append, sets-back, sets-front}
 
 -- ---- a line is its parts
 
@@ -76,6 +76,16 @@ pub put-behind : (area first second : List ℕ) (at : ℕ) (xs ys : List ℕ) �
 put-behind area first second at xs ys e f g =
     let h : at ≡ 0 + length xs = f ∙ sym (zero-add (length xs)) in
     g ∙ ap₂ (λ l k. sets l k ys) e h ∙ sym (sets-append area 0 xs ys)
+
+-- bytes put up to an end, behind the first two
+pub put-up-to : (area after : List ℕ) (end at : ℕ) (bs : List ℕ) → after ≡ sets area at bs → at ≡ end - length bs → end ≡ 2 + length bs → after ≡ sets area 2 bs
+put-up-to area after end at bs e f g = let h : at ≡ 2 = omega arith in e ∙ ap (λ k. sets area k bs) h
+
+pub put-twice : (area first after : List ℕ) (end middle at : ℕ) (xs ys : List ℕ) → first ≡ sets area middle ys → middle ≡ end - length ys → after ≡ sets first at xs → at ≡ middle - length xs → end ≡ 2 + length (xs ++ ys) → after ≡ sets area 2 (xs ++ ys)
+put-twice area first after end middle at xs ys e f g h l =
+    let n = length-append xs ys in
+    let k : at ≡ 2 = omega arith in
+    g ∙ ap₂ (λ m j. sets m j xs) e k ∙ sets-back area 2 xs middle ys (omega arith)
 
 pub parts-length : (answer : Answer) (row : List ℤ) → length (partsOf answer row) ≡ length (headOf answer) + length (spaced row) + 1
 parts-length answer row = length-append (headOf answer ++ spaced row) (lineFeed ∷ []) ∙ ap (λ n. n + 1) (length-append (headOf answer) (spaced row))

@@ -8,7 +8,6 @@ use native.Mathlib.Numerals.{add-one}
 use lib.IntN.{ℤ, pos}
 use lib.ListN.{length, getD, set, drop, length-set}
 use lib.Seq.{sets, sets-eq, set-comm, length-sets}
-use Rattle.protocol.specs.Lists.{snoc}
 use Rattle.format.specs.Numbers.{digits, written}
 use Rattle.format.specs.Sheets.{spaced, inFront}
 use Rattle.format.specs.Lines.{space}
@@ -28,9 +27,13 @@ module _ {A : Type 0} where
   sets-later l i (x ∷ xs) j b h =
       ap (λ m. sets m (suc i) xs) (set-comm l j i b x (λ e. omega arith)) ∙ sets-later (set l i x) (suc i) xs j b (omega arith)
 
-  -- the last byte first
-  pub sets-snoc : (l : List A) (i : ℕ) (xs : List A) (x : A) → sets l i (snoc xs x) ≡ sets (set l (i + length xs) x) i xs
-  sets-snoc l i xs x = sets-append l i xs (x ∷ []) ∙ sym (sets-later l i xs (i + length xs) x (omega arith))
+  sets-swap : (l : List A) (i : ℕ) (xs : List A) (j : ℕ) (ys : List A) → i + length xs ≤ j → sets (sets l j ys) i xs ≡ sets (sets l i xs) j ys
+  sets-swap l i xs j [] h = refl
+  sets-swap l i xs j (y ∷ ys) h = sets-swap (set l j y) i xs (suc j) ys (omega arith) ∙ ap (λ m. sets m (suc j) ys) (sets-later l i xs j y h)
+
+  -- the last bytes first
+  pub sets-back : (l : List A) (i : ℕ) (xs : List A) (j : ℕ) (ys : List A) → j ≡ i + length xs → sets (sets l j ys) i xs ≡ sets l i (xs ++ ys)
+  sets-back l i xs j ys e = sets-swap l i xs j ys (omega arith) ∙ ap (λ k. sets (sets l i xs) k ys) e ∙ sym (sets-append l i xs ys)
 
 pub sets-front : (area line : List ℕ) → length line ≤ length area → sets area 0 line ≡ inFront line area
 sets-front area line h = let e = zero-add (length line) in sets-eq line area 0 (omega arith) ∙ ap (λ k. line ++ drop k area) e
@@ -58,13 +61,13 @@ module _ (n at : ℕ) (area₀ area : List ℕ) (m i : ℕ) (r : Writing n at ar
         omega (arith, r .0),
         s ∙ r .1,
         e,
-        r .3 ∙ ap (sets area at) (digits-more m h) ∙ sets-snoc area at ds (48 + m % 10) ∙ ap (λ j. sets (set area j (48 + m % 10)) at ds) (sym e),
+        r .3 ∙ ap (sets area at) (digits-more m h) ∙ sym (sets-back area at ds (i - 1) ((48 + m % 10) ∷ []) e),
       )
 
-  pub writing-last : m < 10 → set area (i - 1) (48 + m) ≡ sets area₀ at (digits n)
+  pub writing-last : m < 10 → (set area (i - 1) (48 + m) ≡ sets area₀ (i - 1) (digits n)) × (i - 1 ≡ at)
   writing-last h =
       let e : i - 1 ≡ at = let l = length-one m h in omega (arith, r .2) in
-      sym (r .3 ∙ ap (sets area at) (digits-one m h) ∙ ap (λ j. set area j (48 + m)) (sym e))
+      (ap (λ j. set area j (48 + m)) e ∙ sym (ap (λ j. sets area₀ j (digits n)) e ∙ r .3 ∙ ap (sets area at) (digits-one m h)), e)
 
 -- a byte in front of others
 pub sets-more : (area : List ℕ) (at b : ℕ) (bs : List ℕ) → sets (set area at b) (at + 1) bs ≡ sets area at (b ∷ bs)

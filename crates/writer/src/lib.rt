@@ -1,7 +1,7 @@
 // Writes one answer line (01, "The sheet program"): `ok` and the numbers given, `ok 0` where there are none, or `no` and the refusal.
 ghost use mathlib.Core.Path.{_≡_};
 ghost use mathlib.Core.List.{_∷_};
-ghost use Prim.Native.Nat.{_+_, _*_, _≤_};
+ghost use Prim.Native.Nat.{_+_, _-_, _*_, _≤_};
 ghost use lib.Dec.{leb};
 ghost use lib.IntN.{natAbs};
 ghost use lib.ListN.{length};
@@ -48,12 +48,11 @@ fn width(n: u32) -> usize
     10
 }
 
-// The digits of n from a place on, written from the last to the first; the place behind them.
-fn put_digits(n: u32, at: usize, area: &mut [u8]) -> usize
-    requires { ⌜ at + length (digits n) ≤ length (now area) ⌝ }
-    ensures { λ r. ⌜ (now (area .exit) ≡ sets (now (area .entry)) at (digits n)) × (r ≡ at + length (digits n)) ⌝ }
+// The digits of n up to a place, written from the last to the first; the place where they begin.
+fn put_back(n: u32, end: usize, area: &mut [u8]) -> usize
+    requires { ⌜ (length (digits n) ≤ end) × (end ≤ length (now area)) ⌝ }
+    ensures { λ r. ⌜ (now (area .exit) ≡ sets (now (area .entry)) r (digits n)) × (r ≡ end - length (digits n)) ⌝ }
 {
-    let end = at + width(n);
     let mut m = n;
     let mut i = end;
     while 10 <= m {
@@ -61,17 +60,29 @@ fn put_digits(n: u32, at: usize, area: &mut [u8]) -> usize
         area[i] = (48 + m % 10) as u8;
         m = m / 10;
     }
-    area[i - 1] = (48 + m) as u8;
-    end
+    i -= 1;
+    area[i] = (48 + m) as u8;
+    i
 }
 
-// A space and the digits of n.
-fn put_spaced(n: u32, at: usize, area: &mut [u8]) -> usize
-    requires { ⌜ at + length (space ∷ digits n) ≤ length (now area) ⌝ }
-    ensures { λ r. ⌜ (now (area .exit) ≡ sets (now (area .entry)) at (space ∷ digits n)) × (r ≡ at + length (space ∷ digits n)) ⌝ }
+// A space and the digits of n up to a place; the place where they begin.
+fn put_spaced(n: u32, end: usize, area: &mut [u8]) -> usize
+    requires { ⌜ (length (space ∷ digits n) ≤ end) × (end ≤ length (now area)) ⌝ }
+    ensures { λ r. ⌜ (now (area .exit) ≡ sets (now (area .entry)) r (space ∷ digits n)) × (r ≡ end - length (space ∷ digits n)) ⌝ }
 {
+    let at = put_back(n, end, area) - 1;
     area[at] = 32;
-    put_digits(n, at + 1, area)
+    at
+}
+
+// The digits of n from a place on; the place behind them.
+fn put_digits(n: u32, at: usize, area: &mut [u8]) -> usize
+    requires { ⌜ at + length (digits n) ≤ length (now area) ⌝ }
+    ensures { λ r. ⌜ (now (area .exit) ≡ sets (now (area .entry)) at (digits n)) × (r ≡ at + length (digits n)) ⌝ }
+{
+    let end = at + width(n);
+    put_back(n, end, area);
+    end
 }
 
 // A number without its sign.
@@ -167,31 +178,31 @@ fn head_width(answer: Answer) -> usize
     }
 }
 
-fn put_head(answer: Answer, area: &mut [u8]) -> usize
-    requires { ⌜ length (headOf answer) ≤ length (now area) ⌝ }
-    ensures { λ r. ⌜ (now (area .exit) ≡ sets (now (area .entry)) 0 (headOf answer)) × (r ≡ length (headOf answer)) ⌝ }
+// The head of a line up to its end, which is known. Its numbers are written from the last to the first.
+fn put_head(answer: Answer, end: usize, area: &mut [u8])
+    requires { ⌜ (end ≡ length (headOf answer)) × (end ≤ length (now area)) ⌝ }
+    ensures { λ r. ⌜ now (area .exit) ≡ sets (now (area .entry)) 0 (headOf answer) ⌝ }
 {
     match answer {
         Answer::Refused(k) => {
             area[0] = 110;
             area[1] = 111;
-            put_spaced(k, 2, area)
+            put_spaced(k, end, area);
         }
         Answer::Done => {
             area[0] = 111;
             area[1] = 107;
-            2
         }
         Answer::Number(n) => {
             area[0] = 111;
             area[1] = 107;
-            put_spaced(n, 2, area)
+            put_spaced(n, end, area);
         }
         Answer::Pair(a, b) => {
             area[0] = 111;
             area[1] = 107;
-            let at = put_spaced(a, 2, area);
-            put_spaced(b, at, area)
+            let at = put_spaced(b, end, area);
+            put_spaced(a, at, area);
         }
     }
 }
@@ -208,8 +219,8 @@ fn put_parts(answer: Answer, row: &[i32], area: &mut [u8]) -> usize
     if !row_fits(row, room - w - 1) {
         return 0;
     }
-    let at = put_head(answer, area);
-    let end = put_row(row, at, area);
+    put_head(answer, w, area);
+    let end = put_row(row, w, area);
     area[end] = 10;
     end + 1
 }

@@ -51,8 +51,11 @@ module _ (c : tie.After-put-head) where
   fits-whole : length (partsOf (h .args .answer) (h .args .row .now)) ≤ length (h .args .area .now)
   fits-whole = fitting (c .before .before .before) (not-false _ (c .before .before .if2 .left))
 
-  head-length : length (c .put-head .last .1 .0) ≡ length (h .args .area .now)
-  head-length = put-length (c .put-head .last .1 .0) (h .args .area .now) 0 (headOf (h .args .answer)) (c .put-head .ensures .0)
+  head-end : c .before .before .before .before .before .head-width .result ≡ length (headOf (h .args .answer))
+  head-end = c .before .before .before .before .before .head-width .ensures
+
+  head-length : length (c .put-head .last .1 .1 .0) ≡ length (h .args .area .now)
+  head-length = put-length (c .put-head .last .1 .1 .0) (h .args .area .now) 0 (headOf (h .args .answer)) (c .put-head .ensures)
 
 module _ (c : tie.After-put-row) where
   abbrev p : tie.After-put-head
@@ -62,10 +65,10 @@ module _ (c : tie.After-put-row) where
   front = headOf (h p .args .answer) ++ spaced (h p .args .row .now)
 
   row-put : c .put-row .last .1 .1 .0 ≡ sets (h p .args .area .now) 0 front
-  row-put = put-behind (h p .args .area .now) _ _ (p .put-head .result) (headOf (h p .args .answer)) (spaced (h p .args .row .now)) (p .put-head .ensures .0) (p .put-head .ensures .1) (c .put-row .ensures .0)
+  row-put = put-behind (h p .args .area .now) _ _ _ (headOf (h p .args .answer)) (spaced (h p .args .row .now)) (p .put-head .ensures) (head-end p) (c .put-row .ensures .0)
 
   row-end : c .put-row .result ≡ length front
-  row-end = let l = length-append (headOf (h p .args .answer)) (spaced (h p .args .row .now)) in omega (arith, l, p .put-head .ensures .1, c .put-row .ensures .1)
+  row-end = let l = length-append (headOf (h p .args .answer)) (spaced (h p .args .row .now)) in omega (arith, l, head-end p, c .put-row .ensures .1)
 
   row-length : length (c .put-row .last .1 .1 .0) ≡ length (h p .args .area .now)
   row-length = put-length (c .put-row .last .1 .1 .0) (h p .args .area .now) 0 front row-put
@@ -102,7 +105,7 @@ put-row-requires : tie.Need-put-row-requires
 put-row-requires c κs =
     let q = (c .before .before .before) in
     let l = parts-length (h q .args .answer) (h q .args .row .now) in
-    omega (arith, l, fits-whole q, head-length q, q .put-head .ensures .1)
+    omega (arith, l, fits-whole q, head-length q, head-end q)
 
 slice-write-area : tie.Need-slice-write-area
 slice-write-area c =

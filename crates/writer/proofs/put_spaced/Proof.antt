@@ -1,39 +1,34 @@
-use Rattle.writer.proofs.Puts.{put-length, sets-more}
+use Prim.Native.Nat.{_-_}
+use mathlib.Core.List.{_∷_, []}
 use native.Mathlib.Omega.{arith}
-use mathlib.Core.Path.{_≡_, _∙_}
-use lib.ListN.{length-set}
-use lib.Seq.{sets}
-use mathlib.Core.List.{_∷_}
-use Rattle.format.specs.Lines.{space}
+use mathlib.Core.Path.{ap, _∙_}
+use lib.ListN.{set}
 use Rattle.format.specs.Numbers.{digits}
+use Rattle.writer.proofs.Puts.{sets-back}
 use borrow.Author.Needs.{needs}
 use Rattle.writer.proofs.put_spaced.Statement.{statement}
 use Rattle.writer.proofs.put_spaced.Tie as tie
 use Rattle.writer.proofs.put_spaced.Reads as reads
 use Rattle.writer.proofs.put_spaced.Lts as lts
-use Rattle.writer.proofs.put_digits.Reads as put-digits-reads
+use Rattle.writer.proofs.put_back.Reads as put-back-reads
 
--- what stands in the area
-put : (c : tie.After-put-digits) → c .put-digits .last .1 .1 .0 ≡ sets (c .before .before .before .args .area .now) (c .before .before .before .args .at) (space ∷ digits (c .before .before .before .args .n))
-put c = c .put-digits .ensures .0 ∙ sets-more (c .before .before .before .args .area .now) (c .before .before .before .args .at) 32 (digits (c .before .before .before .args .n))
+put-back-requires : tie.Need-put-back-requires
+put-back-requires c κs = search needs
+
+sub-at : tie.Need-sub-at
+sub-at c = search needs
 
 slice-write-area : tie.Need-slice-write-area
-slice-write-area c = omega (arith, (c .before .pre))
-
-add-put-digits : tie.Need-add-put-digits
-add-put-digits c = search needs
-
-put-digits-requires : tie.Need-put-digits-requires
-put-digits-requires c κs =
-    omega (arith, (c .before .before .pre), length-set (c .before .before .args .area .now) (c .before .before .args .at) 32)
+slice-write-area c = search needs
 
 same-length : tie.Need-same-length
-same-length c =
-    put-length _ (c .before .before .before .before .before .args .area .now) (c .before .before .before .before .before .args .at) (space ∷ digits (c .before .before .before .before .before .args .n)) (put (c .before .before))
+same-length c = search needs
 
 returns : tie.Need-returns
-returns c = (put (c .before .before), omega (arith, (c .before .before .put-digits .ensures .1)))
+returns c =
+    let at = (c .before .before .put-back .result) in
+    (ap (λ l. set l (at - 1) 32) ((c .before .before .put-back .ensures .0)) ∙ sets-back ((c .before .before .before .before .before .args .area .now)) (at - 1) (32 ∷ []) at (digits ((c .before .before .before .before .before .args .n))) (omega (arith, (c .before .before .put-back .ensures .1), (c .before .before .before .before .before .pre .0))), omega (arith, (c .before .before .put-back .ensures .1)))
 
 pub put-spaced-spec : {M : Type 1} → statement M
 put-spaced-spec =
-    tie.close (tie.spec slice-write-area add-put-digits put-digits-requires same-length returns)
+    tie.close (tie.spec put-back-requires sub-at slice-write-area same-length returns)
