@@ -128,13 +128,16 @@ fn row_most(row: &[i32])
     }
 }
 
-// Whether the values of a row, each behind a space, have room. They are measured only where there is little.
+// Whether the values of a row, each behind a space, have room. 32 of them take at most 384 bytes, so they are measured only where they are more or
+// there is less room.
 fn row_fits(row: &[i32], room: usize) -> bool
     ensures { λ t. ⌜ t ≡ leb (length (spaced (now (row .entry)))) room ⌝ }
 {
-    if row.len() <= room / 12 {
-        row_most(row);
-        return true;
+    if row.len() <= 32 {
+        if 384 <= room {
+            row_most(row);
+            return true;
+        }
     }
     let mut left = room;
     let mut i: usize = 0;

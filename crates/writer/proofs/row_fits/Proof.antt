@@ -32,7 +32,7 @@ row-most-requires c κs = search needs
 
 returns : tie.Need-returns Inv-loop μ-loop
 returns c =
-    sym (le-leb (length (spaced (c .before .before .args .row .now))) (c .before .before .args .room) (omega (arith, (c .row-most .ensures))))
+    sym (le-leb (length (spaced (c .before .before .before .args .row .now))) (c .before .before .before .args .room) (omega (arith, (c .row-most .ensures))))
 
 loop-holds : tie.Need-loop-holds Inv-loop μ-loop
 loop-holds c = (omega arith, refl)
