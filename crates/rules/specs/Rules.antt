@@ -1,9 +1,9 @@
 -- Rules as arrays hold them, and their tests on a list of values. Assumes nothing.
-use Prim.Native.Nat.{ℕ, _+_, _-_, _<_, _≤_}
+use Prim.Native.Nat.{ℕ, _+_, _<_, _≤_}
 use mathlib.Core.Bool.{Bool, true, false, not, cond, _&&_, _||_}
 use mathlib.Core.List.{List}
 use mathlib.Core.Path.{_≡_}
-use lib.Dec.{eqb}
+use lib.Dec.{eqb, leb}
 use lib.IntN.{ℤ, pos, _+ℤ_}
 use lib.Signed.{ltZ}
 use lib.ListN.{getD}
@@ -25,6 +25,10 @@ pairHolds f a c b = ltZ (f a +ℤ c) (f b)
 abbrev pub holdsAt : List ℕ → List ℤ → List ℕ → (ℕ → ℤ) → ℕ → Bool
 holdsAt lower gap upper f i = pairHolds f (getD lower i 0) (getD gap i (pos 0)) (getD upper i 0)
 
+-- values where measure m counts as y
+abbrev pub countedAs : ℕ → ℤ → (ℕ → ℤ) → ℕ → ℤ
+countedAs m y f k = cond (eqb k m) y (f k)
+
 unfoldable pub holdsIn : List ℕ → List ℤ → List ℕ → ℕ → List ℤ → Bool
 unfolding model.value
 holdsIn lower gap upper n vs = all (holdsAt lower gap upper (model.value vs)) (span 0 n (λ i. i))
@@ -32,16 +36,34 @@ holdsIn lower gap upper n vs = all (holdsAt lower gap upper (model.value vs)) (s
 unfoldable pub namesPair : ℕ → ℕ → ℕ → Bool
 namesPair a b m = eqb a m || eqb b m
 
+abbrev pub namesAt : List ℕ → List ℕ → ℕ → ℕ → Bool
+namesAt lower upper m i = namesPair (getD lower i 0) (getD upper i 0) m
+
 -- A rule that need not be tested after a change of measure m: one that does not name it, where all held before (`sound`).
 abbrev pub sparedAt : Bool → ℕ → List ℕ → List ℕ → ℕ → Bool
-sparedAt sound m lower upper i = sound && not (namesPair (getD lower i 0) (getD upper i 0) m)
+sparedAt sound m lower upper i = sound && not (namesAt lower upper m i)
 
--- the first rule of a stretch that is not spared, or the end of the stretch
-pub record Due (sound : Bool) (m : ℕ) (lower upper : List ℕ) (from end i : ℕ) : Type 0 where
+-- the first rule of a stretch that names measure m, or the end of the stretch
+pub record Due (m : ℕ) (lower upper : List ℕ) (from end i : ℕ) : Type 0 where
   pub since : from ≤ i
   pub within : i ≤ end
-  pub spares : (j : ℕ) → from ≤ j → j < i → sparedAt sound m lower upper j ≡ true
-  pub needs : i < end → sparedAt sound m lower upper i ≡ false
+  pub spares : (j : ℕ) → from ≤ j → j < i → namesAt lower upper m j ≡ false
+  pub needs : i < end → namesAt lower upper m i ≡ true
+
+-- measures are listed from 1 to 32; 0 stands for any other
+abbrev pub listedAs : ℕ → ℕ
+listedAs m = cond (leb m 32) m 0
+
+-- The links of the rules from a place to the end: from a measure to the first of them that names it, from each of them to the next that
+-- names its lower measure, and to the next that names its upper one.
+pub record Linked (links lower upper : List ℕ) (from end : ℕ) : Type 0 where
+  pub first : (m : ℕ) → 0 < m → m ≤ 32 → Due m lower upper from end (getD links (128 + m) 0)
+  pub below : (i : ℕ) → from ≤ i → i < end → 0 < getD lower i 0 → getD lower i 0 ≤ 32 → Due (getD lower i 0) lower upper (i + 1) end (getD links i 0)
+  pub above : (i : ℕ) → from ≤ i → i < end → 0 < getD upper i 0 → getD upper i 0 ≤ 32 → Due (getD upper i 0) lower upper (i + 1) end (getD links (64 + i) 0)
+
+-- the link of rule i, whose lower measure is a, for measure m
+abbrev pub linkAt : List ℕ → ℕ → ℕ → ℕ → ℕ
+linkAt links i a m = cond (eqb a m) (getD links i 0) (getD links (64 + i) 0)
 
 -- the others of the first n, tested
 unfoldable pub testedIn : Bool → ℕ → List ℕ → List ℤ → List ℕ → ℕ → List ℤ → Bool
@@ -50,7 +72,7 @@ testedIn sound m lower gap upper n vs =
     all (λ i. sparedAt sound m lower upper i || holdsAt lower gap upper (model.value vs) i) (span 0 n (λ i. i))
 
 abbrev pub firmAt : List ℕ → List ℕ → List Bool → ℕ → ℕ → Bool
-firmAt lower upper firm m i = getD firm i false && namesPair (getD lower i 0) (getD upper i 0) m
+firmAt lower upper firm m i = getD firm i false && namesAt lower upper m i
 
 unfoldable pub firmIn : List ℕ → List ℕ → List Bool → ℕ → ℕ → Bool
 firmIn lower upper firm n m = any (firmAt lower upper firm m) (span 0 n (λ i. i))

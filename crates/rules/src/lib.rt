@@ -1,13 +1,13 @@
 // The rules of a plan as parallel number arrays, and their test on a row of values that lies in a larger array. Everything is lent.
 ghost use mathlib.Core.Path.{_≡_};
-ghost use mathlib.Core.Bool.{_&&_};
-ghost use Prim.Native.Nat.{_≤_, min};
+ghost use mathlib.Core.Bool.{true, not, _&&_, _||_};
+ghost use Prim.Native.Nat.{_<_, _≤_, min};
 ghost use lib.IntN.{_+ℤ_};
 ghost use lib.Signed.{ltZ};
 ghost use Rattle.protocol.specs.Plan.{value};
 ghost use Rattle.change.specs.Change.{viewChange};
 ghost use Rattle.rows.specs.Rows.{row};
-ghost use Rattle.rules.specs.Rules.{withValue, Due, testedIn, firmIn, namesPair, trialOf};
+ghost use Rattle.rules.specs.Rules.{withValue, countedAs, pairHolds, listedAs, linkAt, Linked, testedIn, firmIn, namesPair, trialOf};
 use change::Applied;
 use change::Change;
 
@@ -56,58 +56,158 @@ fn less_by(low: i32, g: i32, high: i32) -> bool
     exact::sum(low, g) < high as i64
 }
 
-// The first rule from a place on that needs a test: any where nothing is known of the others, else one that names measure m. The
-// end if there is none. A loop of its own, as most rules need no test.
-fn due<'a>(
-    lower: &'a [u32; 64],
-    upper: &'a [u32; 64],
-    from: usize,
-    end: usize,
-    m: u32,
-    sound: bool,
-) -> usize
-    requires { ⌜ (from ≤ end) × (end ≤ 64) ⌝ }
-    ensures { λ r. ⌜ Due sound m (now (lower .entry)) (now (upper .entry)) from end r ⌝ }
+// ---- which rules name a measure
+
+// Links between the rules, by which those that name a measure are found without a look at the others: at 128 + m the first rule that names
+// measure m, from 1 to 32; at i the next after rule i that names its lower measure, at 64 + i the same for its upper one. The number of
+// rules where there is none.
+pub type Links = [u32; 161];
+
+// A measure from 1 to 32 as it is; 0 for any other.
+fn listed(m: u32) -> usize
+    ensures { λ r. ⌜ (r ≡ listedAs m) × (r ≤ 32) ⌝ }
 {
-    if !sound {
-        return from;
+    if m <= 32 {
+        return m as usize;
     }
-    let mut i = from;
-    // Two rules a turn: half the tests of the loop itself.
-    while i + 2 <= end {
-        if lower[i] == m {
-            return i;
-        }
-        if upper[i] == m {
-            return i;
-        }
-        if lower[i + 1] == m {
-            return i + 1;
-        }
-        if upper[i + 1] == m {
-            return i + 1;
-        }
-        i += 2;
+    0
+}
+
+// The links between the first k rules. From the last rule down: each takes over what its measures had for a first rule, and becomes it.
+pub fn indexed<'a>(lower: &'a [u32; 64], upper: &'a [u32; 64], k: u32) -> Links
+    ensures { λ r. ⌜ Linked r (now (lower .entry)) (now (upper .entry)) 0 (min k 64) ⌝ }
+{
+    let end = rows::capped(k, 64);
+    let none = end as u32;
+    let mut links = [none; 161];
+    let mut i = end;
+    while 0 < i {
+        i -= 1;
+        let a = 128 + listed(lower[i]);
+        let b = 128 + listed(upper[i]);
+        let below = links[a];
+        let above = links[b];
+        links[i] = below;
+        links[64 + i] = above;
+        links[a] = i as u32;
+        links[b] = i as u32;
     }
-    if i < end {
-        if lower[i] == m {
-            return i;
-        }
-        if upper[i] == m {
-            return i;
-        }
-        i += 1;
+    links
+}
+
+fn wide(x: u32) -> usize
+    ensures { λ r. ⌜ r ≡ x ⌝ }
+{
+    x as usize
+}
+
+// Where the links lead from rule i, whose lower measure is a, on the way to the next that names measure m.
+fn onward(links: &Links, i: usize, a: u32, m: u32) -> usize
+    requires { ⌜ i < 64 ⌝ }
+    ensures { λ r. ⌜ r ≡ linkAt (now (links .entry)) i a m ⌝ }
+{
+    if a == m {
+        return wide(links[i]);
     }
-    i
+    wide(links[64 + i])
+}
+
+// ---- the rules on a row
+
+// Whether a rule that names measure m holds on the row of n values that begins at a place, where m counts as y. Most rules are tested
+// here: m is not looked up again.
+fn named_holds(values: &[i32], at: usize, n: usize, m: u32, y: i32, a: u32, g: i32, b: u32) -> bool
+    ensures { λ t. ⌜ (namesPair a b m ≡ true → t ≡ pairHolds (countedAs m y (value (row (now (values .entry)) at n))) a g b) ⌝ }
+{
+    if a == m {
+        if b == m {
+            return less_by(y, g, y);
+        }
+        return less_by(y, g, value_at(values, at, n, b));
+    }
+    less_by(value_at(values, at, n, a), g, y)
+}
+
+// Whether each rule that names measure m holds, where m counts as x. Links that lead back are not those of the rules.
+fn named_hold<'a>(
+    lower: &'a [u32; 64],
+    gap: &'a [i32; 64],
+    upper: &'a [u32; 64],
+    end: usize,
+    links: &'a Links,
+    values: &'a [i32],
+    at: usize,
+    n: usize,
+    m: u32,
+    x: i32,
+) -> bool
+    requires { ⌜ (end ≤ 64) × (0 < m) × (m ≤ 32) ⌝ }
+    ensures { λ t. ⌜ (Linked (now (links .entry)) (now (lower .entry)) (now (upper .entry)) 0 end → t ≡ testedIn true m (now (lower .entry)) (now (gap .entry)) (now (upper .entry)) end (withValue m x (row (now (values .entry)) at n))) ⌝ }
+{
+    let y = value_with(values, at, n, m, x, m);
+    let first = m as usize;
+    let mut i = wide(links[128 + first]);
+    while i < end {
+        let a = lower[i];
+        let b = upper[i];
+        let g = gap[i];
+        if !named_holds(values, at, n, m, y, a, g, b) {
+            return false;
+        }
+        let j = onward(links, i, a, m);
+        if j <= i {
+            return false;
+        }
+        i = j;
+    }
+    true
+}
+
+// A rule on measures a and b names measure m.
+fn names(a: u32, b: u32, m: u32) -> bool
+    ensures { λ t. ⌜ t ≡ namesPair a b m ⌝ }
+{
+    if a == m {
+        return true;
+    }
+    b == m
+}
+
+// Whether a rule holds, or needs no test: all rules held before (`sound`), and it does not name measure m.
+fn stands(
+    values: &[i32],
+    at: usize,
+    n: usize,
+    m: u32,
+    x: i32,
+    a: u32,
+    g: i32,
+    b: u32,
+    sound: bool,
+) -> bool
+    ensures { λ t. ⌜ t ≡ ((sound && not (namesPair a b m)) || pairHolds (value (withValue m x (row (now (values .entry)) at n))) a g b) ⌝ }
+{
+    if sound {
+        if !names(a, b, m) {
+            return true;
+        }
+    }
+    less_by(
+        value_with(values, at, n, m, x, a),
+        g,
+        value_with(values, at, n, m, x, b),
+    )
 }
 
 // Whether each of the first k rules that need a test holds on the row of at most 32 values that begins at a place, where measure m
-// counts as x. The caller that knows that all held before says so (`sound`).
+// counts as x. The caller that knows that all held before says so (`sound`) and lends the rules' links; of other links only the end of the
+// walk is sure.
 pub fn rules_hold<'a>(
     lower: &'a [u32; 64],
     gap: &'a [i32; 64],
     upper: &'a [u32; 64],
     k: u32,
+    links: &'a Links,
     values: &'a [i32],
     at: usize,
     n: u32,
@@ -115,23 +215,24 @@ pub fn rules_hold<'a>(
     x: i32,
     sound: bool,
 ) -> bool
-    ensures { λ t. ⌜ t ≡ testedIn sound m (now (lower .entry)) (now (gap .entry)) (now (upper .entry)) (min k 64) (withValue m x (row (now (values .entry)) at (min n 32))) ⌝ }
+    ensures { λ t. ⌜ ((sound ≡ true → Linked (now (links .entry)) (now (lower .entry)) (now (upper .entry)) 0 (min k 64)) → t ≡ testedIn sound m (now (lower .entry)) (now (gap .entry)) (now (upper .entry)) (min k 64) (withValue m x (row (now (values .entry)) at (min n 32)))) ⌝ }
 {
     let end = rows::capped(k, 64);
     let size = rows::capped(n, 32);
-    let mut i = due(lower, upper, 0, end, m, sound);
+    if sound {
+        if rows::one_to(32, m) {
+            return named_hold(lower, gap, upper, end, links, values, at, size, m, x);
+        }
+    }
+    let mut i: usize = 0;
     while i < end {
         let a = lower[i];
         let b = upper[i];
         let g = gap[i];
-        if !less_by(
-            value_with(values, at, size, m, x, a),
-            g,
-            value_with(values, at, size, m, x, b),
-        ) {
+        if !stands(values, at, size, m, x, a, g, b, sound) {
             return false;
         }
-        i = due(lower, upper, i + 1, end, m, sound);
+        i += 1;
     }
     true
 }
@@ -143,10 +244,7 @@ fn names_firmly(f: bool, a: u32, b: u32, m: u32) -> bool
     ensures { λ t. ⌜ t ≡ (f && namesPair a b m) ⌝ }
 {
     if f {
-        if a == m {
-            return true;
-        }
-        return b == m;
+        return names(a, b, m);
     }
     false
 }
@@ -183,6 +281,7 @@ pub fn try_change<'a>(
     gap: &'a [i32; 64],
     upper: &'a [u32; 64],
     k: u32,
+    links: &'a Links,
     values: &'a [i32],
     at: usize,
     n: u32,
@@ -190,13 +289,13 @@ pub fn try_change<'a>(
     change: Change,
     sound: bool,
 ) -> Trial
-    ensures { λ r. ⌜ r ≡ trialOf (testedIn sound m (now (lower .entry)) (now (gap .entry)) (now (upper .entry)) (min k 64)) m (viewChange change) (row (now (values .entry)) at (min n 32)) ⌝ }
+    ensures { λ r. ⌜ ((sound ≡ true → Linked (now (links .entry)) (now (lower .entry)) (now (upper .entry)) 0 (min k 64)) → r ≡ trialOf (testedIn sound m (now (lower .entry)) (now (gap .entry)) (now (upper .entry)) (min k 64)) m (viewChange change) (row (now (values .entry)) at (min n 32))) ⌝ }
 {
     let made = change::apply(change, value_at(values, at, rows::capped(n, 32), m));
     let Applied::InRange(x) = made else {
         return Trial::OutOfRange;
     };
-    if rules_hold(lower, gap, upper, k, values, at, n, m, x, sound) {
+    if rules_hold(lower, gap, upper, k, links, values, at, n, m, x, sound) {
         return Trial::Effective(x);
     }
     Trial::Broken

@@ -1,11 +1,10 @@
 use borrow.Author.Needs.{needs}
 use native.Mathlib.Omega.{arith}
-use Prim.Native.Nat.{ℕ, _-_, _<_, _≤_, min}
-use mathlib.Core.Bool.{false, _||_}
-use mathlib.Core.Path.{_≡_, sym, ap₂, _∙_}
-use lib.IntN.{pos, _+ℤ_}
+use Prim.Native.Nat.{ℕ, _-_, min}
+use mathlib.Core.Bool.{_||_}
+use mathlib.Core.Path.{_≡_, sym, ap, ap₂, subst, _∙_}
+use lib.IntN.{pos}
 use lib.ListN.{getD}
-use lib.Signed.{ltZ}
 use mir.Syntax.{w32}
 use mir.Val.{toZ, ofZ}
 use mir.Facts.{toZ-ofZ}
@@ -13,27 +12,25 @@ use borrow.Author.Tests.{not-true, not-false}
 use Rattle.exact.proofs.Ints.{fits32}
 use Rattle.protocol.specs.Lists.{all}
 use Rattle.protocol.specs.Plan.{value}
+use Rattle.protocol.proofs.Laws.{range, is-yes}
 use Rattle.rows.specs.Rows.{row}
 use Rattle.rows.proofs.Spans.{Walked, walk-begin, all-next, all-stop, all-over}
-use Rattle.rules.specs.Rules.{withValue, pairHolds, holdsAt, sparedAt, testedIn}
-use Rattle.rules.proofs.Rows.{walk-due}
+use Rattle.rules.specs.Rules.{withValue, pairHolds, holdsAt, sparedAt, testedIn, Linked}
 use Rattle.rules.proofs.rules_hold.Statement.{statement}
 use Rattle.rules.proofs.rules_hold.Tie as tie
 use Rattle.rules.proofs.rules_hold.Reads as reads
 use Rattle.rules.proofs.rules_hold.Lts as lts
 use Rattle.rows.proofs.capped.Reads as capped-reads
-use Rattle.rules.proofs.due.Reads as due-reads
-use Rattle.rules.proofs.less_by.Reads as less-by-reads
-use Rattle.rules.proofs.value_with.Reads as value-with-reads
+use Rattle.rows.proofs.one_to.Reads as one-to-reads
+use Rattle.rules.proofs.named_hold.Reads as named-hold-reads
+use Rattle.rules.proofs.stands.Reads as stands-reads
 
 abbrev Inv-loop : tie.InvT-loop
-Inv-loop lower gap upper k values at n m x sound end size i₀ i =
-    (i ≤ end)
-    × (i < end → sparedAt sound m lower upper i ≡ false)
-    × Walked (all (λ j. sparedAt sound m lower upper j || holdsAt lower gap upper (value (withValue m (toZ w32 x) (row values at size))) j)) (λ j. j) (min k 64) i
+Inv-loop lower gap upper k links values at n m x sound end size i₀ i =
+    Walked (all (λ j. sparedAt sound m lower upper j || holdsAt lower gap upper (value (withValue m (toZ w32 x) (row values at size))) j)) (λ j. j) (min k 64) i
 
 abbrev μ-loop : tie.MeasureT-loop
-μ-loop lower gap upper k values at n m x sound end size i₀ i = end - i
+μ-loop lower gap upper k links values at n m x sound end size i₀ i = end - i
 
 -- the row that is tested is the one given
 exactly : (c : tie.After-capped2 Inv-loop μ-loop) → let a = (c .before .before .args) in
@@ -44,23 +41,23 @@ exactly c =
     let a = s .args in
     ap₂ (λ y n. testedIn (a .sound) (a .m) (a .lower .now) (a .gap .now) (a .upper .now) (min (a .k) 64) (withValue (a .m) y (row (a .values .now) (a .at) n))) (toZ-ofZ (s .fits .x)) (c .capped2 .ensures)
 
--- whether the rule at hand holds
-module _ (c : tie.After-less-by Inv-loop μ-loop) where
+-- the rule at hand
+module _ (c : tie.After-stands Inv-loop μ-loop) where
   abbrev start : tie.Start Inv-loop μ-loop
-  start = c .before .before .before .before .before .before .before .before .before .before .before
+  start = c .before .before .before .before .before .before .before .before .before
 
   abbrev at-hand : ℕ
-  at-hand = c .before .before .before .before .before .before .before .loop .i
+  at-hand = c .before .before .before .before .before .loop .i
 
-  tested : c .less-by .result ≡ holdsAt (start .args .lower .now) (start .args .gap .now) (start .args .upper .now) (value (withValue (start .args .m) (toZ w32 (ofZ w32 (start .args .x))) (row (start .args .values .now) (start .args .at) (c .before .before .before .before .before .before .before .before .before .capped2 .result)))) at-hand
-  unfolding pairHolds
+  abbrev size : ℕ
+  size = c .before .before .before .before .before .before .before .capped2 .result
+
+  tested : c .stands .result ≡ (sparedAt (start .args .sound) (start .args .m) (start .args .lower .now) (start .args .upper .now) at-hand || holdsAt (start .args .lower .now) (start .args .gap .now) (start .args .upper .now) (value (withValue (start .args .m) (toZ w32 (ofZ w32 (start .args .x))) (row (start .args .values .now) (start .args .at) size))) at-hand)
   tested =
-      let low = (c .before .before .value-with) in
-      let high = (c .before .value-with2) in
-      (c .less-by .ensures)
-      ∙ ap₂ ltZ
-      (ap₂ _+ℤ_ (toZ-ofZ (fits32 (low .result) (low .ok)) ∙ low .ensures) (toZ-ofZ (fits32 (getD (start .args .gap .now) at-hand (pos 0)) (c .before .before .before .g .given))))
-      (toZ-ofZ (fits32 (high .result) (high .ok)) ∙ high .ensures)
+      let a = start .args in
+      c .stands .ensures
+      ∙ ap (λ g. sparedAt (a .sound) (a .m) (a .lower .now) (a .upper .now) at-hand || pairHolds (value (withValue (a .m) (toZ w32 (ofZ w32 (a .x))) (row (a .values .now) (a .at) size))) (getD (a .lower .now) at-hand 0) g (getD (a .upper .now) at-hand 0))
+      (toZ-ofZ (fits32 (getD (a .gap .now) at-hand (pos 0)) (c .before .g .given)))
 
 capped-requires : tie.Need-capped-requires Inv-loop μ-loop
 capped-requires c κs = search needs
@@ -68,13 +65,25 @@ capped-requires c κs = search needs
 capped-requires-2 : tie.Need-capped-requires-2 Inv-loop μ-loop
 capped-requires-2 c κs = search needs
 
-due-requires : tie.Need-due-requires Inv-loop μ-loop
-due-requires c κs = search needs
+one-to-requires : tie.Need-one-to-requires Inv-loop μ-loop
+one-to-requires c κs = search needs
+
+named-hold-requires : tie.Need-named-hold-requires Inv-loop μ-loop
+named-hold-requires c κs =
+    let r = range 32 _ (is-yes (sym (c .before .one-to .ensures) ∙ (c .if2 .taken))) in (omega arith, r .0, r .1)
+
+returns : tie.Need-returns Inv-loop μ-loop
+returns c =
+    λ h.
+    let s = (c .before .before .before .before .before .before) in
+    let a = s .args in
+    let e = (c .before .before .before .before .before .capped .ensures) in
+    let n = (c .before .before .before .before .capped2 .ensures) in
+    (c .named-hold .ensures) (subst (Linked (a .links .now) (a .lower .now) (a .upper .now) 0) (sym e) (h (c .before .before .before .if1 .taken)))
+    ∙ (λ i. testedIn (sym (c .before .before .before .if1 .taken) i) (a .m) (a .lower .now) (a .gap .now) (a .upper .now) (e i) (withValue (a .m) (toZ-ofZ (s .fits .x) i) (row (a .values .now) (a .at) (n i))))
 
 loop-holds : tie.Need-loop-holds Inv-loop μ-loop
-loop-holds c =
-    let d = (c .due .ensures) in
-    (d .within, d .needs, walk-due _ _ _ _ _ _ _ _ _ (omega arith) d (walk-begin _ _ _))
+loop-holds c = walk-begin _ _ _
 
 mul-a : tie.Need-mul-a Inv-loop μ-loop
 mul-a c = omega arith
@@ -94,39 +103,27 @@ mul-g c = omega arith
 element-copy-out-g : tie.Need-element-copy-out-g Inv-loop μ-loop
 element-copy-out-g c = omega arith
 
-value-with-requires : tie.Need-value-with-requires Inv-loop μ-loop
-value-with-requires c κs = search needs
-
-value-with-requires-2 : tie.Need-value-with-requires-2 Inv-loop μ-loop
-value-with-requires-2 c κs = search needs
-
-less-by-requires : tie.Need-less-by-requires Inv-loop μ-loop
-less-by-requires c κs = search needs
-
-returns : tie.Need-returns Inv-loop μ-loop
-unfolding testedIn
-returns c =
-    all-stop _ _ _ _ (c .before .before .before .before .before .before .before .before .loop .inv .2) (omega arith) (ap₂ (λ u v. u || v) ((c .before .before .before .before .before .before .before .before .loop .inv .1) (c .before .before .before .before .before .before .before .loop-test .taken)) (sym (tested (c .before)) ∙ not-true _ (c .if1 .taken)))
-    ∙ exactly (c .before .before .before .before .before .before .before .before .before .before)
-
-add-due : tie.Need-add-due Inv-loop μ-loop
-add-due c = omega arith
-
-due-requires-2 : tie.Need-due-requires-2 Inv-loop μ-loop
-due-requires-2 c κs = search needs
-
-loop-less : tie.Need-loop-less Inv-loop μ-loop
-loop-less c = omega (arith, (c .due2 .ensures .since))
-
-loop-again : tie.Need-loop-again Inv-loop μ-loop
-loop-again c =
-    let d = (c .due2 .ensures) in
-    let next = all-next _ _ _ _ (c .before .before .before .before .before .before .before .before .before .loop .inv .2) (omega arith) (ap₂ (λ u v. u || v) ((c .before .before .before .before .before .before .before .before .before .loop .inv .1) (c .before .before .before .before .before .before .before .before .loop-test .taken)) (sym (tested (c .before .before)) ∙ not-false _ (c .before .if1 .left))) in
-    (d .within, d .needs, walk-due _ _ _ _ _ _ _ _ _ (omega arith) d next)
+stands-requires : tie.Need-stands-requires Inv-loop μ-loop
+stands-requires c κs = search needs
 
 returns-2 : tie.Need-returns-2 Inv-loop μ-loop
 unfolding testedIn
-returns-2 c = all-over _ _ _ _ (c .before .loop .inv .2) (omega arith) ∙ exactly (c .before .before .before)
+returns-2 c =
+    λ h. all-stop _ _ _ _ (c .before .before .before .before .before .before .loop .inv) (omega arith) (sym (tested (c .before)) ∙ not-true _ (c .if3 .taken)) ∙ exactly (c .before .before .before .before .before .before .before .before)
+
+add-i : tie.Need-add-i Inv-loop μ-loop
+add-i c = omega arith
+
+loop-less : tie.Need-loop-less Inv-loop μ-loop
+loop-less c = omega arith
+
+loop-again : tie.Need-loop-again Inv-loop μ-loop
+loop-again c =
+    all-next _ _ _ _ (c .before .before .before .before .before .before .loop .inv) (omega arith) (sym (tested (c .before)) ∙ not-false _ (c .if3 .left))
+
+returns-3 : tie.Need-returns-3 Inv-loop μ-loop
+unfolding testedIn
+returns-3 c = λ h. all-over _ _ _ _ (c .before .loop .inv) (omega arith) ∙ exactly (c .before .before .before)
 
 pub rules-hold-spec : {M : Type 1} → statement M
 rules-hold-spec =
@@ -136,7 +133,9 @@ rules-hold-spec =
     μ-loop
     capped-requires
     capped-requires-2
-    due-requires
+    one-to-requires
+    named-hold-requires
+    returns
     loop-holds
     mul-a
     element-copy-out-a
@@ -144,12 +143,9 @@ rules-hold-spec =
     element-copy-out-b
     mul-g
     element-copy-out-g
-    value-with-requires
-    value-with-requires-2
-    less-by-requires
-    returns
-    add-due
-    due-requires-2
+    stands-requires
+    returns-2
+    add-i
     loop-less
     loop-again
-    returns-2)
+    returns-3)

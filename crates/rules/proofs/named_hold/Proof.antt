@@ -1,0 +1,166 @@
+use borrow.Author.Needs.{needs}
+use native.Mathlib.Omega.{arith}
+use Prim.Native.Nat.{ℕ, _+_, _-_}
+use mathlib.Core.Bool.{true, not, _||_}
+use mathlib.Core.List.{List}
+use mathlib.Core.Path.{_≡_, sym, ap, ap₂, subst, _∙_}
+use lib.IntN.{ℤ, pos}
+use lib.ListN.{getD}
+use mir.Syntax.{w32}
+use mir.Val.{toZ, ofZ}
+use mir.Facts.{toZ-ofZ}
+use borrow.Author.Tests.{not-true, not-false}
+use Rattle.exact.proofs.Ints.{fits32}
+use Rattle.protocol.specs.Plan.{value}
+use Rattle.rows.specs.Rows.{row}
+use Rattle.rows.proofs.Spans.{walk-begin, all-next, all-stop, all-over}
+use Rattle.rules.specs.Rules.{withValue, countedAs, pairHolds, holdsAt, namesAt, testedIn, Due, Linked}
+use Rattle.rules.proofs.Rows.{counted-with, pair-same, Reached, reach, link-due}
+use Rattle.rules.proofs.named_hold.Statement.{statement}
+use Rattle.rules.proofs.named_hold.Tie as tie
+use Rattle.rules.proofs.named_hold.Reads as reads
+use Rattle.rules.proofs.named_hold.Lts as lts
+use Rattle.rules.proofs.named_holds.Reads as named-holds-reads
+use Rattle.rules.proofs.onward.Reads as onward-reads
+use Rattle.rules.proofs.value_with.Reads as value-with-reads
+use Rattle.rules.proofs.wide.Reads as wide-reads
+
+abbrev Inv-loop : tie.InvT-loop
+Inv-loop lower gap upper end links values at n m x y first i₀ i =
+    Linked links lower upper 0 end → Reached m lower upper (holdsAt lower gap upper (value (withValue m (toZ w32 x) (row values at n)))) end i
+
+abbrev μ-loop : tie.MeasureT-loop
+μ-loop lower gap upper end links values at n m x y first i₀ i = end - i
+
+-- the row that is tested is the one given
+exactly : (s : tie.Start Inv-loop μ-loop) → let a = s .args in
+    testedIn true (a .m) (a .lower .now) (a .gap .now) (a .upper .now) (a .end) (withValue (a .m) (toZ w32 (ofZ w32 (a .x))) (row (a .values .now) (a .at) (a .n)))
+    ≡ testedIn true (a .m) (a .lower .now) (a .gap .now) (a .upper .now) (a .end) (withValue (a .m) (a .x) (row (a .values .now) (a .at) (a .n)))
+exactly s = let a = s .args in ap (λ y. testedIn true (a .m) (a .lower .now) (a .gap .now) (a .upper .now) (a .end) (withValue (a .m) y (row (a .values .now) (a .at) (a .n)))) (toZ-ofZ (s .fits .x))
+
+-- the rule at hand, which names the measure
+module _ (c : tie.After-named-holds Inv-loop μ-loop) where
+  abbrev start : tie.Start Inv-loop μ-loop
+  start = c .before .before .before .before .before .before .before .before .before
+
+  abbrev at-hand : ℕ
+  at-hand = c .before .before .before .before .before .loop .i
+
+  abbrev ws : List ℤ
+  ws = withValue (start .args .m) (toZ w32 (ofZ w32 (start .args .x))) (row (start .args .values .now) (start .args .at) (start .args .n))
+
+  -- what is asked of the links
+  abbrev Asked : Type 0
+  Asked = Linked (start .args .links .now) (start .args .lower .now) (start .args .upper .now) 0 (start .args .end)
+
+  named : Asked → namesAt (start .args .lower .now) (start .args .upper .now) (start .args .m) at-hand ≡ true
+  named w = c .before .before .before .before .before .loop .inv w .needs (c .before .before .before .before .loop-test .taken)
+
+  tested : Asked → c .named-holds .result ≡ holdsAt (start .args .lower .now) (start .args .gap .now) (start .args .upper .now) (value ws) at-hand
+  tested w =
+      let y = c .before .before .before .before .before .before .before .before .value-with in
+      let vs = row (start .args .values .now) (start .args .at) (start .args .n) in
+      c .named-holds .ensures (named w)
+      ∙ ap₂ (λ y g. pairHolds (countedAs (start .args .m) y (value vs)) (getD (start .args .lower .now) at-hand 0) g (getD (start .args .upper .now) at-hand 0)) (toZ-ofZ (fits32 (y .result) (y .ok)) ∙ y .ensures) (toZ-ofZ (fits32 (getD (start .args .gap .now) at-hand (pos 0)) (c .before .g .given)))
+      ∙ pair-same _ (value ws) _ _ _ (counted-with (start .args .m) (toZ w32 (ofZ w32 (start .args .x))) vs)
+
+-- the next one
+onward-due : (c : tie.After-onward Inv-loop μ-loop) → let p = c .before .before in let a = start p .args in
+    Asked p → Due (a .m) (a .lower .now) (a .upper .now) (at-hand p + 1) (a .end) (c .onward .result)
+onward-due c w =
+    let p = c .before .before in
+    let a = start p .args in
+    subst (Due (a .m) (a .lower .now) (a .upper .now) (at-hand p + 1) (a .end)) (sym (c .onward .ensures))
+    (link-due (a .links .now) (a .lower .now) (a .upper .now) (a .end) (a .m) (at-hand p) w (omega arith) (omega arith) (p .before .before .before .before .loop-test .taken) (named p w))
+
+value-with-requires : tie.Need-value-with-requires Inv-loop μ-loop
+value-with-requires c κs = search needs
+
+add-wide : tie.Need-add-wide Inv-loop μ-loop
+add-wide c = omega arith
+
+mul-wide : tie.Need-mul-wide Inv-loop μ-loop
+mul-wide c = omega arith
+
+element-copy-out-wide : tie.Need-element-copy-out-wide Inv-loop μ-loop
+element-copy-out-wide c = omega arith
+
+wide-requires : tie.Need-wide-requires Inv-loop μ-loop
+wide-requires c κs = search needs
+
+loop-holds : tie.Need-loop-holds Inv-loop μ-loop
+loop-holds c = λ w.
+    let a = (c .before .before .before .args) in
+    reach (a .m) _ _ _ 0 _ _ (rw (← (c .wide .ensures)) at (w .first (a .m) (omega arith) (omega arith))) (walk-begin _ _ _)
+
+mul-a : tie.Need-mul-a Inv-loop μ-loop
+mul-a c = omega arith
+
+element-copy-out-a : tie.Need-element-copy-out-a Inv-loop μ-loop
+element-copy-out-a c = omega arith
+
+mul-b : tie.Need-mul-b Inv-loop μ-loop
+mul-b c = omega arith
+
+element-copy-out-b : tie.Need-element-copy-out-b Inv-loop μ-loop
+element-copy-out-b c = omega arith
+
+mul-g : tie.Need-mul-g Inv-loop μ-loop
+mul-g c = omega arith
+
+element-copy-out-g : tie.Need-element-copy-out-g Inv-loop μ-loop
+element-copy-out-g c = omega arith
+
+named-holds-requires : tie.Need-named-holds-requires Inv-loop μ-loop
+named-holds-requires c κs = search needs
+
+returns : tie.Need-returns Inv-loop μ-loop
+unfolding testedIn
+returns c =
+    λ w.
+    all-stop _ _ _ _ ((c .before .before .before .before .before .before .loop .inv) w .walked) (omega arith) (ap₂ (λ u v. not u || v) (named (c .before) w) (sym (tested (c .before) w) ∙ not-true _ (c .if1 .taken))) ∙ exactly (c .before .before .before .before .before .before .before .before .before .before)
+
+onward-requires : tie.Need-onward-requires Inv-loop μ-loop
+onward-requires c κs = search needs
+
+returns-2 : tie.Need-returns-2 Inv-loop μ-loop
+returns-2 c = λ w. let d = onward-due (c .before) w .since in absurd (omega arith)
+
+loop-less : tie.Need-loop-less Inv-loop μ-loop
+loop-less c = omega arith
+
+loop-again : tie.Need-loop-again Inv-loop μ-loop
+loop-again c =
+    λ w. reach _ _ _ _ _ _ _ (onward-due (c .before) w)
+    (all-next _ _ _ _ ((c .before .before .before .before .before .before .before .before .loop .inv) w .walked) (omega arith) (ap₂ (λ u v. not u || v) (named (c .before .before .before) w) (sym (tested (c .before .before .before) w) ∙ not-false _ (c .before .before .if1 .left))))
+
+returns-3 : tie.Need-returns-3 Inv-loop μ-loop
+unfolding testedIn
+returns-3 c =
+    λ w. all-over _ _ _ _ ((c .before .loop .inv) w .walked) (omega arith) ∙ exactly (c .before .before .before .before .before)
+
+pub named-hold-spec : {M : Type 1} → statement M
+named-hold-spec =
+    tie.close
+    (tie.spec
+    Inv-loop
+    μ-loop
+    value-with-requires
+    add-wide
+    mul-wide
+    element-copy-out-wide
+    wide-requires
+    loop-holds
+    mul-a
+    element-copy-out-a
+    mul-b
+    element-copy-out-b
+    mul-g
+    element-copy-out-g
+    named-holds-requires
+    returns
+    onward-requires
+    returns-2
+    loop-less
+    loop-again
+    returns-3)
