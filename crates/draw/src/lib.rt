@@ -59,11 +59,14 @@ pub fn open_plan(p: State) -> Answered
     if h.measures == 0 {
         return state::refuse(p, 16);
     }
+    // All rules are tested, so no links are needed.
+    let links = [0; 161];
     if !rules::rules_hold(
         &p.lower,
         &p.gap,
         &p.upper,
         h.rules,
+        &links,
         &p.values,
         0,
         h.measures,

@@ -32,12 +32,15 @@ pub fn edit(p: State, s: i32, client: i32, after: i32, m: i32, kind: i32, consta
     let slot = rows::capped(h.kept, 255);
     let old = p.values[at];
     let standing = p.edits[slot];
+    // Of any plan it is not known that its rules hold: all are tested, and no links are needed.
+    let links = [0; 161];
     let d = ruling::decide_edit(
         h,
         &p.lower,
         &p.gap,
         &p.upper,
         &p.firm,
+        &links,
         &p.values,
         named,
         old,

@@ -35,11 +35,14 @@ pub fn replay(p: State, n: i32) -> Answered
     let place = records::count(edits, h, Test::Settled) + 1;
     let at = point(e.measure);
     let old = p.draft[at];
+    // Of any plan it is not known that its rules hold: all are tested, and no links are needed.
+    let links = [0; 161];
     let d = settling::decide_replay(
         h,
         &p.lower,
         &p.gap,
         &p.upper,
+        &links,
         &p.draft,
         missing,
         e,

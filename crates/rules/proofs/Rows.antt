@@ -15,7 +15,7 @@ use Rattle.protocol.specs.Plan.{Rule, Change, inRange, value, ruleHolds, holds,
 use Rattle.protocol.proofs.Laws.{cases, both, range, yes-is, is-yes, in-range, nth-same, nth-other}
 use Rattle.rules.specs.declared.Trial.the-variants.{Effective, OutOfRange, Broken}
 use Rattle.rows.specs.Rows.{row}
-use Rattle.rules.specs.Rules.{withValue, countedAs, pairHolds, holdsAt, holdsIn, namesPair, namesAt, sparedAt, Due, listedAs, Linked, linkAt, testedIn, firmAt, firmIn, rulesIn, heldFor, trialOf}
+use Rattle.rules.specs.Rules.{withValue, countedAs, pairHolds, holdsAt, holdsIn, namesPair, namesAt, sparedAt, Due, listedAs, Linked, LinkedIf, linkAt, testedIn, firmAt, firmIn, rulesIn, heldFor, trialOf}
 use Rattle.rows.proofs.Spans.{Walked, all-to, span-same, nth-span, nth-past, modify-span, all-span, any-span, getD-set, getD-other}
 
 -- ---- values of a row
@@ -178,6 +178,10 @@ link-begin links lower upper end e = record {
   below = λ i p q. absurd (omega arith);
   above = λ i p q. absurd (omega arith);
 }
+
+-- where nothing is known of the rules, any links will do
+pub unlinked : (links lower upper : List ℕ) (n : ℕ) → LinkedIf false links lower upper n
+unlinked links lower upper n = λ e. absurd (let z : _≡_ {A = ℕ} 0 1 = cc in omega arith)
 
 -- the link of a rule that names a measure leads to the next
 pub link-due : (links lower upper : List ℕ) (end m i : ℕ) → Linked links lower upper 0 end → 0 < m → m ≤ 32 → i < end → namesAt lower upper m i ≡ true → Due m lower upper (i + 1) end (linkAt links i (getD lower i 0) m)

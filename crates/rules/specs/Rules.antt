@@ -61,6 +61,10 @@ pub record Linked (links lower upper : List ℕ) (from end : ℕ) : Type 0 where
   pub below : (i : ℕ) → from ≤ i → i < end → 0 < getD lower i 0 → getD lower i 0 ≤ 32 → Due (getD lower i 0) lower upper (i + 1) end (getD links i 0)
   pub above : (i : ℕ) → from ≤ i → i < end → 0 < getD upper i 0 → getD upper i 0 ≤ 32 → Due (getD upper i 0) lower upper (i + 1) end (getD links (64 + i) 0)
 
+-- where all rules are known to hold (`sound`), the links are those of the first n
+abbrev pub LinkedIf : Bool → List ℕ → List ℕ → List ℕ → ℕ → Type 0
+LinkedIf sound links lower upper n = sound ≡ true → Linked links lower upper 0 n
+
 -- the link of rule i, whose lower measure is a, for measure m
 abbrev pub linkAt : List ℕ → ℕ → ℕ → ℕ → ℕ
 linkAt links i a m = cond (eqb a m) (getD links i 0) (getD links (64 + i) 0)

@@ -7,7 +7,7 @@ ghost use lib.Signed.{ltZ};
 ghost use Rattle.protocol.specs.Plan.{value};
 ghost use Rattle.change.specs.Change.{viewChange};
 ghost use Rattle.rows.specs.Rows.{row};
-ghost use Rattle.rules.specs.Rules.{withValue, countedAs, pairHolds, listedAs, linkAt, Linked, testedIn, firmIn, namesPair, trialOf};
+ghost use Rattle.rules.specs.Rules.{withValue, countedAs, pairHolds, listedAs, linkAt, Linked, LinkedIf, testedIn, firmIn, namesPair, trialOf};
 use change::Applied;
 use change::Change;
 
@@ -215,7 +215,7 @@ pub fn rules_hold<'a>(
     x: i32,
     sound: bool,
 ) -> bool
-    ensures { λ t. ⌜ ((sound ≡ true → Linked (now (links .entry)) (now (lower .entry)) (now (upper .entry)) 0 (min k 64)) → t ≡ testedIn sound m (now (lower .entry)) (now (gap .entry)) (now (upper .entry)) (min k 64) (withValue m x (row (now (values .entry)) at (min n 32)))) ⌝ }
+    ensures { λ t. ⌜ (LinkedIf sound (now (links .entry)) (now (lower .entry)) (now (upper .entry)) (min k 64) → t ≡ testedIn sound m (now (lower .entry)) (now (gap .entry)) (now (upper .entry)) (min k 64) (withValue m x (row (now (values .entry)) at (min n 32)))) ⌝ }
 {
     let end = rows::capped(k, 64);
     let size = rows::capped(n, 32);
@@ -289,7 +289,7 @@ pub fn try_change<'a>(
     change: Change,
     sound: bool,
 ) -> Trial
-    ensures { λ r. ⌜ ((sound ≡ true → Linked (now (links .entry)) (now (lower .entry)) (now (upper .entry)) 0 (min k 64)) → r ≡ trialOf (testedIn sound m (now (lower .entry)) (now (gap .entry)) (now (upper .entry)) (min k 64)) m (viewChange change) (row (now (values .entry)) at (min n 32))) ⌝ }
+    ensures { λ r. ⌜ (LinkedIf sound (now (links .entry)) (now (lower .entry)) (now (upper .entry)) (min k 64) → r ≡ trialOf (testedIn sound m (now (lower .entry)) (now (gap .entry)) (now (upper .entry)) (min k 64)) m (viewChange change) (row (now (values .entry)) at (min n 32))) ⌝ }
 {
     let made = change::apply(change, value_at(values, at, rows::capped(n, 32), m));
     let Applied::InRange(x) = made else {

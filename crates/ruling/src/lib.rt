@@ -6,7 +6,7 @@ ghost use lib.Dec.{leb};
 ghost use Rattle.protocol.specs.Lists.{natural};
 ghost use Rattle.protocol.specs.Plan.{is, whole};
 ghost use Rattle.protocol.specs.Calls.{apart, no22, no25};
-ghost use Rattle.rules.specs.Rules.{firmIn};
+ghost use Rattle.rules.specs.Rules.{LinkedIf, firmIn};
 ghost use Rattle.heads.specs.Heads.{modeOf};
 ghost use Rattle.records.specs.Records.{keptAt};
 ghost use Rattle.ruling.specs.Edits.{changeRuling, editRuling, editHead, editRecord, editDecision};
@@ -16,6 +16,7 @@ use heads::Head;
 use heads::Mode;
 use records::EditRecord;
 use records::Fate;
+use rules::Links;
 use rules::Trial;
 use state::Answer;
 
@@ -108,20 +109,21 @@ fn full(mode: Mode, kept: u32) -> bool
 }
 
 // The checks on the change: 26, 27, 30, 28, 29. A caller that knows that all rules hold on the row says so (`sound`): then only those
-// that name the measure are tested.
+// that name the measure are tested, found by the rules' links.
 fn change_ruling<'a>(
     h: Head,
     lower: &'a [u32; 64],
     gap: &'a [i32; 64],
     upper: &'a [u32; 64],
     firm: &'a [bool; 64],
+    links: &'a Links,
     values: &'a [i32],
     at: usize,
     m: u32,
     change: Change,
     sound: bool,
 ) -> Ruling
-    ensures { λ r. ⌜ r ≡ changeRuling sound h (now (lower .entry)) (now (gap .entry)) (now (upper .entry)) (now (firm .entry)) (now (values .entry)) at m change ⌝ }
+    ensures { λ r. ⌜ (LinkedIf sound (now (links .entry)) (now (lower .entry)) (now (upper .entry)) (min (h .rules) 64) → r ≡ changeRuling sound h (now (lower .entry)) (now (gap .entry)) (now (upper .entry)) (now (firm .entry)) (now (values .entry)) at m change) ⌝ }
 {
     let mode = h.mode;
     if frozen(mode, lower, upper, firm, h.rules, m) {
@@ -138,6 +140,7 @@ fn change_ruling<'a>(
         gap,
         upper,
         h.rules,
+        links,
         values,
         at,
         h.measures,
@@ -159,6 +162,7 @@ fn edit_ruling<'a>(
     gap: &'a [i32; 64],
     upper: &'a [u32; 64],
     firm: &'a [bool; 64],
+    links: &'a Links,
     values: &'a [i32],
     named: EditRecord,
     s: u32,
@@ -169,7 +173,7 @@ fn edit_ruling<'a>(
     constant: i32,
     sound: bool,
 ) -> Ruling
-    ensures { λ r. ⌜ r ≡ editRuling sound h (now (lower .entry)) (now (gap .entry)) (now (upper .entry)) (now (firm .entry)) (now (values .entry)) named s client after m kind constant ⌝ }
+    ensures { λ r. ⌜ (LinkedIf sound (now (links .entry)) (now (lower .entry)) (now (upper .entry)) (min (h .rules) 64) → r ≡ editRuling sound h (now (lower .entry)) (now (gap .entry)) (now (upper .entry)) (now (firm .entry)) (now (values .entry)) named s client after m kind constant) ⌝ }
 {
     let mode = h.mode;
     if !editable(mode) {
@@ -197,6 +201,7 @@ fn edit_ruling<'a>(
         gap,
         upper,
         firm,
+        links,
         values,
         heads::offset(s),
         m,
@@ -291,6 +296,7 @@ pub fn decide_edit<'a>(
     gap: &'a [i32; 64],
     upper: &'a [u32; 64],
     firm: &'a [bool; 64],
+    links: &'a Links,
     values: &'a [i32],
     named: EditRecord,
     old: i32,
@@ -303,7 +309,7 @@ pub fn decide_edit<'a>(
     constant: i32,
     sound: bool,
 ) -> Decision
-    ensures { λ r. ⌜ r ≡ editDecision h (editRuling sound h (now (lower .entry)) (now (gap .entry)) (now (upper .entry)) (now (firm .entry)) (now (values .entry)) named s client after m kind constant) old standing s (natural client) (natural after) m ⌝ }
+    ensures { λ r. ⌜ (LinkedIf sound (now (links .entry)) (now (lower .entry)) (now (upper .entry)) (min (h .rules) 64) → r ≡ editDecision h (editRuling sound h (now (lower .entry)) (now (gap .entry)) (now (upper .entry)) (now (firm .entry)) (now (values .entry)) named s client after m kind constant) old standing s (natural client) (natural after) m) ⌝ }
 {
     let ruling = edit_ruling(
         h,
@@ -311,6 +317,7 @@ pub fn decide_edit<'a>(
         gap,
         upper,
         firm,
+        links,
         values,
         named,
         s,

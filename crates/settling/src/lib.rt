@@ -1,12 +1,15 @@
 // What a replay decides: its checks, the trial on the draft, and what it stores. Read only, on what is lent to it.
 ghost use mathlib.Core.Path.{_≡_};
+ghost use Prim.Native.Nat.{min};
 ghost use Rattle.protocol.specs.Plan.{isWaiting};
+ghost use Rattle.rules.specs.Rules.{LinkedIf};
 ghost use Rattle.records.specs.Records.{keptAt};
 ghost use Rattle.settling.specs.Replays.{draftOutcome, replayOutcome, settledFate, settledRecord, replayDecision};
 use change::Change;
 use heads::Head;
 use records::EditRecord;
 use records::Fate;
+use rules::Links;
 use rules::Trial;
 use state::Answer;
 
@@ -31,19 +34,20 @@ fn is_waiting(e: EditRecord) -> bool
 }
 
 // A change tried on the draft: whether it takes effect, and the value at its place then. A caller that knows that all rules hold on the
-// draft says so (`sound`): then only those that name the measure are tested.
+// draft says so (`sound`): then only those that name the measure are tested, found by the rules' links.
 fn try_draft<'a>(
     h: Head,
     lower: &'a [u32; 64],
     gap: &'a [i32; 64],
     upper: &'a [u32; 64],
+    links: &'a Links,
     draft: &'a [i32],
     m: u32,
     change: Change,
     old: i32,
     sound: bool,
 ) -> Outcome
-    ensures { λ r. ⌜ r ≡ draftOutcome sound h (now (lower .entry)) (now (gap .entry)) (now (upper .entry)) (now (draft .entry)) m change old ⌝ }
+    ensures { λ r. ⌜ (LinkedIf sound (now (links .entry)) (now (lower .entry)) (now (upper .entry)) (min (h .rules) 64) → r ≡ draftOutcome sound h (now (lower .entry)) (now (gap .entry)) (now (upper .entry)) (now (draft .entry)) m change old) ⌝ }
 {
     let n = rows::capped(h.drafted, 32);
     let tried = rules::try_change(
@@ -51,6 +55,7 @@ fn try_draft<'a>(
         gap,
         upper,
         h.rules,
+        links,
         draft,
         0,
         h.drafted,
@@ -76,6 +81,7 @@ fn replay_outcome<'a>(
     lower: &'a [u32; 64],
     gap: &'a [i32; 64],
     upper: &'a [u32; 64],
+    links: &'a Links,
     draft: &'a [i32],
     missing: u32,
     e: EditRecord,
@@ -83,7 +89,7 @@ fn replay_outcome<'a>(
     old: i32,
     sound: bool,
 ) -> Outcome
-    ensures { λ r. ⌜ r ≡ replayOutcome sound h (now (lower .entry)) (now (gap .entry)) (now (upper .entry)) (now (draft .entry)) missing e earlier old ⌝ }
+    ensures { λ r. ⌜ (LinkedIf sound (now (links .entry)) (now (lower .entry)) (now (upper .entry)) (min (h .rules) 64) → r ≡ replayOutcome sound h (now (lower .entry)) (now (gap .entry)) (now (upper .entry)) (now (draft .entry)) missing e earlier old) ⌝ }
 {
     let mode = h.mode;
     if !heads::is_active(mode) {
@@ -99,7 +105,18 @@ fn replay_outcome<'a>(
         return Outcome::Refused(36);
     }
     let change = e.change;
-    try_draft(h, lower, gap, upper, draft, e.measure, change, old, sound)
+    try_draft(
+        h,
+        lower,
+        gap,
+        upper,
+        links,
+        draft,
+        e.measure,
+        change,
+        old,
+        sound,
+    )
 }
 
 fn settled_fate(accepted: bool) -> Fate
@@ -157,6 +174,7 @@ pub fn decide_replay<'a>(
     lower: &'a [u32; 64],
     gap: &'a [i32; 64],
     upper: &'a [u32; 64],
+    links: &'a Links,
     draft: &'a [i32],
     missing: u32,
     e: EditRecord,
@@ -166,8 +184,20 @@ pub fn decide_replay<'a>(
     place: u32,
     sound: bool,
 ) -> Decision
-    ensures { λ r. ⌜ r ≡ replayDecision (replayOutcome sound h (now (lower .entry)) (now (gap .entry)) (now (upper .entry)) (now (draft .entry)) missing e earlier old) standing old place ⌝ }
+    ensures { λ r. ⌜ (LinkedIf sound (now (links .entry)) (now (lower .entry)) (now (upper .entry)) (min (h .rules) 64) → r ≡ replayDecision (replayOutcome sound h (now (lower .entry)) (now (gap .entry)) (now (upper .entry)) (now (draft .entry)) missing e earlier old) standing old place) ⌝ }
 {
-    let outcome = replay_outcome(h, lower, gap, upper, draft, missing, e, earlier, old, sound);
+    let outcome = replay_outcome(
+        h,
+        lower,
+        gap,
+        upper,
+        links,
+        draft,
+        missing,
+        e,
+        earlier,
+        old,
+        sound,
+    );
     replay_decision(outcome, standing, old, place)
 }

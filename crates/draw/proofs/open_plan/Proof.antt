@@ -9,6 +9,7 @@ use Rattle.protocol.specs.Plan.{blank, is}
 use Rattle.protocol.specs.Calls.{open-plan, gives}
 use Rattle.rows.specs.Rows.{row}
 use Rattle.rules.specs.Rules.{holdsIn, testedIn}
+use Rattle.rules.proofs.Rows.{unlinked}
 use Rattle.heads.specs.Heads.{modeOf, measuresIn}
 use Rattle.state.proofs.Meeting.{refused-meets, accepted-meets}
 use Rattle.draw.proofs.Draws.{some-left, no-value, open-checks, open-next}
@@ -29,11 +30,11 @@ drawn : (c : tie.Else2) → none (measuresIn (c .before .before .before .before 
 drawn c = some-left (c .before .before .before .before .before .args .t1 .head .measures) (c .if2 .left)
 
 -- the test found what the rules are on the row as it stands
-rules-fine : (c : tie.After-rules-hold) → let p = c .before .before .before .before .before .before .before .before .before .before .before .before .args .t1 in c .rules-hold .result ≡ holdsIn (p .lower) (p .gap) (p .upper) (min (p .head .rules) 64) (row (p .values) 0 (measuresIn (p .head)))
+rules-fine : (c : tie.After-rules-hold) → let p = c .before .before .before .before .before .before .before .before .before .before .before .before .before .args .t1 in c .rules-hold .result ≡ holdsIn (p .lower) (p .gap) (p .upper) (min (p .head .rules) 64) (row (p .values) 0 (measuresIn (p .head)))
 unfolding testedIn holdsIn
 rules-fine c =
-    let p = c .before .before .before .before .before .before .before .before .before .before .before .before .args .t1 in
-    c .rules-hold .ensures ∙ ap (testedIn false 0 (p .lower) (p .gap) (p .upper) (min (p .head .rules) 64)) (no-value (pos 0) (row (p .values) 0 (measuresIn (p .head))))
+    let p = c .before .before .before .before .before .before .before .before .before .before .before .before .before .args .t1 in
+    c .rules-hold .ensures (unlinked _ _ _ _) ∙ ap (testedIn false 0 (p .lower) (p .gap) (p .upper) (min (p .head .rules) 64)) (no-value (pos 0) (row (p .values) 0 (measuresIn (p .head))))
 
 mode-number-requires : tie.Need-mode-number-requires
 mode-number-requires c κs = search needs
@@ -60,7 +61,7 @@ refuse-requires-3 c κs = search needs
 
 returns-3 : tie.Need-returns-3
 returns-3 c =
-    rw (c .refuse3 .ensures) (refused-meets open-plan _ _ (open-checks (c .before .before .before .before .before .before .before .before .before .before .before .before .before .before .args .t1) ∙ rw (mode-fine (c .before .before .before .before .before .before .before .before .before .before .before), drawn (c .before .before .before .before .before .before .before .before .before), sym (rules-fine (c .before .before)) ∙ not-true _ (c .before .if3 .taken))))
+    rw (c .refuse3 .ensures) (refused-meets open-plan _ _ (open-checks (c .before .before .before .before .before .before .before .before .before .before .before .before .before .before .before .args .t1) ∙ rw (mode-fine (c .before .before .before .before .before .before .before .before .before .before .before .before), drawn (c .before .before .before .before .before .before .before .before .before .before), sym (rules-fine (c .before .before)) ∙ not-true _ (c .before .if3 .taken))))
 
 with-open-requires : tie.Need-with-open-requires
 with-open-requires c κs = search needs
@@ -68,8 +69,8 @@ with-open-requires c κs = search needs
 returns-4 : tie.Need-returns-4
 unfolding gives
 returns-4 c =
-    let p = c .before .before .before .before .before .before .before .before .before .before .before .before .before .before .args .t1 in
-    rw (c .with-open .ensures) (accepted-meets open-plan p _ (open-checks p ∙ rw (mode-fine (c .before .before .before .before .before .before .before .before .before .before .before), drawn (c .before .before .before .before .before .before .before .before .before), sym (rules-fine (c .before .before)) ∙ not-false _ (c .before .if3 .left))) refl (open-next p (mode-fine (c .before .before .before .before .before .before .before .before .before .before .before))) tt)
+    let p = c .before .before .before .before .before .before .before .before .before .before .before .before .before .before .before .args .t1 in
+    rw (c .with-open .ensures) (accepted-meets open-plan p _ (open-checks p ∙ rw (mode-fine (c .before .before .before .before .before .before .before .before .before .before .before .before), drawn (c .before .before .before .before .before .before .before .before .before .before), sym (rules-fine (c .before .before)) ∙ not-false _ (c .before .if3 .left))) refl (open-next p (mode-fine (c .before .before .before .before .before .before .before .before .before .before .before .before))) tt)
 
 pub open-plan-spec : {M : Type 1} → statement M
 open-plan-spec =

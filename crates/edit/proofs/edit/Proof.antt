@@ -4,6 +4,7 @@ use lib.IntN.{pos}
 use lib.ListN.{getD}
 use mir.Facts.{toZ-ofZ}
 use Rattle.exact.proofs.Ints.{fits32}
+use Rattle.rules.proofs.Rows.{unlinked}
 use Rattle.state.proofs.Views.{owned-sized}
 use Rattle.edit.proofs.Edits.{edit-decided, edit-meets}
 use borrow.Author.Needs.{needs}
@@ -69,28 +70,28 @@ decide-edit-requires c κs = search needs
 
 mul-value : tie.Need-mul-value
 mul-value c =
-    omega (arith, (c .before .before .before .before .before .before .before .before .before .before .before .before .before .before .before .spot .ensures .1))
+    omega (arith, (c .before .before .before .before .before .before .before .before .before .before .before .before .before .before .before .before .spot .ensures .1))
 
 element-set-from-value : tie.Need-element-set-from-value
 element-set-from-value c =
-    (c .before .before .before .before .before .before .before .before .before .before .before .before .before .before .before .spot .ensures .1)
+    (c .before .before .before .before .before .before .before .before .before .before .before .before .before .before .before .before .spot .ensures .1)
 
 mul-entry : tie.Need-mul-entry
 mul-entry c =
-    let e = (c .before .before .before .before .before .before .before .before .before .before .before .before .before .before .capped .ensures) in omega arith
+    let e = (c .before .before .before .before .before .before .before .before .before .before .before .before .before .before .before .capped .ensures) in omega arith
 
 element-set-from-entry : tie.Need-element-set-from-entry
 element-set-from-entry c =
-    let e = (c .before .before .before .before .before .before .before .before .before .before .before .before .before .before .capped .ensures) in omega arith
+    let e = (c .before .before .before .before .before .before .before .before .before .before .before .before .before .before .before .capped .ensures) in omega arith
 
 returns : tie.Need-returns
 returns c =
-    let s = (c .before .before .before .before .before .before .before .before .before .before .before .before .before .before .before .before .before .before .before .before .before .before .before .before) in
+    let s = (c .before .before .before .before .before .before .before .before .before .before .before .before .before .before .before .before .before .before .before .before .before .before .before .before .before) in
     let p = s .args .t1 in
     let d = (c .before .before .before .decide-edit .result) in
     let g = edit-decided false p (s .args .s) (s .args .client) (s .args .after) (s .args .m) (s .args .kind) (s .args .constant) (toZ-ofZ (s .fits .s)) (toZ-ofZ (s .fits .client)) (toZ-ofZ (s .fits .after)) (toZ-ofZ (s .fits .m)) (toZ-ofZ (s .fits .kind)) (toZ-ofZ (s .fits .constant))
-    (c .before .before .before .before .before .before .before .before .before .before .before .before .before .before .before .before .before .before .before .before .before .before .number .ensures) (c .before .before .before .before .before .before .before .before .before .before .before .before .before .before .before .before .before .before .before .before .before .position .ensures .0) (c .before .before .before .before .before .before .before .before .before .before .before .before .before .before .before .before .before .before .before .before .place .ensures .0) (c .before .before .before .before .before .before .before .before .before .before .before .before .before .before .before .before .before .before .found .ensures) (c .before .before .before .before .before .before .before .before .before .before .before .before .before .before .before .before .before .number2 .ensures) (c .before .before .before .before .before .before .before .before .before .before .before .before .before .before .before .before .number3 .ensures) (c .before .before .before .before .before .before .before .before .before .before .before .before .before .before .before .spot .ensures .0) (c .before .before .before .before .before .before .before .before .before .before .before .before .before .before .capped .ensures)
-    (toZ-ofZ (fits32 (getD (p .values) ((c .before .before .before .before .before .before .before .before .before .before .before .before .before .before .before .spot .result)) (pos 0)) ((c .before .before .before .before .before .before .before .before .before .before .before .before .before .old .given)))) (c .before .before .before .before .number4 .ensures) (c .before .before .before .decide-edit .ensures) in
+    (c .before .before .before .before .before .before .before .before .before .before .before .before .before .before .before .before .before .before .before .before .before .before .before .number .ensures) (c .before .before .before .before .before .before .before .before .before .before .before .before .before .before .before .before .before .before .before .before .before .before .position .ensures .0) (c .before .before .before .before .before .before .before .before .before .before .before .before .before .before .before .before .before .before .before .before .before .place .ensures .0) (c .before .before .before .before .before .before .before .before .before .before .before .before .before .before .before .before .before .before .before .found .ensures) (c .before .before .before .before .before .before .before .before .before .before .before .before .before .before .before .before .before .before .number2 .ensures) (c .before .before .before .before .before .before .before .before .before .before .before .before .before .before .before .before .before .number3 .ensures) (c .before .before .before .before .before .before .before .before .before .before .before .before .before .before .before .before .spot .ensures .0) (c .before .before .before .before .before .before .before .before .before .before .before .before .before .before .before .capped .ensures)
+    (toZ-ofZ (fits32 (getD (p .values) ((c .before .before .before .before .before .before .before .before .before .before .before .before .before .before .before .before .spot .result)) (pos 0)) ((c .before .before .before .before .before .before .before .before .before .before .before .before .before .before .old .given)))) (c .before .before .before .before .number4 .ensures) ((c .before .before .before .decide-edit .ensures) (unlinked _ _ _ _)) in
     let value = toZ-ofZ (fits32 (d .value) ((c .before .struct-told .given .1 .0 .1))) in
     rw (value, g .1, g .2, g .0) (edit-meets p (owned-sized p (s .good .0)) (s .args .s) (s .args .client) (s .args .after) (s .args .m) (s .args .kind) (s .args .constant))
 

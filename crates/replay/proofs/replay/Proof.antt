@@ -5,6 +5,7 @@ use mir.Facts.{toZ-ofZ}
 use Rattle.exact.proofs.Ints.{fits32}
 use Rattle.state.proofs.Views.{owned-sized}
 use Rattle.replay.proofs.Replays.{replay-decided, replay-meets}
+use Rattle.rules.proofs.Rows.{unlinked}
 use native.Mathlib.Omega.{arith}
 use borrow.Author.Needs.{needs}
 use Rattle.replay.proofs.replay.Statement.{statement}
@@ -82,20 +83,20 @@ element-set-from-amount c = search needs
 
 mul-entry : tie.Need-mul-entry
 mul-entry c =
-    omega (arith, (c .before .before .before .before .before .before .before .before .before .before .before .before .before .before .before .before .before .before .before .before .before .before .place .ensures .1))
+    omega (arith, (c .before .before .before .before .before .before .before .before .before .before .before .before .before .before .before .before .before .before .before .before .before .before .before .place .ensures .1))
 
 element-set-from-entry : tie.Need-element-set-from-entry
 element-set-from-entry c =
-    (c .before .before .before .before .before .before .before .before .before .before .before .before .before .before .before .before .before .before .before .before .before .before .place .ensures .1)
+    (c .before .before .before .before .before .before .before .before .before .before .before .before .before .before .before .before .before .before .before .before .before .before .before .place .ensures .1)
 
 returns : tie.Need-returns
 returns c =
-    let s = (c .before .before .before .before .before .before .before .before .before .before .before .before .before .before .before .before .before .before .before .before .before .before .before .before .before .before) in
+    let s = (c .before .before .before .before .before .before .before .before .before .before .before .before .before .before .before .before .before .before .before .before .before .before .before .before .before .before .before) in
     let p = s .args .t1 in
     let d = (c .before .before .decide-replay .result) in
-    let g = replay-decided false p (s .args .n) (toZ-ofZ (s .fits .n)) (c .before .before .before .before .before .before .before .before .before .before .before .before .before .before .before .before .before .before .before .before .before .before .before .before .number .ensures) (c .before .before .before .before .before .before .before .before .before .before .before .before .before .before .before .before .before .before .before .before .before .before .before .position .ensures .0) (c .before .before .before .before .before .before .before .before .before .before .before .before .before .before .before .before .before .before .before .before .before .before .place .ensures .0) (c .before .before .before .before .before .before .before .before .before .before .before .before .before .before .before .before .before .before .before .before .found .ensures)
-    (c .before .before .before .before .before .before .before .before .before .before .before .before .before .before .before .before .before .before .before .position2 .ensures .0) (c .before .before .before .before .before .before .before .before .before .before .before .before .before .before .before .before .before .before .place2 .ensures .0) (c .before .before .before .before .before .before .before .before .before .before .before .before .before .before .before .before .found2 .ensures) (c .before .before .before .before .before .before .before .before .before .before .before .before .before .unset .ensures .0) (c .before .before .before .before .before .before .before .before .before .before .before .count .ensures .0)
-    (c .before .before .before .before .before .before .before .before .before .before .point .ensures .0) (toZ-ofZ (fits32 (getD (p .draft) ((c .before .before .before .before .before .before .before .before .before .before .point .result)) (pos 0)) ((c .before .before .before .before .before .before .before .before .before .old .given)))) (c .before .before .decide-replay .ensures) in
+    let g = replay-decided false p (s .args .n) (toZ-ofZ (s .fits .n)) (c .before .before .before .before .before .before .before .before .before .before .before .before .before .before .before .before .before .before .before .before .before .before .before .before .before .number .ensures) (c .before .before .before .before .before .before .before .before .before .before .before .before .before .before .before .before .before .before .before .before .before .before .before .before .position .ensures .0) (c .before .before .before .before .before .before .before .before .before .before .before .before .before .before .before .before .before .before .before .before .before .before .before .place .ensures .0) (c .before .before .before .before .before .before .before .before .before .before .before .before .before .before .before .before .before .before .before .before .before .found .ensures)
+    (c .before .before .before .before .before .before .before .before .before .before .before .before .before .before .before .before .before .before .before .before .position2 .ensures .0) (c .before .before .before .before .before .before .before .before .before .before .before .before .before .before .before .before .before .before .before .place2 .ensures .0) (c .before .before .before .before .before .before .before .before .before .before .before .before .before .before .before .before .before .found2 .ensures) (c .before .before .before .before .before .before .before .before .before .before .before .before .before .before .unset .ensures .0) (c .before .before .before .before .before .before .before .before .before .before .before .before .count .ensures .0)
+    (c .before .before .before .before .before .before .before .before .before .before .before .point .ensures .0) (toZ-ofZ (fits32 (getD (p .draft) ((c .before .before .before .before .before .before .before .before .before .before .before .point .result)) (pos 0)) ((c .before .before .before .before .before .before .before .before .before .before .old .given)))) ((c .before .before .decide-replay .ensures) (unlinked _ _ _ _)) in
     let amount = toZ-ofZ (fits32 (d .amount) ((c .before .struct-told .given .0 .1))) in
     rw (amount, g .1, g .2, g .0) (replay-meets p (owned-sized p (s .good .0)) (s .args .n))
 

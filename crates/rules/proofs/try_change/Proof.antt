@@ -12,7 +12,7 @@ use mathlib.Core.Bool.{Bool, true, cond}
 use mathlib.Core.List.{List}
 use Rattle.rules.specs.declared.Trial.the-variants.{Effective, Broken}
 use Rattle.rows.specs.Rows.{row}
-use Rattle.rules.specs.Rules.{withValue, Linked, testedIn, trialOf}
+use Rattle.rules.specs.Rules.{withValue, LinkedIf, testedIn, trialOf}
 use Rattle.rules.proofs.Rows.{trial-parts}
 use borrow.Author.Needs.{needs}
 use Rattle.rules.proofs.try_change.Statement.{statement}
@@ -42,7 +42,7 @@ module _ (c : tie.After-rules-hold) where
 
   -- what is asked of the links
   abbrev Asked : Type 0
-  Asked = start .args .sound ≡ true → Linked (start .args .links .now) (start .args .lower .now) (start .args .upper .now) 0 (min (start .args .k) 64)
+  Asked = LinkedIf (start .args .sound) (start .args .links .now) (start .args .lower .now) (start .args .upper .now) (min (start .args .k) 64)
 
   abbrev x : ℤ
   x = c .before .before .made .given .0 .0

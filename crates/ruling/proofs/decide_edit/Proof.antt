@@ -24,7 +24,7 @@ edit-decision-requires : tie.Need-edit-decision-requires
 edit-decision-requires c κs = search needs
 
 returns : tie.Need-returns
-returns c =
+returns c = λ h.
     let s = (c .before .before .before .before) in
     let a = s .args in
     let client = toZ-ofZ (s .fits .client) in
@@ -32,7 +32,7 @@ returns c =
     let constant = toZ-ofZ (s .fits .constant) in
     let old = toZ-ofZ (s .fits .old) in
     let ruling : (c .before .before .before .edit-ruling .result) ≡ editRuling (a .sound) (a .h) (a .lower .now) (a .gap .now) (a .upper .now) (a .firm .now) (a .values .now) (a .named) (a .s) (a .client) (a .after) (a .m) (a .kind) (a .constant) =
-    (c .before .before .before .edit-ruling .ensures) ∙ (λ i. editRuling (a .sound) (a .h) (a .lower .now) (a .gap .now) (a .upper .now) (a .firm .now) (a .values .now) (a .named) (a .s) (client i) (after i) (a .m) (a .kind) (constant i))
+    (c .before .before .before .edit-ruling .ensures h) ∙ (λ i. editRuling (a .sound) (a .h) (a .lower .now) (a .gap .now) (a .upper .now) (a .firm .now) (a .values .now) (a .named) (a .s) (client i) (after i) (a .m) (a .kind) (constant i))
     in
     let by = (c .before .before .number .ensures) ∙ ap natural client in
     let on = (c .before .number2 .ensures) ∙ ap natural after in

@@ -16,12 +16,12 @@ replay-decision-requires : tie.Need-replay-decision-requires
 replay-decision-requires c κs = search needs
 
 returns : tie.Need-returns
-returns c =
+returns c = λ h.
     let s = (c .before .before) in
     let a = s .args in
     let old = toZ-ofZ (s .fits .old) in
     let outcome : (c .before .replay-outcome .result) ≡ replayOutcome (a .sound) (a .h) (a .lower .now) (a .gap .now) (a .upper .now) (a .draft .now) (a .missing) (a .e) (a .earlier) (a .old) =
-    (c .before .replay-outcome .ensures) ∙ ap (replayOutcome (a .sound) (a .h) (a .lower .now) (a .gap .now) (a .upper .now) (a .draft .now) (a .missing) (a .e) (a .earlier)) old
+    (c .before .replay-outcome .ensures h) ∙ ap (replayOutcome (a .sound) (a .h) (a .lower .now) (a .gap .now) (a .upper .now) (a .draft .now) (a .missing) (a .e) (a .earlier)) old
     in
     (c .replay-decision .ensures) ∙ (λ i. replayDecision (outcome i) (a .standing) (old i) (a .place))
 
