@@ -33,9 +33,7 @@ use Rattle.state.specs.Meets.{answerOf, SameIfRefused, Meets}
 use Rattle.state.proofs.Views.{Sized, plan-same, sides-most, sides-length, side-at, sides-modify, lookup-named, named-found}
 use Rattle.records.proofs.Logs.{log-snoc}
 use Rattle.ruling.specs.declared.Decision.{Decision}
-use Rattle.ruling.specs.declared.Ruling.{Ruling}
-use Rattle.ruling.specs.declared.Ruling.the-variants.{Refused as Denied, Granted}
-use Rattle.ruling.specs.Edits.{editChecks, ruled, changeOf, changeIn, editRuling, editHead, editRecord, editDecision, spotOf, slotOf, editIn, stored}
+use Rattle.ruling.specs.Edits.{editChecks, ruled, changeOf, changeIn, editRuling, editHead, editDecision, spotOf, slotOf, editIn, stored}
 use Rattle.ruling.proofs.Rulings.{made-change}
 
 -- two sides' rows do not meet
@@ -51,34 +49,20 @@ single-apart h t = which (is split (modeOf (h .mode))) (is joining (modeOf (h .m
     (λ u. rw (eqb→eq (modeNumber (modeOf (h .mode))) 3 u))
 
 -- from what each step of an edit gave, in the code's order, to the decision in the state and the places of its stores
-pub edit-decided : (sound : Bool) (p : State) (s client n m kind k : ℤ) {s′ client′ n′ m′ kind′ k′ old : ℤ} {number i seat side measure spot slot kd : ℕ} {named : EditRecord} {d : Decision}
+pub edit-decided : (sound : Bool) (p : State) (s client n m kind k : ℤ) {s′ client′ n′ m′ kind′ k′ old : ℤ} {number i seat side measure spot slot kd : ℕ} {d : Decision}
     → s′ ≡ s → client′ ≡ client → n′ ≡ n → m′ ≡ m → kind′ ≡ kind → k′ ≡ k
-    → number ≡ natural n′ → i ≡ positionOf (endIn (p .head)) (keptIn (p .head)) number → seat ≡ placeOf i → named ≡ recordOf i (getD (p .edits) seat noRecord)
+    → number ≡ natural n′ → i ≡ positionOf (endIn (p .head)) (keptIn (p .head)) number → seat ≡ placeOf i
     → side ≡ natural s′ → measure ≡ natural m′ → spot ≡ spotOf side measure → slot ≡ slotOf (p .head) → old ≡ getD (p .values) spot (pos 0) → kd ≡ natural kind′
-    → d ≡ editDecision (p .head) (editRuling sound (p .head) (p .lower) (p .gap) (p .upper) (p .firm) (p .values) named side client′ n′ measure kd k′) old (getD (p .edits) slot noRecord) side (natural client′) (natural n′) measure
+    → d ≡ editDecision (p .head) (editRuling sound (p .head) (p .lower) (p .gap) (p .upper) (p .firm) (p .values) (recordOf i (getD (p .edits) seat noRecord)) side client′ n′ measure kd k′) old side (natural client′) (natural n′) measure
     → (d ≡ editIn sound p (natural s) client n (natural m) (natural kind) k) × (spot ≡ spotOf (natural s) (natural m)) × (slot ≡ slotOf (p .head))
-edit-decided sound p s client n m kind k to-s to-client to-n to-m to-kind to-k number-is position-is seat-is named-is side-is measure-is spot-is slot-is old-is kind-is d-is =
-    let name = named-found p (number-is ∙ ap natural to-n) position-is seat-is named-is in
+edit-decided sound p s client n m kind k to-s to-client to-n to-m to-kind to-k number-is position-is seat-is side-is measure-is spot-is slot-is old-is kind-is d-is =
+    let name = named-found p (number-is ∙ ap natural to-n) position-is seat-is refl in
     let side = side-is ∙ ap natural to-s in
     let measure = measure-is ∙ ap natural to-m in
     let spot = spot-is ∙ (λ j. spotOf (side j) (measure j)) in
     let old = old-is ∙ ap (λ j. getD (p .values) j (pos 0)) spot in
     let kd = kind-is ∙ ap natural to-kind in
-    (d-is ∙ (λ j. editDecision (p .head) (editRuling sound (p .head) (p .lower) (p .gap) (p .upper) (p .firm) (p .values) (name j) (side j) (to-client j) (to-n j) (measure j) (kd j) (to-k j)) (old j) (getD (p .edits) (slot-is j) noRecord) (side j) (natural (to-client j)) (natural (to-n j)) (measure j)), spot, slot-is)
-
--- a whole plan keeps no edit: what stands at the place of a new record stays
-whole-entry : (h : Head) (r : Ruling) (old : ℤ) (standing : EditRecord) (s client earlier m : ℕ) → is whole (modeOf (h .mode)) ≡ true → editDecision h r old standing s client earlier m .entry ≡ standing
-whole-entry h (Denied k) old standing s client earlier m w = refl
-whole-entry h (Granted c x) old standing s client earlier m w = rw w
-
-pub whole-edit : (sound : Bool) (p : State) (s : ℕ) (client n : ℤ) (m kind : ℕ) (k : ℤ) → is whole (modeOf (p .head .mode)) ≡ true → editIn sound p s client n m kind k .entry ≡ getD (p .edits) (slotOf (p .head)) noRecord
-whole-edit sound p s client n m kind k w =
-    whole-entry (p .head) (editRuling sound (p .head) (p .lower) (p .gap) (p .upper) (p .firm) (p .values) (namedIn p (natural n)) s client n m kind k) (getD (p .values) (spotOf s m) (pos 0)) (getD (p .edits) (slotOf (p .head)) noRecord) s (natural client) (natural n) m w
-
-pub whole-stored : (p : State) (spot slot : ℕ) (d : Decision) → d .entry ≡ getD (p .edits) slot noRecord → _≡_ {A = State} (record { head = d .head; base = p .base; draft = p .draft; values = set (p .values) spot (d .value); arrived = p .arrived; confirmed = p .confirmed; lower = p .lower; gap = p .gap; upper = p .upper; firm = p .firm; edits = p .edits }) (stored p spot slot d)
-whole-stored p spot slot d e =
-    ap {B = State} (λ es. record { head = d .head; base = p .base; draft = p .draft; values = set (p .values) spot (d .value); arrived = p .arrived; confirmed = p .confirmed; lower = p .lower; gap = p .gap; upper = p .upper; firm = p .firm; edits = es })
-    (sym (ap (set (p .edits) slot) e ∙ set-getD (p .edits) slot noRecord))
+    (d-is ∙ (λ j. editDecision (p .head) (editRuling sound (p .head) (p .lower) (p .gap) (p .upper) (p .firm) (p .values) (name j) (side j) (to-client j) (to-n j) (measure j) (kd j) (to-k j)) (old j) (side j) (natural (to-client j)) (natural (to-n j)) (measure j)), spot, slot-is)
 
 -- where all rules held on the side's row, it is enough to test those that name the measure
 checks-sound : (mode : model.Mode) (sides : ℕ) (rules : List model.Rule) (named : model.Kept) (kept next : ℕ) (vs : List ℤ) (s : ℕ) (client n : ℤ) (m : ℕ) (ch : model.Change)
@@ -110,7 +94,7 @@ pub edit-sound : (p : State) (s : ℕ) (client n : ℤ) (m kind : ℕ) (k : ℤ)
 unfolding editRuling
 edit-sound p s client n m kind k h =
     ap (λ v. editDecision (p .head) (ruled v (changeIn (madeOf kind k)) (applied (changeOf kind k) (value (row (p .values) (offsetOf s) (measuresIn (p .head))) m)))
-    (getD (p .values) (spotOf s m) (pos 0)) (getD (p .edits) (slotOf (p .head)) noRecord) s (natural client) (natural n) m)
+    (getD (p .values) (spotOf s m) (pos 0)) s (natural client) (natural n) m)
     (checks-sound (modeOf (p .head .mode)) (sidesIn (p .head)) (rulesOf p) (keptAt 0 (namedIn p (natural n))) (keptIn (p .head)) (p .head .next) (row (p .values) (offsetOf s) (measuresIn (p .head))) s client n m (changeOf kind k) h)
 
 module _ (p : State) (z : Sized p) (s client n m kind k : ℤ) where
@@ -153,11 +137,8 @@ module _ (p : State) (z : Sized p) (s client n m kind k : ℤ) where
   abbrev x : ℤ
   x = applied ch (value vs (natural m))
 
-  abbrev standing : EditRecord
-  standing = getD (p .edits) (slotOf h) noRecord
-
   abbrev decided : Verdict → Decision
-  decided v = editDecision h (ruled v change x) (getD (p .values) (spotOf (natural s) (natural m)) (pos 0)) standing (natural s) (natural client) (natural n) (natural m)
+  decided v = editDecision h (ruled v change x) (getD (p .values) (spotOf (natural s) (natural m)) (pos 0)) (natural s) (natural client) (natural n) (natural m)
 
   abbrev next : Verdict → State
   next v = stored p (spotOf (natural s) (natural m)) (slotOf h) (decided v)
@@ -203,14 +184,14 @@ module _ (p : State) (z : Sized p) (s client n m kind k : ℤ) where
   number f = nltb→le 999999 (h .next) (f .1 .1 .1 .1 .1 .1 .1 .1 .0)
 
   abbrev kept-after : List model.Kept
-  kept-after = keptOf (editHead h) (set (p .edits) (slotOf h) (editRecord h standing (natural s) (natural client) (natural n) (natural m) change))
+  kept-after = keptOf (editHead h) (next fine .edits)
 
   -- a whole plan keeps what it kept
   kept-whole : is whole mode ≡ true → kept-after ≡ keptOf h (p .edits)
   kept-whole w =
       let e : endIn (editHead h) ≡ endIn h = rw (single-whole h w) in
       let c : keptIn (editHead h) ≡ keptIn h = rw w in
-      let es : set (p .edits) (slotOf h) (editRecord h standing (natural s) (natural client) (natural n) (natural m) change) ≡ p .edits = rw w (set-getD (p .edits) (slotOf h) noRecord) in
+      let es : next fine .edits ≡ p .edits = rw w in
       λ i. logOf (e i) (c i) (es i)
 
   -- a split or joining one keeps one more
@@ -225,7 +206,7 @@ module _ (p : State) (z : Sized p) (s client n m kind k : ℤ) where
       let e′ : h .next ≡ endIn h = rw one in
       let c′ : slotOf h ≡ keptIn h = omega arith in
       let r : EditRecord = record { change = change; fate = Unsent; side = natural s; client = natural client; earlier = natural n; measure = natural m; place = 0; replied = is split mode } in
-      let es : set (p .edits) (slotOf h) (editRecord h standing (natural s) (natural client) (natural n) (natural m) change) ≡ set (p .edits) (slotOf h) r = rw w in
+      let es : next fine .edits ≡ set (p .edits) (slotOf h) r = rw w in
       (λ i. logOf (e i) (c i) (es i))
       ∙ log-snoc (h .next) (slotOf h) (p .edits) r (let l = z .edits in omega arith)
       ∙ (λ i. snoc (logOf (e′ i) (c′ i) (p .edits)) (newKept (made-change (natural kind) k (yes-is (allowed ch) (f .1 .1 .1 .1 .0)) i)))
@@ -238,7 +219,7 @@ module _ (p : State) (z : Sized p) (s client n m kind k : ℤ) where
   by : (v : Verdict) → (Fine v → Pass Checks) → (answerOf (decided v .answer) ≡ stepBy v call (view p) .answer) × (view (next v) ≡ stepBy v call (view p) .plan) × SameIfRefused (decided v .answer) p (next v)
   unfolding gives after
   by (refused j) f =
-      let same : next (refused j) ≡ p = rw (set-getD (p .values) (spotOf (natural s) (natural m)) (pos 0), set-getD (p .edits) (slotOf h) noRecord) in
+      let same : next (refused j) ≡ p = rw (set-getD (p .values) (spotOf (natural s) (natural m)) (pos 0)) in
       (refl, ap view same, same)
   by fine f = let g = f tt in (refl, plan-same refl refl (let o = number g in omega arith) refl refl (sides-next g) (kept-next g), tt)
 

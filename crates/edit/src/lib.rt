@@ -25,13 +25,11 @@ pub fn edit(p: State, s: i32, client: i32, after: i32, m: i32, kind: i32, consta
     let i = heads::position(h, exact::number(after));
     let seat = heads::place(i);
     let seen = p.edits[seat];
-    let named = records::found(i, seen);
     let side = exact::number(s);
     let measure = exact::number(m);
     let at = spot(side, measure);
     let slot = rows::capped(h.kept, 255);
     let old = p.values[at];
-    let standing = p.edits[slot];
     // Of any plan it is not known that its rules hold: all are tested, and no links are needed.
     let links = [0; 161];
     let d = ruling::decide_edit(
@@ -42,9 +40,9 @@ pub fn edit(p: State, s: i32, client: i32, after: i32, m: i32, kind: i32, consta
         &p.firm,
         &links,
         &p.values,
-        named,
+        i,
+        seen,
         old,
-        standing,
         side,
         client,
         after,
@@ -60,6 +58,8 @@ pub fn edit(p: State, s: i32, client: i32, after: i32, m: i32, kind: i32, consta
     let mut q = p;
     q.head = head;
     q.values[at] = value;
-    q.edits[slot] = entry;
+    if d.kept {
+        q.edits[slot] = entry;
+    }
     Answered { state: q, answer }
 }

@@ -36,20 +36,21 @@ use Rattle.settling.specs.declared.Decision.{Decision}
 use Rattle.settling.specs.Replays.{replayChecks, draftIn, effectiveIn, draftOutcome, settledBy, replayOutcome, settledRecord, replayDecision, pointOf, slotIn, replayIn, stored}
 
 -- from what each step of a replay gave, in the code's order, to the decision in the state and the places of its stores
-pub replay-decided : (sound : Bool) (p : State) (n : ℤ) {n′ old : ℤ} {number i slot i′ seat missing settled point : ℕ} {e earlier : EditRecord} {d : Decision}
+pub replay-decided : (sound : Bool) (p : State) (n : ℤ) {n′ old : ℤ} {number i slot i′ seat missing settled point : ℕ} {e : EditRecord} {d : Decision}
     → n′ ≡ n → number ≡ natural n′ → i ≡ positionOf (endIn (p .head)) (keptIn (p .head)) number → slot ≡ placeOf i → e ≡ recordOf i (getD (p .edits) slot noRecord)
-    → i′ ≡ positionOf (endIn (p .head)) (keptIn (p .head)) (e .earlier) → seat ≡ placeOf i′ → earlier ≡ recordOf i′ (getD (p .edits) seat noRecord)
+    → i′ ≡ positionOf (endIn (p .head)) (keptIn (p .head)) (e .earlier) → seat ≡ placeOf i′
     → missing ≡ unsetIn (p .arrived) (sidesIn (p .head)) → settled ≡ count isSettled (keptOf (p .head) (p .edits)) → point ≡ pointOf (e .measure) → old ≡ getD (p .draft) point (pos 0)
-    → d ≡ replayDecision (replayOutcome sound (p .head) (p .lower) (p .gap) (p .upper) (p .draft) missing e earlier old) (getD (p .edits) slot noRecord) old (settled + 1)
+    → d ≡ replayDecision (replayOutcome sound (p .head) (p .lower) (p .gap) (p .upper) (p .draft) missing (recordOf i (getD (p .edits) slot noRecord)) (recordOf i′ (getD (p .edits) seat noRecord)) old) (getD (p .edits) slot noRecord) old (settled + 1)
     → (d ≡ replayIn sound p (natural n)) × (point ≡ pointOf (namedIn p (natural n) .measure)) × (slot ≡ slotIn p (natural n))
-replay-decided sound p n to-n number-is position-is slot-is e-is position-is′ seat-is earlier-is missing-is settled-is point-is old-is d-is =
+replay-decided sound p n to-n number-is position-is slot-is e-is position-is′ seat-is missing-is settled-is point-is old-is d-is =
     let number = number-is ∙ ap natural to-n in
     let slot = seat-found p number position-is slot-is in
-    let e = named-found p number position-is slot-is e-is in
-    let earlier = named-found p (ap (λ r. r .earlier) e) position-is′ seat-is earlier-is in
+    let found = named-found p number position-is slot-is refl in
+    let e = e-is ∙ found in
+    let earlier = named-found p (ap (λ r. r .earlier) e) position-is′ seat-is refl in
     let point = point-is ∙ ap (λ r. pointOf (r .measure)) e in
     let old = old-is ∙ ap (λ j. getD (p .draft) j (pos 0)) point in
-    (d-is ∙ (λ j. replayDecision (replayOutcome sound (p .head) (p .lower) (p .gap) (p .upper) (p .draft) (missing-is j) (e j) (earlier j) (old j)) (getD (p .edits) (slot j) noRecord) (old j) (settled-is j + 1)), point, slot)
+    (d-is ∙ (λ j. replayDecision (replayOutcome sound (p .head) (p .lower) (p .gap) (p .upper) (p .draft) (missing-is j) (found j) (earlier j) (old j)) (getD (p .edits) (slot j) noRecord) (old j) (settled-is j + 1)), point, slot)
 
 -- where all rules held on the draft, it is enough to test those that name the measure
 effect-sound : (lower : List ℕ) (gap : List ℤ) (upper : List ℕ) (firm : List Bool) (k m : ℕ) (ch : model.Change) (vs : List ℤ)

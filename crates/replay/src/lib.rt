@@ -29,7 +29,6 @@ pub fn replay(p: State, n: i32) -> Answered
     let j = heads::position(h, e.earlier);
     let seat = heads::place(j);
     let seen = p.edits[seat];
-    let earlier = records::found(j, seen);
     let missing = heads::unset(&p.arrived, h);
     let edits = p.edits;
     let place = records::count(edits, h, Test::Settled) + 1;
@@ -45,9 +44,10 @@ pub fn replay(p: State, n: i32) -> Answered
         &links,
         &p.draft,
         missing,
-        e,
-        earlier,
+        i,
         standing,
+        j,
+        seen,
         old,
         place,
         false,

@@ -1,6 +1,6 @@
 -- The checks of an edit from its parts, what it decides, and the state after the stores. Assumes nothing.
 use Prim.Native.Nat.{ℕ, _+_, _-_, min}
-use mathlib.Core.Bool.{Bool, cond, _&&_, _||_}
+use mathlib.Core.Bool.{Bool, false, not, cond, _&&_, _||_}
 use mathlib.Core.List.{List, [], _∷_}
 use lib.Dec.{leb}
 use lib.IntN.{ℤ, pos}
@@ -80,15 +80,22 @@ editHead h =
       drafted = h .drafted;
     }
 
-abbrev pub editRecord : Head → EditRecord → ℕ → ℕ → ℕ → ℕ → Change → EditRecord
-editRecord h standing s client earlier m c =
-    cond (is whole (modeOf (h .mode))) standing
+-- a whole plan keeps no edit
+abbrev pub editRecord : Head → ℕ → ℕ → ℕ → ℕ → Change → EditRecord
+editRecord h s client earlier m c =
+    cond (is whole (modeOf (h .mode))) noRecord
     record { change = c; fate = Unsent; side = s; client = client; earlier = earlier; measure = m; place = 0; replied = is split (modeOf (h .mode)) }
 
-abbrev pub editDecision : Head → Ruling → ℤ → EditRecord → ℕ → ℕ → ℕ → ℕ → Decision
-editDecision h (Denied k) old standing s client earlier m = record { head = h; value = old; entry = standing; answer = Refused k }
-editDecision h (Granted c x) old standing s client earlier m =
-    record { head = editHead h; value = x; entry = editRecord h standing s client earlier m c; answer = Number (h .next) }
+abbrev pub editDecision : Head → Ruling → ℤ → ℕ → ℕ → ℕ → ℕ → Decision
+editDecision h (Denied k) old s client earlier m = record { head = h; value = old; kept = false; entry = noRecord; answer = Refused k }
+editDecision h (Granted c x) old s client earlier m =
+    record {
+      head = editHead h;
+      value = x;
+      kept = not (is whole (modeOf (h .mode)));
+      entry = editRecord h s client earlier m c;
+      answer = Number (h .next);
+    }
 
 -- where a side's measure stands among all values, and where a new record goes
 abbrev pub spotOf : ℕ → ℕ → ℕ
@@ -101,7 +108,7 @@ slotOf h = min (h .kept) 255
 abbrev pub editIn : Bool → State → ℕ → ℤ → ℤ → ℕ → ℕ → ℤ → Decision
 editIn sound p s client n m kind k =
     editDecision (p .head) (editRuling sound (p .head) (p .lower) (p .gap) (p .upper) (p .firm) (p .values) (namedIn p (natural n)) s client n m kind k)
-    (getD (p .values) (spotOf s m) (pos 0)) (getD (p .edits) (slotOf (p .head)) noRecord) s (natural client) (natural n) m
+    (getD (p .values) (spotOf s m) (pos 0)) s (natural client) (natural n) m
 
 -- a decision carried out
 abbrev pub stored : State → ℕ → ℕ → Decision → State
@@ -117,5 +124,5 @@ stored p spot slot d =
       gap = p .gap;
       upper = p .upper;
       firm = p .firm;
-      edits = set (p .edits) slot (d .entry);
+      edits = cond (d .kept) (set (p .edits) slot (d .entry)) (p .edits);
     }

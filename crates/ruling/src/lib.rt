@@ -8,7 +8,7 @@ ghost use Rattle.protocol.specs.Plan.{is, whole};
 ghost use Rattle.protocol.specs.Calls.{apart, no22, no25};
 ghost use Rattle.rules.specs.Rules.{LinkedIf, firmIn};
 ghost use Rattle.heads.specs.Heads.{modeOf};
-ghost use Rattle.records.specs.Records.{keptAt};
+ghost use Rattle.records.specs.Records.{keptAt, recordOf};
 ghost use Rattle.ruling.specs.Edits.{changeRuling, editRuling, editHead, editRecord, editDecision};
 use change::Change;
 use change::Made;
@@ -26,10 +26,11 @@ pub enum Ruling {
     Granted(Change, i32),
 }
 
-// What an edit stores: the head, a value and a record, and its answer.
+// What an edit stores: the head, a value, and a record if it is kept; and its answer.
 pub struct Decision {
     pub head: Head,
     pub value: i32,
+    pub kept: bool,
     pub entry: EditRecord,
     pub answer: Answer,
 }
@@ -223,21 +224,13 @@ fn edit_head(h: Head) -> Head
     r
 }
 
-// The record that is kept, or what stands there in a whole plan.
-fn edit_record(
-    h: Head,
-    standing: EditRecord,
-    s: u32,
-    client: u32,
-    earlier: u32,
-    m: u32,
-    change: Change,
-) -> EditRecord
-    ensures { λ r. ⌜ r ≡ editRecord h standing s client earlier m change ⌝ }
+// The record that is kept; none in a whole plan.
+fn edit_record(h: Head, s: u32, client: u32, earlier: u32, m: u32, change: Change) -> EditRecord
+    ensures { λ r. ⌜ r ≡ editRecord h s client earlier m change ⌝ }
 {
     let mode = h.mode;
     if is_whole(mode) {
-        return standing;
+        return records::no_record();
     }
     let replied = heads::mode_number(mode) == 2;
     let fate = Fate::Unsent;
@@ -257,31 +250,35 @@ fn edit_decision(
     h: Head,
     ruling: Ruling,
     old: i32,
-    standing: EditRecord,
     s: u32,
     client: u32,
     earlier: u32,
     m: u32,
 ) -> Decision
-    ensures { λ r. ⌜ r ≡ editDecision h ruling old standing s client earlier m ⌝ }
+    ensures { λ r. ⌜ r ≡ editDecision h ruling old s client earlier m ⌝ }
 {
     match ruling {
         Ruling::Refused(k) => {
+            let entry = records::no_record();
             let answer = Answer::Refused(k);
             Decision {
                 head: h,
                 value: old,
-                entry: standing,
+                kept: false,
+                entry,
                 answer,
             }
         }
         Ruling::Granted(change, x) => {
+            let mode = h.mode;
+            let kept = !is_whole(mode);
             let head = edit_head(h);
-            let entry = edit_record(h, standing, s, client, earlier, m, change);
+            let entry = edit_record(h, s, client, earlier, m, change);
             let answer = Answer::Number(h.next);
             Decision {
                 head,
                 value: x,
+                kept,
                 entry,
                 answer,
             }
@@ -289,7 +286,7 @@ fn edit_decision(
     }
 }
 
-// What an edit stores, from the edit that it names and from what stands at its places.
+// What an edit stores, from the edit that it names, seen at a place from 1, and from the value that stands at its place.
 pub fn decide_edit<'a>(
     h: Head,
     lower: &'a [u32; 64],
@@ -298,9 +295,9 @@ pub fn decide_edit<'a>(
     firm: &'a [bool; 64],
     links: &'a Links,
     values: &'a [i32],
-    named: EditRecord,
+    i: usize,
+    seen: EditRecord,
     old: i32,
-    standing: EditRecord,
     s: u32,
     client: i32,
     after: i32,
@@ -309,7 +306,7 @@ pub fn decide_edit<'a>(
     constant: i32,
     sound: bool,
 ) -> Decision
-    ensures { λ r. ⌜ (LinkedIf sound (now (links .entry)) (now (lower .entry)) (now (upper .entry)) (min (h .rules) 64) → r ≡ editDecision h (editRuling sound h (now (lower .entry)) (now (gap .entry)) (now (upper .entry)) (now (firm .entry)) (now (values .entry)) named s client after m kind constant) old standing s (natural client) (natural after) m) ⌝ }
+    ensures { λ r. ⌜ (LinkedIf sound (now (links .entry)) (now (lower .entry)) (now (upper .entry)) (min (h .rules) 64) → r ≡ editDecision h (editRuling sound h (now (lower .entry)) (now (gap .entry)) (now (upper .entry)) (now (firm .entry)) (now (values .entry)) (recordOf i seen) s client after m kind constant) old s (natural client) (natural after) m) ⌝ }
 {
     let ruling = edit_ruling(
         h,
@@ -319,7 +316,7 @@ pub fn decide_edit<'a>(
         firm,
         links,
         values,
-        named,
+        records::found(i, seen),
         s,
         client,
         after,
@@ -332,7 +329,6 @@ pub fn decide_edit<'a>(
         h,
         ruling,
         old,
-        standing,
         s,
         exact::number(client),
         exact::number(after),

@@ -3,7 +3,7 @@ ghost use mathlib.Core.Path.{_≡_};
 ghost use Prim.Native.Nat.{min};
 ghost use Rattle.protocol.specs.Plan.{isWaiting};
 ghost use Rattle.rules.specs.Rules.{LinkedIf};
-ghost use Rattle.records.specs.Records.{keptAt};
+ghost use Rattle.records.specs.Records.{keptAt, recordOf};
 ghost use Rattle.settling.specs.Replays.{draftOutcome, replayOutcome, settledFate, settledRecord, replayDecision};
 use change::Change;
 use heads::Head;
@@ -168,7 +168,8 @@ fn replay_decision(outcome: Outcome, standing: EditRecord, old: i32, place: u32)
     }
 }
 
-// What a replay stores, from what stands at its places; place is the next in the order of settling.
+// What a replay stores, from the edit that stands at a place from 1, the one seen at the place that it names as earlier, and the value that
+// stands at its place in the draft; place is the next in the order of settling.
 pub fn decide_replay<'a>(
     h: Head,
     lower: &'a [u32; 64],
@@ -177,14 +178,15 @@ pub fn decide_replay<'a>(
     links: &'a Links,
     draft: &'a [i32],
     missing: u32,
-    e: EditRecord,
-    earlier: EditRecord,
+    i: usize,
     standing: EditRecord,
+    j: usize,
+    seen: EditRecord,
     old: i32,
     place: u32,
     sound: bool,
 ) -> Decision
-    ensures { λ r. ⌜ (LinkedIf sound (now (links .entry)) (now (lower .entry)) (now (upper .entry)) (min (h .rules) 64) → r ≡ replayDecision (replayOutcome sound h (now (lower .entry)) (now (gap .entry)) (now (upper .entry)) (now (draft .entry)) missing e earlier old) standing old place) ⌝ }
+    ensures { λ r. ⌜ (LinkedIf sound (now (links .entry)) (now (lower .entry)) (now (upper .entry)) (min (h .rules) 64) → r ≡ replayDecision (replayOutcome sound h (now (lower .entry)) (now (gap .entry)) (now (upper .entry)) (now (draft .entry)) missing (recordOf i standing) (recordOf j seen) old) standing old place) ⌝ }
 {
     let outcome = replay_outcome(
         h,
@@ -194,8 +196,8 @@ pub fn decide_replay<'a>(
         links,
         draft,
         missing,
-        e,
-        earlier,
+        records::found(i, standing),
+        records::found(j, seen),
         old,
         sound,
     );

@@ -51,9 +51,6 @@ mul-seen c = search needs
 element-copy-out-seen : tie.Need-element-copy-out-seen
 element-copy-out-seen c = search needs
 
-found-requires-2 : tie.Need-found-requires-2
-found-requires-2 c κs = search needs
-
 unset-requires : tie.Need-unset-requires
 unset-requires c κs = search needs
 
@@ -83,19 +80,19 @@ element-set-from-amount c = search needs
 
 mul-entry : tie.Need-mul-entry
 mul-entry c =
-    omega (arith, (c .before .before .before .before .before .before .before .before .before .before .before .before .before .before .before .before .before .before .before .before .before .before .before .place .ensures .1))
+    omega (arith, (c .before .before .before .before .before .before .before .before .before .before .before .before .before .before .before .before .before .before .before .before .before .before .place .ensures .1))
 
 element-set-from-entry : tie.Need-element-set-from-entry
 element-set-from-entry c =
-    (c .before .before .before .before .before .before .before .before .before .before .before .before .before .before .before .before .before .before .before .before .before .before .before .place .ensures .1)
+    (c .before .before .before .before .before .before .before .before .before .before .before .before .before .before .before .before .before .before .before .before .before .before .place .ensures .1)
 
 returns : tie.Need-returns
 returns c =
-    let s = (c .before .before .before .before .before .before .before .before .before .before .before .before .before .before .before .before .before .before .before .before .before .before .before .before .before .before .before) in
+    let s = (c .before .before .before .before .before .before .before .before .before .before .before .before .before .before .before .before .before .before .before .before .before .before .before .before .before .before) in
     let p = s .args .t1 in
     let d = (c .before .before .decide-replay .result) in
-    let g = replay-decided false p (s .args .n) (toZ-ofZ (s .fits .n)) (c .before .before .before .before .before .before .before .before .before .before .before .before .before .before .before .before .before .before .before .before .before .before .before .before .before .number .ensures) (c .before .before .before .before .before .before .before .before .before .before .before .before .before .before .before .before .before .before .before .before .before .before .before .before .position .ensures .0) (c .before .before .before .before .before .before .before .before .before .before .before .before .before .before .before .before .before .before .before .before .before .before .before .place .ensures .0) (c .before .before .before .before .before .before .before .before .before .before .before .before .before .before .before .before .before .before .before .before .before .found .ensures)
-    (c .before .before .before .before .before .before .before .before .before .before .before .before .before .before .before .before .before .before .before .before .position2 .ensures .0) (c .before .before .before .before .before .before .before .before .before .before .before .before .before .before .before .before .before .before .before .place2 .ensures .0) (c .before .before .before .before .before .before .before .before .before .before .before .before .before .before .before .before .before .found2 .ensures) (c .before .before .before .before .before .before .before .before .before .before .before .before .before .before .unset .ensures .0) (c .before .before .before .before .before .before .before .before .before .before .before .before .count .ensures .0)
+    let g = replay-decided false p (s .args .n) (toZ-ofZ (s .fits .n)) (c .before .before .before .before .before .before .before .before .before .before .before .before .before .before .before .before .before .before .before .before .before .before .before .before .number .ensures) (c .before .before .before .before .before .before .before .before .before .before .before .before .before .before .before .before .before .before .before .before .before .before .before .position .ensures .0) (c .before .before .before .before .before .before .before .before .before .before .before .before .before .before .before .before .before .before .before .before .before .before .place .ensures .0) (c .before .before .before .before .before .before .before .before .before .before .before .before .before .before .before .before .before .before .before .before .found .ensures)
+    (c .before .before .before .before .before .before .before .before .before .before .before .before .before .before .before .before .before .before .before .position2 .ensures .0) (c .before .before .before .before .before .before .before .before .before .before .before .before .before .before .before .before .before .before .place2 .ensures .0) (c .before .before .before .before .before .before .before .before .before .before .before .before .before .before .unset .ensures .0) (c .before .before .before .before .before .before .before .before .before .before .before .before .count .ensures .0)
     (c .before .before .before .before .before .before .before .before .before .before .before .point .ensures .0) (toZ-ofZ (fits32 (getD (p .draft) ((c .before .before .before .before .before .before .before .before .before .before .before .point .result)) (pos 0)) ((c .before .before .before .before .before .before .before .before .before .before .old .given)))) ((c .before .before .decide-replay .ensures) (unlinked _ _ _ _)) in
     let amount = toZ-ofZ (fits32 (d .amount) ((c .before .struct-told .given .0 .1))) in
     rw (amount, g .1, g .2, g .0) (replay-meets p (owned-sized p (s .good .0)) (s .args .n))
@@ -114,7 +111,6 @@ replay-spec =
     place-requires-2
     mul-seen
     element-copy-out-seen
-    found-requires-2
     unset-requires
     count-requires
     add-place
