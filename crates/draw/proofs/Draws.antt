@@ -87,7 +87,7 @@ measure-accepts p z v w e = accepts _ w tt e (λ t. ap ok (measure-given p v (ro
 
 -- ---- rule
 
-rules-length : (p : State) → length (rulesOf p) ≡ min (p .head .rules) 64
+pub rules-length : (p : State) → length (rulesOf p) ≡ min (p .head .rules) 64
 rules-length p = length-span 0 (min (p .head .rules) 64) _
 
 pub rule-checks : (p : State) (a c b f : ℤ) → first (checks (rule a c b f) (view p)) ≡ first (ruleChecks (p .head) (natural a) c (natural b) f)

@@ -1,5 +1,5 @@
 -- How a run goes on from line to line: the invariant of its loop, and its end. Assumes nothing.
-use Prim.Native.Nat.{ℕ, _+_, _-_, _<_, _≤_}
+use Prim.Native.Nat.{ℕ, _+_, _-_, _<_, _≤_, min}
 use native.Mathlib.Omega.{arith}
 use mathlib.Core.Path.{_≡_, refl, sym, ap, _∙_}
 use mathlib.Core.Bool.{Bool, true, false, cond}
@@ -16,6 +16,7 @@ use Rattle.reader.proofs.Cuts.{lines-over, lines-at}
 use Rattle.state.specs.declared.State.{State}
 use Rattle.state.specs.View.{view}
 use Rattle.records.specs.Records.{keptOf}
+use Rattle.rules.specs.Rules.{Linked}
 use Rattle.state.proofs.Views.{Sized}
 use Rattle.tally.specs.declared.Tallies.{Tallies}
 use Rattle.tally.specs.Tallies.{Counted}
@@ -111,14 +112,15 @@ module _ (reserve : ℕ) (sheet : List ℕ) (from : ℕ) (lent : List ℕ) (star
 
 -- ---- the loop's invariant
 
--- The run is over, as an answer did not fit, or goes on; `stop` says whether there is another line.
-pub record Course (sound : Bool) (reserve : ℕ) (sheet : List ℕ) (from : ℕ) (lent : List ℕ) (start : State) (area : List ℕ) (p : State) (t : Tallies) (at i : ℕ) (ended : Bool) (stop : ℕ) : Type 0 where
+-- The run is over, as an answer did not fit, or goes on; `stop` says whether there is another line. The links are those of the rules.
+pub record Course (sound : Bool) (reserve : ℕ) (sheet : List ℕ) (from : ℕ) (lent : List ℕ) (start : State) (area : List ℕ) (p : State) (t : Tallies) (links : List ℕ) (at i : ℕ) (ended : Bool) (stop : ℕ) : Type 0 where
+  pub linked : Linked links (p .lower) (p .upper) 0 (min (p .head .rules) 64)
   pub same : length area ≡ length lent
   pub last : stop ≡ lastOf (length sheet) ended (length area - at) reserve
   pub over : ended ≡ true → Advanced reserve sheet from start lent (record { state = p; next = i; written = at; ended = true }) area
   pub under : ended ≡ false → Sound sound p × Going reserve sheet from lent start area p t at i
 
-module _ {sound : Bool} {reserve : ℕ} {sheet : List ℕ} {from : ℕ} {lent : List ℕ} {start : State} {area : List ℕ} {p : State} {t : Tallies} {at i : ℕ} {ended : Bool} {stop : ℕ} (k : Course sound reserve sheet from lent start area p t at i ended stop) where
+module _ {sound : Bool} {reserve : ℕ} {sheet : List ℕ} {from : ℕ} {lent : List ℕ} {start : State} {area : List ℕ} {p : State} {t : Tallies} {links : List ℕ} {at i : ℕ} {ended : Bool} {stop : ℕ} (k : Course sound reserve sheet from lent start area p t links at i ended stop) where
   -- a line is begun
   pub inside : i < stop → (ended ≡ false) × (i < length sheet) × (reserve ≤ length area - at)
   inside h =

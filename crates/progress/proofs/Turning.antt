@@ -7,12 +7,12 @@ use mathlib.Core.List.{List, []}
 use mathlib.Core.Option.{Option, none, some, Option·some-injective, Option·none-ne-some}
 use borrow.Author.Tests.{eqb-true, eqb-false, ne-eqb, ltb-true, ltb-false}
 use lib.Dec.{T, eqb, ltb, leb}
-use lib.IntN.{ℤ}
+use lib.IntN.{ℤ, pos}
 use lib.ListN.{length, getD}
 use Rattle.protocol.specs.Lists.{natural, oneTo, count}
 use Rattle.protocol.specs.Plan.{modeNumber, is, blank, whole, holds, isSettled, absentSide, measureLimit}
 use Rattle.protocol.specs.Calls as model
-use Rattle.protocol.specs.Calls.{Call, measure, rule, open-plan, split-side, edit, join, send, replay, stop, confirm, install, show, fate-of, left, Verdict, fine, refused, first, checks, step, stepBy, no, ok}
+use Rattle.protocol.specs.Calls.{Call, measure, rule, open-plan, split-side, edit, join, send, replay, stop, confirm, install, show, fate-of, left, Verdict, fine, refused, first, firstValues, withBase, withKept, checks, after, step, stepBy, no, ok}
 use Rattle.protocol.proofs.Laws.{cases, passed, both, or-left, or-right, is-yes, yes-is, range, all-nth}
 use Rattle.guarantee.specs.Holding.{Holding}
 use Rattle.guarantee.proofs.Kept.{settled-count}
@@ -25,11 +25,17 @@ use Rattle.state.specs.declared.Answer.{Answer}
 use Rattle.state.specs.declared.Answer.the-variants.{Refused, Done, Number, Pair}
 use Rattle.state.specs.declared.Answered.{Answered}
 use Rattle.state.specs.View.{view, rulesOf}
+use Rattle.state.specs.Parts.{namedIn}
 use Rattle.heads.specs.Heads.{modeOf, sidesIn, offsetOf, measuresIn, keptIn, endIn}
 use Rattle.records.specs.Records.{keptOf, keptAt, noRecord}
 use Rattle.state.specs.Meets.{answerOf, Meets}
 use Rattle.state.proofs.Views.{Sized, sides-length, sides-most, side-at}
-use Rattle.ruling.specs.Edits.{editIn}
+use Rattle.ruling.specs.declared.Decision.{Decision}
+use Rattle.ruling.specs.declared.Ruling.{Ruling}
+use Rattle.ruling.specs.declared.Ruling.the-variants.{Refused as Denied, Granted}
+use Rattle.ruling.specs.Edits.{spotOf, editRuling, editDecision, editIn, stored}
+use Rattle.rules.specs.Rules.{Linked}
+use Rattle.draw.proofs.Draws.{rules-length}
 use Rattle.edit.proofs.Edits.{edit-sound}
 use Rattle.settling.specs.Replays.{replayIn}
 use Rattle.replay.proofs.Replays.{replay-sound}
@@ -154,41 +160,86 @@ performs-made (some c) p r m = meets-made c p r m
 
 -- ---- between the arms
 
--- A line between two arms: made, if one of those passed was its call's (`done`), else not touched yet.
-pub record Turned (done : Bool) (l : Option Call) (p q : State) (a : Answer) (f w : ℕ) : Type 0 where
+-- a state with the same rules, of which as many count
+pub record SameRules (p q : State) : Type 0 where
+  pub lower : q .lower ≡ p .lower
+  pub upper : q .upper ≡ p .upper
+  pub count : min (q .head .rules) 64 ≡ min (p .head .rules) 64
+
+-- A line between two arms: made, if one of those passed was its call's (`done`), else not touched yet. Unless it draws up the plan (`drawn`), the rules
+-- are the same.
+pub record Turned (drawn done : Bool) (l : Option Call) (p q : State) (a : Answer) (f w : ℕ) : Type 0 where
   pub made : done ≡ true → Made l p q a (row (q .values) f w)
   pub idle : done ≡ false → (q ≡ p) × (a ≡ Refused 51) × (f ≡ 0) × (w ≡ 0)
+  pub ruled : drawn ≡ false → SameRules p q
   pub sized : Sized q
   pub from : f ≤ 224
   pub width : w ≤ 32
 
-pub untouched : (l : Option Call) (p : State) → Sized p → Turned false l p p (Refused 51) 0 0
-untouched l p z = record { made = λ e. absurd (is-yes e); idle = λ e. (refl, refl, refl, refl); sized = z; from = omega arith; width = omega arith }
+pub untouched : (drawn : Bool) (l : Option Call) (p : State) → Sized p → Turned drawn false l p p (Refused 51) 0 0
+untouched drawn l p z = record { made = λ e. absurd (is-yes e); idle = λ e. (refl, refl, refl, refl); ruled = λ e. record { lower = refl; upper = refl; count = refl }; sized = z; from = omega arith; width = omega arith }
 
-module _ {done t : Bool} {l : Option Call} {p q : State} {a : Answer} {f w : ℕ} (k : Turned done l p q a f w) where
+module _ {drawn done t : Bool} {l : Option Call} {p q : State} {a : Answer} {f w : ℕ} (k : Turned drawn done l p q a f w) where
   -- an arm that is not the call's
-  pub passed-by : {q′ : State} {a′ : Answer} {f′ w′ : ℕ} → t ≡ false → q′ ≡ q → a′ ≡ a → f′ ≡ f → w′ ≡ w → Turned (t || done) l p q′ a′ f′ w′
+  pub passed-by : {q′ : State} {a′ : Answer} {f′ w′ : ℕ} → t ≡ false → q′ ≡ q → a′ ≡ a → f′ ≡ f → w′ ≡ w → Turned drawn (t || done) l p q′ a′ f′ w′
   passed-by n e g h i = rw (n, e, g, h, i) k
 
   -- the call's own, which gives no values besides its answer
-  pub taken : {q′ q″ : State} {a′ a″ : Answer} {f′ w′ : ℕ} → t ≡ true → done ≡ false → q′ ≡ q″ → a′ ≡ a″ → f′ ≡ f → w′ ≡ w → Made l q q″ a″ [] → Sized q″ → Turned (t || done) l p q′ a′ f′ w′
-  taken {q″ = q″} {a″ = a″} y n e g h i m z =
+  pub taken : {q′ q″ : State} {a′ a″ : Answer} {f′ w′ : ℕ} → t ≡ true → done ≡ false → q′ ≡ q″ → a′ ≡ a″ → f′ ≡ f → w′ ≡ w → Made l q q″ a″ [] → (drawn ≡ false → SameRules q q″) → Sized q″ → Turned drawn (t || done) l p q′ a′ f′ w′
+  taken {q″ = q″} {a″ = a″} y n e g h i m r z =
       let s = k .idle n in
-      rw (y, e, g, h ∙ s .2, i ∙ s .3) (record { made = λ u. subst (λ x. Made l x q″ a″ []) (s .0) m; idle = λ u. absurd (is-yes (sym u)); sized = z; from = omega arith; width = omega arith })
+      rw (y, e, g, h ∙ s .2, i ∙ s .3) (record { made = λ u. subst (λ x. Made l x q″ a″ []) (s .0) m; idle = λ u. absurd (is-yes (sym u)); ruled = λ u. subst (λ x. SameRules x q″) (s .0) (r u); sized = z; from = omega arith; width = omega arith })
 
   -- one that only reads
-  pub read-out : {a′ a″ : Answer} {f′ f″ w′ w″ : ℕ} → t ≡ true → done ≡ false → a′ ≡ a″ → f′ ≡ f″ → w′ ≡ w″ → Made l q q a″ (row (q .values) f″ w″) → f″ ≤ 224 → w″ ≤ 32 → Turned (t || done) l p q a′ f′ w′
+  pub read-out : {a′ a″ : Answer} {f′ f″ w′ w″ : ℕ} → t ≡ true → done ≡ false → a′ ≡ a″ → f′ ≡ f″ → w′ ≡ w″ → Made l q q a″ (row (q .values) f″ w″) → f″ ≤ 224 → w″ ≤ 32 → Turned drawn (t || done) l p q a′ f′ w′
   read-out {a″ = a″} {f″ = f″} {w″ = w″} y n g h i m x z =
       let s = k .idle n in
-      rw (y, g, h, i) (record { made = λ u. subst (λ x. Made l x q a″ (row (q .values) f″ w″)) (s .0) m; idle = λ u. absurd (is-yes (sym u)); sized = k .sized; from = x; width = z })
+      rw (y, g, h, i) (record { made = λ u. subst (λ x. Made l x q a″ (row (q .values) f″ w″)) (s .0) m; idle = λ u. absurd (is-yes (sym u)); ruled = k .ruled; sized = k .sized; from = x; width = z })
 
 -- an arm that is reached untouched finds what held before the line
-pub still : (P : State → Type 0) {done : Bool} {l : Option Call} {p q : State} {a : Answer} {f w : ℕ} → Turned done l p q a f w → done ≡ false → P p → P q
+pub still : (P : State → Type 0) {drawn done : Bool} {l : Option Call} {p q : State} {a : Answer} {f w : ℕ} → Turned drawn done l p q a f w → done ≡ false → P p → P q
 still P k n c = subst P (sym (k .idle n .0)) c
 
 -- after the last arm
-pub turned : {done : Bool} {l : Option Call} {p q : State} {a : Answer} {f w : ℕ} → Turned done l p q a f w → (done ≡ false → l ≡ none) → Made l p q a (row (q .values) f w)
-turned {done} {l} {p} k h = cases done (λ e. k .made e) (λ e. let s = k .idle e in rw (h e, s .0, s .1, s .2, s .3) (none-made p))
+pub turned : {drawn done : Bool} {l : Option Call} {p q : State} {a : Answer} {f w : ℕ} → Turned drawn done l p q a f w → (done ≡ false → l ≡ none) → Made l p q a (row (q .values) f w)
+turned {done = done} {l = l} {p = p} k h = cases done (λ e. k .made e) (λ e. let s = k .idle e in rw (h e, s .0, s .1, s .2, s .3) (none-made p))
+
+-- ---- the rules stay
+
+same-rules : {p q : State} → q .lower ≡ p .lower → q .upper ≡ p .upper → q .head .rules ≡ p .head .rules → SameRules p q
+same-rules a b e = record { lower = a; upper = b; count = ap (λ n. min n 64) e }
+
+pub edit-rules : (p : State) (spot slot : ℕ) (sound : Bool) (s : ℕ) (client n : ℤ) (m kind : ℕ) (k : ℤ) (d : Decision) → d .head ≡ editIn sound p s client n m kind k .head → SameRules p (stored p spot slot d)
+edit-rules p spot slot sound s client n m kind k d e = same-rules refl refl (ap (λ h. h .rules) e ∙ by (editRuling sound (p .head) (p .lower) (p .gap) (p .upper) (p .firm) (p .values) (namedIn p (natural n)) s client n m kind k))
+  where
+    by : (r : Ruling) → editDecision (p .head) r (getD (p .values) (spotOf s m) (pos 0)) s (natural client) (natural n) m .head .rules ≡ p .head .rules
+    by (Denied j) = refl
+    by (Granted c x) = refl
+
+pub alike : {p q : State} → q .lower ≡ p .lower → q .upper ≡ p .upper → q .head ≡ p .head → SameRules p q
+alike a b e = same-rules a b (ap (λ h. h .rules) e)
+
+-- a move on the frame makes no rule
+pub move-rules : (op : ℕ) (x : ℤ) {l : Option Call} (p q : State) {a : Answer} {vs : List ℤ} → l ≡ some (moveCall op x) → q .lower ≡ p .lower → q .upper ≡ p .upper → Made l p q a vs → SameRules p q
+unfolding step after
+move-rules op x p q e b c m = record { lower = b; upper = c; count = sym (rules-length q) ∙ ap (λ y. length (y .content .rules)) (m .plan ∙ ap (λ o. stepOf o (view p) .plan) e) ∙ judged (first (checks (moveCall op x) (view p))) ∙ rules-length p }
+  where
+    parted : (w : Bool) → cond w (withBase (firstValues (view p .content)) (withKept (λ ks. []) (view p .content))) (view p .content) .rules ≡ view p .content .rules
+    parted true = refl
+    parted false = refl
+
+    kept : after (moveCall op x) (view p .mode) (view p .content) .content .rules ≡ view p .content .rules
+    kept =
+        cases (eqb op 4) (λ e. rw e (parted (is whole (view p .mode))))
+        (λ e. rw e (cases (eqb op 6) (λ f. rw f) (λ f. rw f (cases (eqb op 9) (λ g. rw g) (λ g. rw g (cases (eqb op 10) (λ h. rw h) (λ h. rw h)))))))
+
+    judged : (w : Verdict) → length (stepBy w (moveCall op x) (view p) .plan .content .rules) ≡ length (rulesOf p)
+    judged (refused k) = refl
+    judged fine = ap length kept
+
+-- and their links lead as before
+pub linked-still : {links : List ℕ} {p q : State} → SameRules p q → Linked links (p .lower) (p .upper) 0 (min (p .head .rules) 64) → Linked links (q .lower) (q .upper) 0 (min (q .head .rules) 64)
+linked-still r k = rw (r .lower, r .upper, r .count) k
 
 -- ---- where every rule holds, testing those that name the measure is enough
 

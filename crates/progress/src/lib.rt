@@ -77,7 +77,7 @@ fn last(len: usize, ended: bool, room: usize, reserve: usize) -> usize
     len
 }
 
-// The loop, with the counts of the kept edits beside the plan. A call is known by its number in the order of 01; its arm decides, from what
+// The loop, with the counts of the kept edits and the rules' links beside the plan. A call is known by its number in the order of 01; its arm decides, from what
 // is lent or from small parts by value, and stores in place. A line that cannot be read is left with 51. The arms stand in a row, not in one chain:
 // where a chain's arms meet, the check carries the variables of all of them. Where every rule is known to hold (`sound`), every call keeps it so
 // (guarantee's `holding-step`), and an edit or replay tests only the rules that name its measure.
@@ -93,6 +93,7 @@ fn go(
     requires { ⌜ Counted t (keptOf (p .head) (p .edits)) × Sound sound p ⌝ }
     ensures { λ r. ⌜ Advanced reserve (now (sheet .entry)) from p (now (area .entry)) r (now (area .exit)) ⌝ }
 {
+    let mut links = rules::indexed(&p.lower, &p.upper, p.head.rules);
     let mut at: usize = 0;
     let mut i = from;
     let mut ended = false;
@@ -118,17 +119,17 @@ fn go(
             let spot = edit::spot(side, measure);
             let slot = rows::capped(h.kept, 255);
             let old = p.values[spot];
-            let standing = p.edits[slot];
             let d = ruling::decide_edit(
                 h,
                 &p.lower,
                 &p.gap,
                 &p.upper,
                 &p.firm,
+                &links,
                 &p.values,
-                records::found(named, seen),
+                named,
+                seen,
                 old,
-                standing,
                 side,
                 line.b,
                 line.c,
@@ -144,7 +145,7 @@ fn go(
             p.head = head;
             p.values[spot] = value;
             answer = given;
-            if !whole {
+            if d.kept {
                 p.edits[slot] = entry;
             }
         }
@@ -158,7 +159,6 @@ fn go(
             let next = heads::position(h, e.earlier);
             let seat = heads::place(next);
             let seen = p.edits[seat];
-            let earlier = records::found(next, seen);
             let missing = heads::unset(&p.arrived, h);
             let place = rows::capped(t.settled, 256) as u32 + 1;
             let point = replay::point(e.measure);
@@ -168,11 +168,13 @@ fn go(
                 &p.lower,
                 &p.gap,
                 &p.upper,
+                &links,
                 &p.draft,
                 missing,
-                e,
-                earlier,
+                named,
                 standing,
+                next,
+                seen,
                 old,
                 place,
                 sound,
@@ -263,6 +265,9 @@ fn go(
             let given = r.answer;
             p = q;
             answer = given;
+            let h = p.head;
+            let next = rules::indexed(&p.lower, &p.upper, h.rules);
+            links = next;
         }
         if moves_counts(op) {
             let moved = moved_op(answer, op);
