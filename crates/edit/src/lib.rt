@@ -18,6 +18,7 @@ pub fn spot(s: u32, m: u32) -> usize
     at + rows::capped(m - 1, 31)
 }
 
+// Of any plan it is not known that its rules hold: all are tested, and no links are needed.
 pub fn edit(p: State, s: i32, client: i32, after: i32, m: i32, kind: i32, constant: i32) -> Answered
     ensures { λ r. ⌜ Meets (edit s client after m kind constant) p r ⌝ }
 {
@@ -30,7 +31,6 @@ pub fn edit(p: State, s: i32, client: i32, after: i32, m: i32, kind: i32, consta
     let at = spot(side, measure);
     let slot = rows::capped(h.kept, 255);
     let old = p.values[at];
-    // Of any plan it is not known that its rules hold: all are tested, and no links are needed.
     let links = [0; 161];
     let d = ruling::decide_edit(
         h,

@@ -18,6 +18,7 @@ pub fn point(m: u32) -> usize
     rows::capped(m - 1, 31)
 }
 
+// Of any plan it is not known that its rules hold: all are tested, and no links are needed.
 pub fn replay(p: State, n: i32) -> Answered
     ensures { λ r. ⌜ Meets (replay n) p r ⌝ }
 {
@@ -34,7 +35,6 @@ pub fn replay(p: State, n: i32) -> Answered
     let place = records::count(edits, h, Test::Settled) + 1;
     let at = point(e.measure);
     let old = p.draft[at];
-    // Of any plan it is not known that its rules hold: all are tested, and no links are needed.
     let links = [0; 161];
     let d = settling::decide_replay(
         h,

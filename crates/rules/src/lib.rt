@@ -114,8 +114,8 @@ fn onward(links: &Links, i: usize, a: u32, m: u32) -> usize
 
 // ---- the rules on a row
 
-// Whether a rule that names measure m holds on the row of n values that begins at a place, where m counts as y. Most rules are tested
-// here: m is not looked up again.
+// Whether a rule that names measure m holds on the row of n values that begins at a place, where m counts as y. It is not looked up again,
+// as nearly all tests are made here.
 fn named_holds(values: &[i32], at: usize, n: usize, m: u32, y: i32, a: u32, g: i32, b: u32) -> bool
     ensures { λ t. ⌜ (namesPair a b m ≡ true → t ≡ pairHolds (countedAs m y (value (row (now (values .entry)) at n))) a g b) ⌝ }
 {
@@ -128,8 +128,9 @@ fn named_holds(values: &[i32], at: usize, n: usize, m: u32, y: i32, a: u32, g: i
     less_by(value_at(values, at, n, a), g, y)
 }
 
-// Whether each rule that names measure m holds, where m counts as x. Links that lead back are not those of the rules.
-fn named_hold<'a>(
+// Whether each rule that names measure m holds, where m counts as x: a walk along the links. Links that lead back are not those of the
+// rules, and end it.
+fn linked_hold<'a>(
     lower: &'a [u32; 64],
     gap: &'a [i32; 64],
     upper: &'a [u32; 64],
@@ -200,8 +201,8 @@ fn stands(
 }
 
 // Whether each of the first k rules that need a test holds on the row of at most 32 values that begins at a place, where measure m
-// counts as x. The caller that knows that all held before says so (`sound`) and lends the rules' links; of other links only the end of the
-// walk is sure.
+// counts as x. The caller that knows that all held before says so (`sound`) and lends the rules' links; with others the walk ends too, and
+// tells nothing.
 pub fn rules_hold<'a>(
     lower: &'a [u32; 64],
     gap: &'a [i32; 64],
@@ -221,7 +222,7 @@ pub fn rules_hold<'a>(
     let size = rows::capped(n, 32);
     if sound {
         if rows::one_to(32, m) {
-            return named_hold(lower, gap, upper, end, links, values, at, size, m, x);
+            return linked_hold(lower, gap, upper, end, links, values, at, size, m, x);
         }
     }
     let mut i: usize = 0;

@@ -9,7 +9,7 @@ use Rattle.protocol.specs.Plan.{blank, is}
 use Rattle.protocol.specs.Calls.{open-plan, gives}
 use Rattle.rows.specs.Rows.{row}
 use Rattle.rules.specs.Rules.{holdsIn, testedIn}
-use Rattle.rules.proofs.Rows.{unlinked}
+use Rattle.rules.proofs.Links.{unlinked}
 use Rattle.heads.specs.Heads.{modeOf, measuresIn}
 use Rattle.state.proofs.Meeting.{refused-meets, accepted-meets}
 use Rattle.draw.proofs.Draws.{some-left, no-value, open-checks, open-next}

@@ -8,7 +8,7 @@ use mir.Val.{toZ, ofZ}
 use mir.Facts.{toZ-ofZ}
 use Rattle.exact.proofs.Ints.{fits32}
 use Rattle.protocol.specs.Calls.{edit}
-use Rattle.rules.proofs.Rows.{unlinked}
+use Rattle.rules.proofs.Links.{unlinked}
 use Rattle.state.specs.Meets.{Meets}
 use Rattle.state.proofs.Views.{owned-sized}
 use Rattle.ruling.specs.Edits.{stored}

@@ -5,7 +5,7 @@ use mir.Facts.{toZ-ofZ}
 use Rattle.exact.proofs.Ints.{fits32}
 use Rattle.state.proofs.Views.{owned-sized}
 use Rattle.replay.proofs.Replays.{replay-decided, replay-meets}
-use Rattle.rules.proofs.Rows.{unlinked}
+use Rattle.rules.proofs.Links.{unlinked}
 use native.Mathlib.Omega.{arith}
 use borrow.Author.Needs.{needs}
 use Rattle.replay.proofs.replay.Statement.{statement}

@@ -4,7 +4,7 @@ use Prim.Native.Nat.{_+_, _-_, _≤_, min}
 use mathlib.Core.Path.{_≡_, refl, sym, subst, _∙_}
 use lib.ListN.{length, replicate, length-set, getD-replicate}
 use Rattle.rules.specs.Rules.{Linked}
-use Rattle.rules.proofs.Rows.{link-begin, link-next}
+use Rattle.rules.proofs.Links.{link-begin, link-next}
 use Rattle.rules.proofs.indexed.Statement.{statement}
 use Rattle.rules.proofs.indexed.Tie as tie
 use Rattle.rules.proofs.indexed.Reads as reads

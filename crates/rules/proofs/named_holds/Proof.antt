@@ -5,7 +5,7 @@ use mir.Facts.{toZ-ofZ}
 use borrow.Author.Tests.{eq-eqb, ne-eqb}
 use Rattle.exact.proofs.Ints.{fits32}
 use Rattle.rules.specs.Rules.{pairHolds}
-use Rattle.rules.proofs.Rows.{names-other}
+use Rattle.rules.proofs.Links.{names-other}
 use borrow.Author.Needs.{needs}
 use Rattle.rules.proofs.named_holds.Statement.{statement}
 use Rattle.rules.proofs.named_holds.Tie as tie

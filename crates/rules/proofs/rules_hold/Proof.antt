@@ -22,7 +22,7 @@ use Rattle.rules.proofs.rules_hold.Reads as reads
 use Rattle.rules.proofs.rules_hold.Lts as lts
 use Rattle.rows.proofs.capped.Reads as capped-reads
 use Rattle.rows.proofs.one_to.Reads as one-to-reads
-use Rattle.rules.proofs.named_hold.Reads as named-hold-reads
+use Rattle.rules.proofs.linked_hold.Reads as linked-hold-reads
 use Rattle.rules.proofs.stands.Reads as stands-reads
 
 abbrev Inv-loop : tie.InvT-loop
@@ -68,8 +68,8 @@ capped-requires-2 c κs = search needs
 one-to-requires : tie.Need-one-to-requires Inv-loop μ-loop
 one-to-requires c κs = search needs
 
-named-hold-requires : tie.Need-named-hold-requires Inv-loop μ-loop
-named-hold-requires c κs =
+linked-hold-requires : tie.Need-linked-hold-requires Inv-loop μ-loop
+linked-hold-requires c κs =
     let r = range 32 _ (is-yes (sym (c .before .one-to .ensures) ∙ (c .if2 .taken))) in (omega arith, r .0, r .1)
 
 returns : tie.Need-returns Inv-loop μ-loop
@@ -79,7 +79,7 @@ returns c =
     let a = s .args in
     let e = (c .before .before .before .before .before .capped .ensures) in
     let n = (c .before .before .before .before .capped2 .ensures) in
-    (c .named-hold .ensures) (subst (Linked (a .links .now) (a .lower .now) (a .upper .now) 0) (sym e) (h (c .before .before .before .if1 .taken)))
+    (c .linked-hold .ensures) (subst (Linked (a .links .now) (a .lower .now) (a .upper .now) 0) (sym e) (h (c .before .before .before .if1 .taken)))
     ∙ (λ i. testedIn (sym (c .before .before .before .if1 .taken) i) (a .m) (a .lower .now) (a .gap .now) (a .upper .now) (e i) (withValue (a .m) (toZ-ofZ (s .fits .x) i) (row (a .values .now) (a .at) (n i))))
 
 loop-holds : tie.Need-loop-holds Inv-loop μ-loop
@@ -134,7 +134,7 @@ rules-hold-spec =
     capped-requires
     capped-requires-2
     one-to-requires
-    named-hold-requires
+    linked-hold-requires
     returns
     loop-holds
     mul-a

@@ -15,11 +15,12 @@ use Rattle.protocol.specs.Plan.{value}
 use Rattle.rows.specs.Rows.{row}
 use Rattle.rows.proofs.Spans.{walk-begin, all-next, all-stop, all-over}
 use Rattle.rules.specs.Rules.{withValue, countedAs, pairHolds, holdsAt, namesAt, testedIn, Due, Linked}
-use Rattle.rules.proofs.Rows.{counted-with, pair-same, Reached, reach, link-due}
-use Rattle.rules.proofs.named_hold.Statement.{statement}
-use Rattle.rules.proofs.named_hold.Tie as tie
-use Rattle.rules.proofs.named_hold.Reads as reads
-use Rattle.rules.proofs.named_hold.Lts as lts
+use Rattle.rules.proofs.Links.{Reached, reach, link-due}
+use Rattle.rules.proofs.Rows.{counted-with, pair-same}
+use Rattle.rules.proofs.linked_hold.Statement.{statement}
+use Rattle.rules.proofs.linked_hold.Tie as tie
+use Rattle.rules.proofs.linked_hold.Reads as reads
+use Rattle.rules.proofs.linked_hold.Lts as lts
 use Rattle.rules.proofs.named_holds.Reads as named-holds-reads
 use Rattle.rules.proofs.onward.Reads as onward-reads
 use Rattle.rules.proofs.value_with.Reads as value-with-reads
@@ -139,8 +140,8 @@ unfolding testedIn
 returns-3 c =
     λ w. all-over _ _ _ _ ((c .before .loop .inv) w .walked) (omega arith) ∙ exactly (c .before .before .before .before .before)
 
-pub named-hold-spec : {M : Type 1} → statement M
-named-hold-spec =
+pub linked-hold-spec : {M : Type 1} → statement M
+linked-hold-spec =
     tie.close
     (tie.spec
     Inv-loop
