@@ -1,7 +1,7 @@
 use Prim.Native.Nat.{ℕ, _+_, _*_, _-_, _<_, _≤_, min}
 use native.Mathlib.Omega.{arith}
 use mathlib.Core.Path.{_≡_, refl, sym, ap, _∙_, subst}
-use mathlib.Core.Bool.{Bool, true, false, not, cond, _||_}
+use mathlib.Core.Bool.{Bool, true, false, cond, _||_}
 use mathlib.Core.List.{List, [], _++_}
 use borrow.Author.Needs.{needs}
 use borrow.Author.Tests.{eq-eqb, ne-eqb, eqb-true, eqb-false, lt-ltb, le-ltb, leb-true}
@@ -92,10 +92,6 @@ Inv-loop sound reserve sheet from area₀ p₀ t₀ links₀ at₀ i₀ ended₀
 
 abbrev μ-loop : tie.MeasureT-loop
 μ-loop sound reserve sheet from area₀ p₀ t₀ links₀ at₀ i₀ ended₀ stop₀ area p t links at i ended stop = length sheet - i
-
-unless : (b : Bool) → not b ≡ false → b ≡ true
-unless true e = refl
-unless false e = sym e
 
 le-trans : {a b c : ℕ} → a ≤ b → b ≤ c → a ≤ c
 le-trans h k = omega (arith, h, k)
