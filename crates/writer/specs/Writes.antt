@@ -1,5 +1,5 @@
 -- The line of an answer, and the area that it is put into. Assumes nothing.
-use Prim.Native.Nat.{ℕ, zero, suc}
+use Prim.Native.Nat.{ℕ}
 use mathlib.Core.Bool.{Bool, cond}
 use mathlib.Core.List.{List, [], _∷_, _++_}
 use lib.Dec.{leb}
@@ -35,23 +35,26 @@ putLength line area = cond (fits line area) (length line) 0
 
 -- ---- the parts of a line
 
+-- two letters and a number
+abbrev pub oneOf : ℕ → ℕ → ℕ → List ℕ
+oneOf first second n = first ∷ second ∷ space ∷ digits n
+
+-- `ok` and two numbers
+abbrev pub twoOf : ℕ → ℕ → List ℕ
+twoOf a b = 111 ∷ 107 ∷ space ∷ digits a ++ (space ∷ digits b)
+
 -- `no` or `ok`, and the answer's own numbers
 abbrev pub headOf : Answer → List ℕ
-headOf (Refused k) = 110 ∷ 111 ∷ space ∷ digits k
+headOf (Refused k) = oneOf 110 111 k
 headOf Done = 111 ∷ 107 ∷ []
-headOf (Number n) = 111 ∷ 107 ∷ space ∷ digits n
-headOf (Pair a b) = 111 ∷ 107 ∷ space ∷ digits a ++ (space ∷ digits b)
+headOf (Number n) = oneOf 111 107 n
+headOf (Pair a b) = twoOf a b
+
+abbrev pub ended : List ℕ → List ℕ
+ended bs = bs ++ (lineFeed ∷ [])
 
 abbrev pub partsOf : Answer → List ℤ → List ℕ
-partsOf answer row = headOf answer ++ spaced row ++ (lineFeed ∷ [])
-
--- an answer as it is told before so many values: 0 where no number is given
-abbrev pub asTold : Answer → ℕ → Answer
-asTold (Refused k) count = Refused k
-asTold Done zero = Number 0
-asTold Done (suc count) = Done
-asTold (Number n) count = Number n
-asTold (Pair a b) count = Pair a b
+partsOf answer row = ended (headOf answer ++ spaced row)
 
 -- how many of the values are told: none behind a refusal
 abbrev pub toldBehind : Answer → ℕ → ℕ

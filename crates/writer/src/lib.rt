@@ -1,6 +1,6 @@
 // Writes one answer line (01, "The sheet program"): `ok` and the numbers given, `ok 0` where there are none, or `no` and the refusal.
 ghost use mathlib.Core.Path.{_≡_};
-ghost use mathlib.Core.List.{_∷_};
+ghost use mathlib.Core.List.{[], _∷_};
 ghost use Prim.Native.Nat.{_+_, _-_, _*_, _≤_};
 ghost use lib.Dec.{leb};
 ghost use lib.IntN.{natAbs};
@@ -9,7 +9,7 @@ ghost use lib.Seq.{sets};
 ghost use Rattle.format.specs.Numbers.{digits, written};
 ghost use Rattle.format.specs.Lines.{space};
 ghost use Rattle.format.specs.Sheets.{spaced};
-ghost use Rattle.writer.specs.Writes.{lineOf, putIn, putLength, headOf, partsOf, asTold, toldBehind};
+ghost use Rattle.writer.specs.Writes.{lineOf, putIn, putLength, headOf, oneOf, twoOf, ended, partsOf, toldBehind};
 use state::Answer;
 
 // ---- a number
@@ -168,7 +168,7 @@ fn put_row<'a>(row: &'a [i32], at: usize, area: &mut [u8]) -> usize
     end
 }
 
-// ---- a line
+// ---- a line with a row behind
 
 fn head_width(answer: Answer) -> usize
     ensures { λ r. ⌜ r ≡ length (headOf answer) ⌝ }
@@ -181,32 +181,39 @@ fn head_width(answer: Answer) -> usize
     }
 }
 
-// The head of a line up to its end, which is known. Its numbers are written from the last to the first.
+// Two letters and a number up to an end, which is known.
+fn put_one(first: u8, second: u8, n: u32, end: usize, area: &mut [u8])
+    requires { ⌜ (end ≡ length (oneOf first second n)) × (end ≤ length (now area)) ⌝ }
+    ensures { λ r. ⌜ now (area .exit) ≡ sets (now (area .entry)) 0 (oneOf first second n) ⌝ }
+{
+    area[0] = first;
+    area[1] = second;
+    put_spaced(n, end, area);
+}
+
+// `ok` and two numbers up to an end, which is known. The last is written first.
+fn put_two(a: u32, b: u32, end: usize, area: &mut [u8])
+    requires { ⌜ (end ≡ length (twoOf a b)) × (end ≤ length (now area)) ⌝ }
+    ensures { λ r. ⌜ now (area .exit) ≡ sets (now (area .entry)) 0 (twoOf a b) ⌝ }
+{
+    area[0] = 111;
+    area[1] = 107;
+    let at = put_spaced(b, end, area);
+    put_spaced(a, at, area);
+}
+
 fn put_head(answer: Answer, end: usize, area: &mut [u8])
     requires { ⌜ (end ≡ length (headOf answer)) × (end ≤ length (now area)) ⌝ }
     ensures { λ r. ⌜ now (area .exit) ≡ sets (now (area .entry)) 0 (headOf answer) ⌝ }
 {
     match answer {
-        Answer::Refused(k) => {
-            area[0] = 110;
-            area[1] = 111;
-            put_spaced(k, end, area);
-        }
+        Answer::Refused(k) => put_one(110, 111, k, end, area),
         Answer::Done => {
             area[0] = 111;
             area[1] = 107;
         }
-        Answer::Number(n) => {
-            area[0] = 111;
-            area[1] = 107;
-            put_spaced(n, end, area);
-        }
-        Answer::Pair(a, b) => {
-            area[0] = 111;
-            area[1] = 107;
-            let at = put_spaced(b, end, area);
-            put_spaced(a, at, area);
-        }
+        Answer::Number(n) => put_one(111, 107, n, end, area),
+        Answer::Pair(a, b) => put_two(a, b, end, area),
     }
 }
 
@@ -228,22 +235,45 @@ fn put_parts(answer: Answer, row: &[i32], area: &mut [u8]) -> usize
     end + 1
 }
 
-// An answer as it is told before so many values: 0 where no number is given.
-fn as_told(answer: Answer, count: usize) -> Answer
-    ensures { λ r. ⌜ r ≡ asTold answer count ⌝ }
+// ---- a line with no row behind, as nearly all are: straight, so that the answer's kind is looked at once
+
+fn put_number(first: u8, second: u8, n: u32, area: &mut [u8]) -> usize
+    ensures { λ r. ⌜ (now (area .exit) ≡ putIn (ended (oneOf first second n)) (now (area .entry))) × (r ≡ putLength (ended (oneOf first second n)) (now (area .entry))) ⌝ }
+{
+    let w = 3 + width(n);
+    if area.len() <= w {
+        return 0;
+    }
+    put_one(first, second, n, w, area);
+    area[w] = 10;
+    w + 1
+}
+
+fn put_pair(a: u32, b: u32, area: &mut [u8]) -> usize
+    ensures { λ r. ⌜ (now (area .exit) ≡ putIn (ended (twoOf a b)) (now (area .entry))) × (r ≡ putLength (ended (twoOf a b)) (now (area .entry))) ⌝ }
+{
+    let w = 4 + width(a) + width(b);
+    if area.len() <= w {
+        return 0;
+    }
+    put_two(a, b, w, area);
+    area[w] = 10;
+    w + 1
+}
+
+// An answer that gives no number is told as 0.
+fn put_alone(answer: Answer, area: &mut [u8]) -> usize
+    ensures { λ r. ⌜ (now (area .exit) ≡ putIn (lineOf answer []) (now (area .entry))) × (r ≡ putLength (lineOf answer []) (now (area .entry))) ⌝ }
 {
     match answer {
-        Answer::Refused(k) => Answer::Refused(k),
-        Answer::Done => {
-            if count == 0 {
-                return Answer::Number(0);
-            }
-            Answer::Done
-        }
-        Answer::Number(n) => Answer::Number(n),
-        Answer::Pair(a, b) => Answer::Pair(a, b),
+        Answer::Refused(k) => put_number(110, 111, k, area),
+        Answer::Done => put_number(111, 107, 0, area),
+        Answer::Number(n) => put_number(111, 107, n, area),
+        Answer::Pair(a, b) => put_pair(a, b, area),
     }
 }
+
+// ---- any line
 
 // How many of the values behind an answer are told: none behind a refusal.
 fn told_behind(answer: Answer, count: usize) -> usize
@@ -262,8 +292,8 @@ fn told_behind(answer: Answer, count: usize) -> usize
 pub fn put(answer: Answer, row: &[i32], area: &mut [u8]) -> usize
     ensures { λ r. ⌜ (now (area .exit) ≡ putIn (lineOf answer (now (row .entry))) (now (area .entry))) × (r ≡ putLength (lineOf answer (now (row .entry))) (now (area .entry))) ⌝ }
 {
-    let count = row.len();
-    let told = as_told(answer, count);
-    let n = told_behind(answer, count);
-    put_parts(told, &row[..n], area)
+    if told_behind(answer, row.len()) == 0 {
+        return put_alone(answer, area);
+    }
+    put_parts(answer, row, area)
 }

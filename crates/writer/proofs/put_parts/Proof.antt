@@ -11,7 +11,7 @@ use Rattle.format.specs.Lines.{lineFeed}
 use Rattle.format.specs.Sheets.{spaced}
 use Rattle.writer.specs.Writes.{headOf, partsOf}
 use Rattle.writer.proofs.Puts.{put-length}
-use Rattle.writer.proofs.Parts.{not-put, is-put, put-behind, parts-length}
+use Rattle.writer.proofs.Parts.{not-put, is-ended, put-behind, parts-length}
 use borrow.Author.Needs.{needs}
 use Rattle.writer.proofs.put_parts.Statement.{statement}
 use Rattle.writer.proofs.put_parts.Tie as tie
@@ -122,7 +122,7 @@ same-length c =
 returns-3 : tie.Need-returns-3
 returns-3 c =
     let q = (c .before .before) in
-    is-put (partsOf (c .before .before .before .before .before .before .before .before .before .before .before .before .before .args .answer) (c .before .before .before .before .before .before .before .before .before .before .before .before .before .args .row .now)) (c .before .before .before .before .before .before .before .before .before .before .before .before .before .args .area .now) _ _ (fits-whole (c .before .before .before .before .before .before)) (put-behind (c .before .before .before .before .before .before .before .before .before .before .before .before .before .args .area .now) _ _ (c .before .before .put-row .result) (front q) (lineFeed ∷ []) (row-put q) (row-end q) refl) (sym (whole-length q))
+    is-ended (front q) (c .before .before .before .before .before .before .before .before .before .before .before .before .before .args .area .now) _ _ (row-put q) (row-end q) (omega (arith, whole-length q, fits-whole (c .before .before .before .before .before .before)))
 
 pub put-parts-spec : {M : Type 1} → statement M
 put-parts-spec =
