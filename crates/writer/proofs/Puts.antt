@@ -52,16 +52,16 @@ module _ (n at : ℕ) (area₀ area : List ℕ) (m i : ℕ) (r : Writing n at ar
   pub writing-above : at < i
   writing-above = let l = length-some m in omega (arith, r .2)
 
-  pub writing-next : 10 ≤ m → Writing n at area₀ (set area (i - 1) (48 + m % 10)) (m / 10) (i - 1)
-  writing-next h =
+  pub writing-next : 10 ≤ m → (b : ℕ) → b ≡ 48 + m % 10 → Writing n at area₀ (set area (i - 1) b) (m / 10) (i - 1)
+  writing-next h b d =
       let l = length-more m h in
       let ds = digits (m / 10) in
       let e : i - 1 ≡ at + length ds = omega (arith, r .2) in
-      let s = length-set area (i - 1) (48 + m % 10) in (
+      let s = length-set area (i - 1) b in (
         omega (arith, r .0),
         s ∙ r .1,
         e,
-        r .3 ∙ ap (sets area at) (digits-more m h) ∙ sym (sets-back area at ds (i - 1) ((48 + m % 10) ∷ []) e),
+        r .3 ∙ ap (sets area at) (digits-more m h ∙ ap (λ x. ds ++ (x ∷ [])) (sym d)) ∙ sym (sets-back area at ds (i - 1) (b ∷ []) e),
       )
 
   pub writing-last : m < 10 → (set area (i - 1) (48 + m) ≡ sets area₀ (i - 1) (digits n)) × (i - 1 ≡ at)

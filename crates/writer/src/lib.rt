@@ -49,6 +49,7 @@ fn width(n: u32) -> usize
 }
 
 // The digits of n up to a place, written from the last to the first; the place where they begin.
+// A digit is what the quotient leaves, which compiles to less than `m % 10`.
 fn put_back(n: u32, end: usize, area: &mut [u8]) -> usize
     requires { ⌜ (length (digits n) ≤ end) × (end ≤ length (now area)) ⌝ }
     ensures { λ r. ⌜ (now (area .exit) ≡ sets (now (area .entry)) r (digits n)) × (r ≡ end - length (digits n)) ⌝ }
@@ -57,8 +58,9 @@ fn put_back(n: u32, end: usize, area: &mut [u8]) -> usize
     let mut i = end;
     while 10 <= m {
         i -= 1;
-        area[i] = (48 + m % 10) as u8;
-        m = m / 10;
+        let q = m / 10;
+        area[i] = (48 + (m - q * 10)) as u8;
+        m = q;
     }
     i -= 1;
     area[i] = (48 + m) as u8;
