@@ -1,4 +1,4 @@
--- How a run goes on from line to line: the invariant of its loop, and its end. Assumes nothing.
+-- How a run goes on from line to line, its end, and the invariant of its loop. Assumes nothing.
 use Prim.Native.Nat.{ℕ, _+_, _-_, _<_, _≤_, min}
 use native.Mathlib.Omega.{arith}
 use mathlib.Core.Path.{_≡_, refl, sym, ap, _∙_}
@@ -23,7 +23,7 @@ use Rattle.tally.specs.Tallies.{Counted}
 use Rattle.protocol.proofs.Laws.{cases}
 use Rattle.progress.specs.Progress.{Ran, behindRan, ran, Advanced, lastOf, Sound}
 
--- the loop's invariant: the answers written so far, and what is still to come of the whole run
+-- a run that goes on: the answers written so far, and what is still to come of the whole run
 pub record Going (reserve : ℕ) (sheet : List ℕ) (from : ℕ) (lent : List ℕ) (start : State) (area : List ℕ) (p : State) (t : Tallies) (at i : ℕ) : Type 0 where
   pub sized : Sized p
   pub long : length (t .unsent) ≡ 8
