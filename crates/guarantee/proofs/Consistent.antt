@@ -2,34 +2,25 @@
 use Prim.Native.Nat.{ℕ, suc, _+_, _<_, _≤_}
 use mathlib.Core.Path.{_≡_, refl, sym, ap, _∙_}
 use mathlib.Core.Logic.{_⊎_, inl, inr, _≢_}
-use mathlib.Core.Bool.{Bool, true, false, not, cond, _&&_, _||_}
-use mathlib.Core.List.{List, [], _∷_, map}
+use mathlib.Core.Bool.{Bool, true, false, not, _&&_, _||_}
+use mathlib.Core.List.{List, [], _∷_}
 use native.Mathlib.Omega.{arith}
-use borrow.Author.Tests.{eq-eqb, ne-eqb, eqb-true, eqb-false}
+use borrow.Author.Tests.{eq-eqb, eqb-true, eqb-false}
 use lib.ListN.{length, length-map}
-use lib.Dec.{T, T-not, not-T, eqb, eqb→eq, lt→ltb}
+use lib.Dec.{T, T-not, not-T, eqb, eqb→eq}
 use lib.IntN.{ℤ, pos, negsuc}
-use Rattle.protocol.specs.Lists.{bit, none, oneTo, natural, tally, count, all, snoc, nth, modify}
-use Rattle.protocol.specs.Plan.{Edit, unsent, fateNumber, isUnsent, isWaiting, isOpen, isSettled, Kept, Side, Mode, blank, whole, split, joining, closing, is, active, Content, made, absentSide, sideAt, lookup, unsentOf, pending, sidesThat}
-use Rattle.protocol.specs.Calls.{Call, measure, rule, open-plan, split-side, edit, join, send, replay, stop, confirm, install, show, fate-of, left, apart, checks, further, no25, editOf, ruleOf, changeOf, withNext, withDraft, withSides, withKept, reset, onValues, hasArrived, hasConfirmed, sent, replayable, outcome, settled, update, nextPlace, after, gives}
+use Rattle.protocol.specs.Lists.{bit, none, oneTo, natural, count, all, snoc, nth, modify}
+use Rattle.protocol.specs.Plan.{Edit, fateNumber, isUnsent, isWaiting, isOpen, isSettled, Kept, Side, Mode, blank, whole, split, joining, closing, is, active, Content, made, absentSide, sideAt, lookup, unsentOf, pending, sidesThat}
+use Rattle.protocol.specs.Calls.{Call, measure, rule, open-plan, split-side, edit, join, send, replay, stop, confirm, install, show, fate-of, left, apart, checks, further, no25, editOf, ruleOf, changeOf, reset, onValues, hasArrived, hasConfirmed, sent, replayable, outcome, nextPlace, after, gives}
 use Rattle.protocol.specs.History.{Entry, edited, History, lastSent, closed, budget, times, replayed, EachHolds, entered}
 use Rattle.guarantee.specs.Guarantee.{InOrder}
-use Rattle.protocol.proofs.Laws.{on, decide, cases, yes-is, is-yes, is-no, both, and-in, which, or-right, or-left, not-not, range, in-range, same-no, Pass, tally-same, tally-less, tally-zero, tally-full, count-map, count-snoc, length-snoc, length-modify, nth-same, nth-other, nth-map, nth-field, all-snoc}
-use Rattle.guarantee.proofs.Kept.{editsOf, editsIn, edits-snoc, edits-sent, edits-settle, edit-found, count-settle, settle-part, lookup-same, lookup-other, lookup-number, lookup-new, lookup-old, lookup-sent, open-sent, unsent-sent, unsent-other, waiting-open, waiting-sent, Within, within-snoc, within-lookup, Rising, rising-le, rising-snoc, bounds, Named, named-sent, named-settle, named-snoc, Reported, reported-snoc, reported-sent, reported-settle, fresh-open, settled-count}
+use Rattle.protocol.proofs.Laws.{on, decide, cases, yes-is, is-yes, is-no, both, and-in, which, or-right, or-left, not-not, range, in-range, same-no, Pass, tally-zero, count-map, count-snoc, length-snoc, length-modify, nth-same, nth-other, all-snoc}
+use Rattle.guarantee.proofs.Kept.{editsOf, editsIn, edits-snoc, edits-sent, edits-settle, edit-found, settle-part, lookup-same, lookup-other, lookup-number, lookup-new, lookup-old, lookup-sent, open-sent, unsent-sent, unsent-other, Within, within-snoc, within-lookup, Rising, rising-le, rising-snoc, bounds, Named, named-sent, named-settle, named-snoc, Reported, reported-snoc, reported-sent, reported-settle, fresh-open, settled-count}
+use Rattle.guarantee.proofs.Left.{unarrived, unconfirmed, sum, sendTo, pending-sent, pending-others, send-sum, settled-shut, unsent-settled, settled-settled, replayTo, replay-sum, stop-sum, confirmTo, arrived-confirmed, confirm-sum, newKept, editTo, pending-edited, arrived-edited, confirmed-edited, pending-not-edited, edit-sum, joinTo, side-joined, join-sum}
 use Rattle.guarantee.specs.Holding.{Holding}
 use Rattle.guarantee.proofs.Holding.{only, plan, replayable-holds}
 
 -- ---- the invariant
-
-abbrev pub unarrived : Content → ℕ → Bool
-unarrived d s = not (sideAt d s .arrived)
-
-abbrev pub unconfirmed : Content → ℕ → Bool
-unconfirmed d s = not (sideAt d s .confirmed)
-
--- the number left over n sides
-abbrev pub sum : Mode → Content → ℕ → ℕ
-sum m d n = tally (pending d) n + count isOpen (d .kept) + tally (unconfirmed d) n + bit (is joining m) + 1
 
 -- a joining plan has no side confirmed; in a closing one all logs have arrived, and a side that confirmed has nothing unsent
 abbrev pub SideOk : Mode → Side → ℕ → Type 0
@@ -89,29 +80,16 @@ Consistent m d h = record {
 
 -- ---- send
 
-module _ (d : Content) (s : ℕ) where
-  abbrev sendTo : Content
-  sendTo = withSides (modify s hasArrived) (withKept (map (sent s)) d)
-
-  pending-sent : 0 < s → s ≤ length (d .sides) → pending sendTo s ≡ false
-  pending-sent p q = rw (nth-same absentSide hasArrived s (d .sides) p q, unsent-sent s (d .kept))
-
-  pending-others : (x : ℕ) → x ≢ s → pending sendTo x ≡ pending d x
-  pending-others x h = rw (nth-other absentSide hasArrived s (d .sides) x h, unsent-other s x (d .kept) h)
-
-  confirmed-sent : (x : ℕ) → unconfirmed sendTo x ≡ unconfirmed d x
-  confirmed-sent x = ap not (nth-field (λ y. y .confirmed) absentSide hasArrived s (d .sides) x (λ y. refl))
-
-  -- what is unsent after the send is another side's, and was unsent before
-  logged-sent : 0 < s → Logged d → Logged sendTo
-  logged-sent p l n =
-      let k = lookup n (d .kept) in
-      let mine = isUnsent k && eqb (k .edit .side) s in
-      rw (lookup-sent s n (d .kept) p) (cases mine
-      (λ t. rw t (λ u. absurd u))
-      (λ t. rw t (λ u r.
-      let other : k .edit .side ≢ s = λ e. T-not mine (is-no t) (and-in (isUnsent k) (eqb (k .edit .side) s) u (is-yes (eq-eqb (k .edit .side) s e))) in
-      rw (nth-other absentSide hasArrived s (d .sides) (k .edit .side) other) (l n u r))))
+-- what is unsent after the send is another side's, and was unsent before
+logged-sent : (d : Content) (s : ℕ) → 0 < s → Logged d → Logged (sendTo d s)
+logged-sent d s p l n =
+    let k = lookup n (d .kept) in
+    let mine = isUnsent k && eqb (k .edit .side) s in
+    rw (lookup-sent s n (d .kept) p) (cases mine
+    (λ t. rw t (λ u. absurd u))
+    (λ t. rw t (λ u r.
+    let other : k .edit .side ≢ s = λ e. T-not mine (is-no t) (and-in (isUnsent k) (eqb (k .edit .side) s) u (is-yes (eq-eqb (k .edit .side) s e))) in
+    rw (nth-other absentSide hasArrived s (d .sides) (k .edit .side) other) (l n u r))))
 
 sent-ok : (m : Mode) (x : Side) (u : ℕ) → SideOk m x u → SideOk m (hasArrived x) 0
 sent-ok blank x u h = h
@@ -127,9 +105,7 @@ module _ (m : Mode) (d : Content) (h : History) (t : Parted d h) (a : Active m d
       let s = natural z in
       let i = range (length (d .sides)) s has in
       let gone = pending-sent d s (i .0) (i .1) in
-      let less = tally-less (pending d) (pending (sendTo d s)) (h .sides) s (i .0) (omega (arith, t .sides)) owes (is-no gone) (λ x k. sym (pending-others d s x k)) in
-      let counted = count-map isOpen (sent s) (d .kept) (open-sent s) in
-      let same = tally-same (unconfirmed (sendTo d s)) (unconfirmed d) (h .sides) (λ x p q. confirmed-sent d s x) in (
+      let fall = rw (t .sides) at (send-sum d s m has owes) in (
         record {
           ground = t .ground;
           kept = edits-sent s (d .kept) ∙ t .kept;
@@ -156,16 +132,6 @@ module _ (m : Mode) (d : Content) (h : History) (t : Parted d h) (a : Active m d
 outcome-number : (b : Bool) → eqb (fateNumber (outcome b)) 3 ≡ b
 outcome-number true = refl
 outcome-number false = refl
-
-settled-shut : (b : Bool) (place : ℕ) (k : Kept) → (isOpen (settled b place k) ≡ false) × (isUnsent (settled b place k) ≡ false)
-settled-shut true place k = (refl, refl)
-settled-shut false place k = (refl, refl)
-
-abbrev replayTo : Content → ℕ → Content
-replayTo d n =
-    let e = lookup n (d .kept) .edit in
-    withDraft (cond (replayable d n) (made (e .measure) (e .change) (d .draft)) (d .draft))
-    (withKept (update n (settled (replayable d n) (nextPlace (d .kept)))) d)
 
 -- an edit that waits while all logs have arrived names 0 or a settled edit
 earlier-settled : (m : Mode) (d : Content) (h : History) → Parted d h → Active m d h → Reported (d .kept) (h .settlings) → (n : ℕ) → sidesThat (unarrived d) d ≡ 0 → T (not (isWaiting (lookup (lookup n (d .kept) .edit .earlier) (d .kept))))
@@ -198,18 +164,11 @@ module _ (m : Mode) (d : Content) (h : History) (t : Parted d h) (a : Active m d
       let n = natural z in
       let w = replayable d n in
       let place = nextPlace (d .kept) in
-      let old = lookup n (d .kept) in
-      let shut = settled-shut w place old in
-      let opened = yes-is (isOpen old) (waiting-open old waits) in
-      let counted = rw (opened, shut .0) at (count-settle n w place isOpen (d .kept) waits) in
-      let places = rw (opened, shut .0) at (count-settle n w place isSettled (d .kept) waits) in
-      let unsents : (x : ℕ) → unsentOf x (update n (settled w place) (d .kept)) ≡ unsentOf x (d .kept) = λ x.
-      let e = rw (shut .1, waiting-sent (old .fate) waits) at (count-settle n w place (λ k. isUnsent k && eqb (k .edit .side) x) (d .kept) waits) in
-      omega arith
-      in
+      let unsents = unsent-settled n w place (d .kept) waits in
+      let fall = replay-sum d n m waits (h .sides) in
+      let places = settled-settled n w place (d .kept) waits in
       let ow = outcome-number w in
-      let found = edit-found (d .kept) (h .kept) (t .kept) n in
-      let same = tally-same (pending (replayTo d n)) (pending d) (h .sides) (λ x p q. rw (unsents x)) in (
+      let found = edit-found (d .kept) (h .kept) (t .kept) n in (
         record {
           ground = t .ground;
           kept = edits-settle n w place (d .kept) ∙ t .kept;
@@ -251,27 +210,23 @@ module _ (d : Content) (h : History) (t : Parted d h) where
   pub stop-active : Active joining d h → (xs : List ℤ) → sidesThat (unarrived d) d ≡ 0 → Active closing d (entered stop xs h)
   unfolding entered
   stop-active a xs z = record {
-    left = omega (arith, a .left);
+    left = let fall = stop-sum d (h .sides) in omega (arith, a .left);
     late = a .late;
     sides = λ x p q. (not-not (sideAt d x .arrived) (tally-zero (unarrived d) (length (d .sides)) x z p (omega (arith, t .sides))), or-left (not (sideAt d x .confirmed)) _ (a .sides x p q));
     logged = a .logged;
     progress = a .progress;
   }
 
-  abbrev confirmTo : ℕ → Content
-  confirmTo s = withSides (modify s hasConfirmed) d
-
   pub confirm-active : Active closing d h → (z : ℤ) (xs : List ℤ) → T (oneTo (length (d .sides)) (natural z)) → T (unconfirmed d (natural z)) → T (none (unsentOf (natural z) (d .kept)))
-      → Parted (confirmTo (natural z)) (entered (confirm z) xs h) × Active closing (confirmTo (natural z)) (entered (confirm z) xs h)
+      → Parted (confirmTo d (natural z)) (entered (confirm z) xs h) × Active closing (confirmTo d (natural z)) (entered (confirm z) xs h)
   unfolding entered
   confirm-active a z xs has not-yet sent-all =
       let s = natural z in
       let i = range (length (d .sides)) s has in
       let at = nth-same absentSide hasConfirmed s (d .sides) (i .0) (i .1) in
-      let off : (x : ℕ) → x ≢ s → sideAt (confirmTo s) x ≡ sideAt d x = λ x k. nth-other absentSide hasConfirmed s (d .sides) x k in
-      let logs : (x : ℕ) → sideAt (confirmTo s) x .arrived ≡ sideAt d x .arrived = λ x. nth-field (λ y. y .arrived) absentSide hasConfirmed s (d .sides) x (λ y. refl) in
-      let less = tally-less (unconfirmed d) (unconfirmed (confirmTo s)) (h .sides) s (i .0) (omega (arith, t .sides)) not-yet (rw at tt) (λ x k. rw (off x k)) in
-      let same = tally-same (pending (confirmTo s)) (pending d) (h .sides) (λ x p q. rw (logs x)) in (
+      let off : (x : ℕ) → x ≢ s → sideAt (confirmTo d s) x ≡ sideAt d x = λ x k. nth-other absentSide hasConfirmed s (d .sides) x k in
+      let logs = arrived-confirmed d s in
+      let fall = rw (t .sides) at (confirm-sum d closing s has not-yet) in (
         record {
           ground = t .ground;
           kept = t .kept;
@@ -290,12 +245,6 @@ module _ (d : Content) (h : History) (t : Parted d h) where
       )
 
 -- ---- an edit, in a plan that is split or joining
-
-abbrev newKept : Edit → Bool → Kept
-newKept e r = record { edit = e; fate = unsent; replied = r; place = 0 }
-
-abbrev editTo : Content → Edit → Bool → Content
-editTo d e r = withNext (suc (d .next)) (withSides (modify (e .side) (onValues (made (e .measure) (e .change)))) (withKept (λ ks. snoc ks (newKept e r)) d))
 
 abbrev editEntered : History → Edit → Bool → History
 editEntered h e l = record {
@@ -342,25 +291,6 @@ module _ (d : Content) (h : History) (e : Edit) (r : Bool) (f : Fitting d e) (t 
         sides = length-modify (e .side) (onValues (made (e .measure) (e .change))) (d .sides) ∙ t .sides;
       }
 
-  more : (x : ℕ) → unsentOf x (editTo d e r .kept) ≡ unsentOf x (d .kept) + bit (eqb (e .side) x)
-  more x = count-snoc (λ k. isUnsent k && eqb (k .edit .side) x) (d .kept) (newKept e r)
-
-  pending-edited : T (pending (editTo d e r) (e .side))
-  pending-edited =
-      let i = ap bit (eq-eqb (e .side) (e .side) refl) in
-      let n = more (e .side) in
-      let k : 0 < unsentOf (e .side) (editTo d e r .kept) = omega arith in
-      or-right (not (sideAt (editTo d e r) (e .side) .arrived)) _ (lt→ltb 0 _ k)
-
-  arrived-edited : (x : ℕ) → sideAt (editTo d e r) x .arrived ≡ sideAt d x .arrived
-  arrived-edited x = nth-field (λ y. y .arrived) absentSide (onValues (made (e .measure) (e .change))) (e .side) (d .sides) x (λ y. refl)
-
-  pending-not-edited : (x : ℕ) → x ≢ e .side → pending (editTo d e r) x ≡ pending d x
-  pending-not-edited x k =
-      let i = ap bit (ne-eqb (e .side) x (λ j. k (sym j))) in
-      let n : unsentOf x (editTo d e r .kept) ≡ unsentOf x (d .kept) = let n = more x in omega arith in
-      rw (n, arrived-edited x)
-
 -- an edit made while joining has no reply before it is sent
 module _ (d : Content) (h : History) (e : Edit) (f : Fitting d e) (t : Parted d h) where
   logged-edit : Logged d → Logged (editTo d e false)
@@ -369,28 +299,20 @@ module _ (d : Content) (h : History) (e : Edit) (f : Fitting d e) (t : Parted d 
       (λ i. absurd (rw (eqb→eq n (e .number) i, lookup-new 1 (d .kept) (newKept e false) (rw (t .kept, f .number) (t .ground .rising))) at r))
       (λ i.
       let old = lookup-old n (d .kept) (newKept e false) (same-no n (e .number) i) in
-      rw (old, arrived-edited d h e false f t (lookup n (d .kept) .edit .side)) (l n (rw old at u) (rw old at r)))
+      rw (old, arrived-edited d e false (lookup n (d .kept) .edit .side)) (l n (rw old at u) (rw old at r)))
 
   pub edit-active : Active joining d h → Active joining (editTo d e false) (editEntered h e (lastSent (e .side) (h .moves)))
   edit-active a =
       let s = e .side in
-      let i = range (length (d .sides)) s (f .side) in
       let d′ = editTo d e false in
       let late = lastSent s (h .moves) in
-      let owes = pending-edited d h e false f t in
-      let others = pending-not-edited d h e false f t in
-      let seen : (x : ℕ) → sideAt d′ x .confirmed ≡ sideAt d x .confirmed = λ x. nth-field (λ y. y .confirmed) absentSide (onValues (made (e .measure) (e .change))) s (d .sides) x (λ y. refl) in
-      let counted = count-snoc isOpen (d .kept) (newKept e false) in
+      let owes = pending-edited d e false in
+      let others = pending-not-edited d e false in
+      let seen = confirmed-edited d e false in
+      let rise = rw (t .sides) at (edit-sum d e false joining (f .side)) in
       let longer = length-snoc (h .kept) (record { edit = e; late = late }) in
       let lates = count-snoc (λ x. x .late) (h .kept) (record { edit = e; late = late }) in
-      let same = tally-same (unconfirmed d′) (unconfirmed d) (h .sides) (λ x p q. rw (seen x)) in
       let twice = ap bit (a .late s) in
-      let owing : tally (pending d′) (h .sides) ≡ bit (not (pending d s)) + tally (pending d) (h .sides) = cases (pending d s)
-      (λ o.
-      let k = tally-same (pending d′) (pending d) (h .sides) (λ x p q. cases (eqb x s) (λ j. rw (eqb-true x s j) (yes-is _ owes ∙ sym o)) (λ j. others x (eqb-false x s j))) in
-      rw o (omega arith))
-      (λ o. let k = tally-less (pending d′) (pending d) (h .sides) s (i .0) (omega (arith, t .sides)) owes (is-no o) others in rw o (omega arith))
-      in
       record {
         left = omega (arith, a .left);
         late = λ x. cases (eqb x s) (λ j. rw (j, eqb-true x s j, yes-is (pending d′ s) owes)) (λ j. rw (j, others x (eqb-false x s j)) (a .late x));
@@ -405,15 +327,11 @@ module _ (d : Content) (h : History) (e : Edit) (f : Fitting d e) (t : Parted d 
 
 -- ---- join
 
-abbrev joinTo : Content → Content
-joinTo d = withDraft (d .base) (withSides (map reset) d)
-
 pub join-active : (d : Content) (h : History) (xs : List ℤ) → Parted d h → T (all isUnsent (d .kept)) → h .settlings ≡ [] → count (λ e. e .late) (h .kept) ≡ 0 → Parted (joinTo d) (entered join xs h) × Active joining (joinTo d) (entered join xs h)
 unfolding entered
 join-active d h xs t f z early =
-    let side : (x : ℕ) → sideAt (joinTo d) x ≡ reset (sideAt d x) = λ x. nth-map absentSide reset (d .sides) x refl in
-    let all-owe = tally-full (pending (joinTo d)) (h .sides) (λ x. rw (side x) tt) in
-    let none-agrees = tally-full (unconfirmed (joinTo d)) (h .sides) (λ x. rw (side x) tt) in
+    let side = side-joined d in
+    let begun = join-sum d (h .sides) in
     let counted = fresh-open (d .kept) f in
     let shut = settled-count (d .kept) in
     let long = sym (length-map (d .kept) (λ k. k .edit)) ∙ ap length (t .kept) ∙ length-map (h .kept) (λ e. e .edit) in (

@@ -16,9 +16,10 @@ use Rattle.guarantee.specs.Runs.{closes, edits, reads, isOk, accepts, fo
 use Rattle.guarantee.specs.Guarantee.{Able, Stuck, Underway, Completed, Installed, Guarantee, ForEveryList, ForEveryTrace}
 use Rattle.protocol.proofs.Laws.{on, decide, cases, yes-is, no-is, is-yes, is-no, both, which, or-right, neither, none-yes, range, in-range, Fine, Pass, passed, pass, tally-zero, tally-some, tally-none, count-snoc, length-snoc, all-nth}
 use Rattle.guarantee.proofs.Kept.{none-open, open-count, settled-count, none-unsent, first-waiting, fate-found, verdict, Reported}
+use Rattle.guarantee.proofs.Left.{unarrived, unconfirmed, sum}
 use Rattle.guarantee.specs.Holding.{Holding}
 use Rattle.guarantee.proofs.Holding.{only, plan, stepped, holding-after, holding-start}
-use Rattle.guarantee.proofs.Consistent.{Consistent, Parted, Active, sum, unarrived, unconfirmed, out, consistent-after}
+use Rattle.guarantee.proofs.Consistent.{Consistent, Parted, Active, out, consistent-after}
 
 -- ---- the closing moves
 
