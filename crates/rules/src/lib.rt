@@ -7,7 +7,7 @@ ghost use lib.Signed.{ltZ};
 ghost use Rattle.protocol.specs.Plan.{value};
 ghost use Rattle.change.specs.Change.{viewChange};
 ghost use Rattle.rows.specs.Rows.{row};
-ghost use Rattle.rules.specs.Rules.{withValue, countedAs, pairHolds, listedAs, linkAt, Linked, LinkedIf, testedIn, firmIn, namesPair, trialOf};
+ghost use Rattle.rules.specs.Rules.{withValue, countedAs, pairHolds, namedPair, listedAs, linkAt, Linked, walkedIn, testedBy, firmIn, namesPair, trialOf};
 use change::Applied;
 use change::Change;
 
@@ -115,9 +115,9 @@ fn onward(links: &Links, i: usize, a: u32, m: u32) -> usize
 // ---- the rules on a row
 
 // Whether a rule that names measure m holds on the row of n values that begins at a place, where m counts as y. It is not looked up again,
-// as nearly all tests are made here.
+// as nearly all tests are made here. A rule that does not name m is taken to have it for its upper measure.
 fn named_holds(values: &[i32], at: usize, n: usize, m: u32, y: i32, a: u32, g: i32, b: u32) -> bool
-    ensures { λ t. ⌜ (namesPair a b m ≡ true → t ≡ pairHolds (countedAs m y (value (row (now (values .entry)) at n))) a g b) ⌝ }
+    ensures { λ t. ⌜ t ≡ namedPair (countedAs m y (value (row (now (values .entry)) at n))) m a g b ⌝ }
 {
     if a == m {
         if b == m {
@@ -128,8 +128,8 @@ fn named_holds(values: &[i32], at: usize, n: usize, m: u32, y: i32, a: u32, g: i
     less_by(value_at(values, at, n, a), g, y)
 }
 
-// Whether each rule that names measure m holds, where m counts as x: a walk along the links. Links that lead back are not those of the
-// rules, and end it.
+// Whether each rule that names measure m holds, where m counts as x: a walk along the links. A link that does not lead on is not one of the
+// rules' own; it ends the walk, and the answer is false.
 fn linked_hold<'a>(
     lower: &'a [u32; 64],
     gap: &'a [i32; 64],
@@ -143,7 +143,7 @@ fn linked_hold<'a>(
     x: i32,
 ) -> bool
     requires { ⌜ (end ≤ 64) × (0 < m) × (m ≤ 32) ⌝ }
-    ensures { λ t. ⌜ (Linked (now (links .entry)) (now (lower .entry)) (now (upper .entry)) 0 end → t ≡ testedIn true m (now (lower .entry)) (now (gap .entry)) (now (upper .entry)) end (withValue m x (row (now (values .entry)) at n))) ⌝ }
+    ensures { λ t. ⌜ t ≡ walkedIn (now (links .entry)) m (now (lower .entry)) (now (gap .entry)) (now (upper .entry)) end (withValue m x (row (now (values .entry)) at n)) ⌝ }
 {
     let y = value_with(values, at, n, m, x, m);
     let first = m as usize;
@@ -201,8 +201,8 @@ fn stands(
 }
 
 // Whether each of the first k rules that need a test holds on the row of at most 32 values that begins at a place, where measure m
-// counts as x. The caller that knows that all held before says so (`sound`) and lends the rules' links; with others the walk ends too, and
-// tells nothing.
+// counts as x. The caller that knows that all held before says so (`sound`) and lends links: then those along them are tested, which with the
+// rules' own (`Linked`) are the ones that name m.
 pub fn rules_hold<'a>(
     lower: &'a [u32; 64],
     gap: &'a [i32; 64],
@@ -216,7 +216,7 @@ pub fn rules_hold<'a>(
     x: i32,
     sound: bool,
 ) -> bool
-    ensures { λ t. ⌜ (LinkedIf sound (now (links .entry)) (now (lower .entry)) (now (upper .entry)) (min k 64) → t ≡ testedIn sound m (now (lower .entry)) (now (gap .entry)) (now (upper .entry)) (min k 64) (withValue m x (row (now (values .entry)) at (min n 32)))) ⌝ }
+    ensures { λ t. ⌜ t ≡ testedBy sound (now (links .entry)) m (now (lower .entry)) (now (gap .entry)) (now (upper .entry)) (min k 64) (withValue m x (row (now (values .entry)) at (min n 32))) ⌝ }
 {
     let end = rows::capped(k, 64);
     let size = rows::capped(n, 32);
@@ -290,7 +290,7 @@ pub fn try_change<'a>(
     change: Change,
     sound: bool,
 ) -> Trial
-    ensures { λ r. ⌜ (LinkedIf sound (now (links .entry)) (now (lower .entry)) (now (upper .entry)) (min k 64) → r ≡ trialOf (testedIn sound m (now (lower .entry)) (now (gap .entry)) (now (upper .entry)) (min k 64)) m (viewChange change) (row (now (values .entry)) at (min n 32))) ⌝ }
+    ensures { λ r. ⌜ r ≡ trialOf (testedBy sound (now (links .entry)) m (now (lower .entry)) (now (gap .entry)) (now (upper .entry)) (min k 64)) m (viewChange change) (row (now (values .entry)) at (min n 32)) ⌝ }
 {
     let made = change::apply(change, value_at(values, at, rows::capped(n, 32), m));
     let Applied::InRange(x) = made else {

@@ -1,7 +1,6 @@
 use borrow.Author.Needs.{needs}
 use native.Mathlib.Omega.{arith}
 use Prim.Native.Nat.{ℕ, _+_, _-_}
-use mathlib.Core.Bool.{true, not, _||_}
 use mathlib.Core.List.{List}
 use mathlib.Core.Path.{_≡_, sym, ap, ap₂, subst, _∙_}
 use lib.IntN.{ℤ, pos}
@@ -13,9 +12,8 @@ use borrow.Author.Tests.{not-true, not-false}
 use Rattle.exact.proofs.Ints.{fits32}
 use Rattle.protocol.specs.Plan.{value}
 use Rattle.rows.specs.Rows.{row}
-use Rattle.rows.proofs.Spans.{walk-begin, all-next, all-stop, all-over}
-use Rattle.rules.specs.Rules.{withValue, countedAs, pairHolds, holdsAt, namesAt, testedIn, Due, Linked}
-use Rattle.rules.proofs.Links.{Reached, reach, link-due}
+use Rattle.rules.specs.Rules.{withValue, countedAs, linkAt, namedPair, namedAt, walkedIn}
+use Rattle.rules.proofs.Links.{Walking, walking-begin, walking-over, walking-stop, walking-back, walking-next}
 use Rattle.rules.proofs.Rows.{counted-with, pair-same}
 use Rattle.rules.proofs.linked_hold.Statement.{statement}
 use Rattle.rules.proofs.linked_hold.Tie as tie
@@ -28,18 +26,18 @@ use Rattle.rules.proofs.wide.Reads as wide-reads
 
 abbrev Inv-loop : tie.InvT-loop
 Inv-loop lower gap upper end links values at n m x y first i₀ i =
-    Linked links lower upper 0 end → Reached m lower upper (holdsAt lower gap upper (value (withValue m (toZ w32 x) (row values at n)))) end i
+    Walking (namedAt lower gap upper (value (withValue m (toZ w32 x) (row values at n))) m) (λ j. linkAt links j (getD lower j 0) m) end (getD links (128 + m) 0) i
 
 abbrev μ-loop : tie.MeasureT-loop
 μ-loop lower gap upper end links values at n m x y first i₀ i = end - i
 
 -- the row that is tested is the one given
 exactly : (s : tie.Start Inv-loop μ-loop) → let a = s .args in
-    testedIn true (a .m) (a .lower .now) (a .gap .now) (a .upper .now) (a .end) (withValue (a .m) (toZ w32 (ofZ w32 (a .x))) (row (a .values .now) (a .at) (a .n)))
-    ≡ testedIn true (a .m) (a .lower .now) (a .gap .now) (a .upper .now) (a .end) (withValue (a .m) (a .x) (row (a .values .now) (a .at) (a .n)))
-exactly s = let a = s .args in ap (λ y. testedIn true (a .m) (a .lower .now) (a .gap .now) (a .upper .now) (a .end) (withValue (a .m) y (row (a .values .now) (a .at) (a .n)))) (toZ-ofZ (s .fits .x))
+    walkedIn (a .links .now) (a .m) (a .lower .now) (a .gap .now) (a .upper .now) (a .end) (withValue (a .m) (toZ w32 (ofZ w32 (a .x))) (row (a .values .now) (a .at) (a .n)))
+    ≡ walkedIn (a .links .now) (a .m) (a .lower .now) (a .gap .now) (a .upper .now) (a .end) (withValue (a .m) (a .x) (row (a .values .now) (a .at) (a .n)))
+exactly s = let a = s .args in ap (λ y. walkedIn (a .links .now) (a .m) (a .lower .now) (a .gap .now) (a .upper .now) (a .end) (withValue (a .m) y (row (a .values .now) (a .at) (a .n)))) (toZ-ofZ (s .fits .x))
 
--- the rule at hand, which names the measure
+-- the rule at hand
 module _ (c : tie.After-named-holds Inv-loop μ-loop) where
   abbrev start : tie.Start Inv-loop μ-loop
   start = c .before .before .before .before .before .before .before .before .before
@@ -50,29 +48,13 @@ module _ (c : tie.After-named-holds Inv-loop μ-loop) where
   abbrev ws : List ℤ
   ws = withValue (start .args .m) (toZ w32 (ofZ w32 (start .args .x))) (row (start .args .values .now) (start .args .at) (start .args .n))
 
-  -- what is asked of the links
-  abbrev Asked : Type 0
-  Asked = Linked (start .args .links .now) (start .args .lower .now) (start .args .upper .now) 0 (start .args .end)
-
-  named : Asked → namesAt (start .args .lower .now) (start .args .upper .now) (start .args .m) at-hand ≡ true
-  named w = c .before .before .before .before .before .loop .inv w .needs (c .before .before .before .before .loop-test .taken)
-
-  tested : Asked → c .named-holds .result ≡ holdsAt (start .args .lower .now) (start .args .gap .now) (start .args .upper .now) (value ws) at-hand
-  tested w =
+  tested : c .named-holds .result ≡ namedAt (start .args .lower .now) (start .args .gap .now) (start .args .upper .now) (value ws) (start .args .m) at-hand
+  tested =
       let y = c .before .before .before .before .before .before .before .before .value-with in
       let vs = row (start .args .values .now) (start .args .at) (start .args .n) in
-      c .named-holds .ensures (named w)
-      ∙ ap₂ (λ y g. pairHolds (countedAs (start .args .m) y (value vs)) (getD (start .args .lower .now) at-hand 0) g (getD (start .args .upper .now) at-hand 0)) (toZ-ofZ (fits32 (y .result) (y .ok)) ∙ y .ensures) (toZ-ofZ (fits32 (getD (start .args .gap .now) at-hand (pos 0)) (c .before .g .given)))
+      c .named-holds .ensures
+      ∙ ap₂ (λ y g. namedPair (countedAs (start .args .m) y (value vs)) (start .args .m) (getD (start .args .lower .now) at-hand 0) g (getD (start .args .upper .now) at-hand 0)) (toZ-ofZ (fits32 (y .result) (y .ok)) ∙ y .ensures) (toZ-ofZ (fits32 (getD (start .args .gap .now) at-hand (pos 0)) (c .before .g .given)))
       ∙ pair-same _ (value ws) _ _ _ (counted-with (start .args .m) (toZ w32 (ofZ w32 (start .args .x))) vs)
-
--- the next one
-onward-due : (c : tie.After-onward Inv-loop μ-loop) → let p = c .before .before in let a = start p .args in
-    Asked p → Due (a .m) (a .lower .now) (a .upper .now) (at-hand p + 1) (a .end) (c .onward .result)
-onward-due c w =
-    let p = c .before .before in
-    let a = start p .args in
-    subst (Due (a .m) (a .lower .now) (a .upper .now) (at-hand p + 1) (a .end)) (sym (c .onward .ensures))
-    (link-due (a .links .now) (a .lower .now) (a .upper .now) (a .end) (a .m) (at-hand p) w (omega arith) (omega arith) (p .before .before .before .before .loop-test .taken) (named p w))
 
 value-with-requires : tie.Need-value-with-requires Inv-loop μ-loop
 value-with-requires c κs = search needs
@@ -90,9 +72,7 @@ wide-requires : tie.Need-wide-requires Inv-loop μ-loop
 wide-requires c κs = search needs
 
 loop-holds : tie.Need-loop-holds Inv-loop μ-loop
-loop-holds c = λ w.
-    let a = (c .before .before .before .args) in
-    reach (a .m) _ _ _ 0 _ _ (rw (← (c .wide .ensures)) at (w .first (a .m) (omega arith) (omega arith))) (walk-begin _ _ _)
+loop-holds c = subst (Walking _ _ _ _) (sym (c .wide .ensures)) (walking-begin _ _ _ _)
 
 mul-a : tie.Need-mul-a Inv-loop μ-loop
 mul-a c = omega arith
@@ -116,29 +96,29 @@ named-holds-requires : tie.Need-named-holds-requires Inv-loop μ-loop
 named-holds-requires c κs = search needs
 
 returns : tie.Need-returns Inv-loop μ-loop
-unfolding testedIn
+unfolding walkedIn
 returns c =
-    λ w.
-    all-stop _ _ _ _ ((c .before .before .before .before .before .before .loop .inv) w .walked) (omega arith) (ap₂ (λ u v. not u || v) (named (c .before) w) (sym (tested (c .before) w) ∙ not-true _ (c .if1 .taken))) ∙ exactly (c .before .before .before .before .before .before .before .before .before .before)
+    walking-stop _ _ _ _ _ (c .before .before .before .before .before .before .loop .inv) (omega arith) (sym (tested (c .before)) ∙ not-true _ (c .if1 .taken)) ∙ exactly (c .before .before .before .before .before .before .before .before .before .before)
 
 onward-requires : tie.Need-onward-requires Inv-loop μ-loop
 onward-requires c κs = search needs
 
 returns-2 : tie.Need-returns-2 Inv-loop μ-loop
-returns-2 c = λ w. let d = onward-due (c .before) w .since in absurd (omega arith)
+unfolding walkedIn
+returns-2 c =
+    walking-back _ _ _ _ _ (c .before .before .before .before .before .before .before .before .loop .inv) (omega arith) (sym (tested (c .before .before .before)) ∙ not-false _ (c .before .before .if1 .left)) (rw (c .before .onward .ensures) at (c .if2 .taken)) ∙ exactly (c .before .before .before .before .before .before .before .before .before .before .before .before)
 
 loop-less : tie.Need-loop-less Inv-loop μ-loop
 loop-less c = omega arith
 
 loop-again : tie.Need-loop-again Inv-loop μ-loop
 loop-again c =
-    λ w. reach _ _ _ _ _ _ _ (onward-due (c .before) w)
-    (all-next _ _ _ _ ((c .before .before .before .before .before .before .before .before .loop .inv) w .walked) (omega arith) (ap₂ (λ u v. not u || v) (named (c .before .before .before) w) (sym (tested (c .before .before .before) w) ∙ not-false _ (c .before .before .if1 .left))))
+    subst (Walking _ _ _ _) (sym (c .before .onward .ensures))
+    (walking-next _ _ _ _ _ (c .before .before .before .before .before .before .before .before .loop .inv) (omega arith) (sym (tested (c .before .before .before)) ∙ not-false _ (c .before .before .if1 .left)) (let u = c .if2 .left in let e = c .before .onward .ensures in omega arith))
 
 returns-3 : tie.Need-returns-3 Inv-loop μ-loop
-unfolding testedIn
-returns-3 c =
-    λ w. all-over _ _ _ _ ((c .before .loop .inv) w .walked) (omega arith) ∙ exactly (c .before .before .before .before .before)
+unfolding walkedIn
+returns-3 c = walking-over _ _ _ _ _ (c .before .loop .inv) (omega arith) ∙ exactly (c .before .before .before .before .before)
 
 pub linked-hold-spec : {M : Type 1} → statement M
 linked-hold-spec =

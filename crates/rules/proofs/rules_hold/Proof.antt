@@ -1,8 +1,8 @@
 use borrow.Author.Needs.{needs}
 use native.Mathlib.Omega.{arith}
 use Prim.Native.Nat.{ℕ, _-_, min}
-use mathlib.Core.Bool.{_||_}
-use mathlib.Core.Path.{_≡_, sym, ap, ap₂, subst, _∙_}
+use mathlib.Core.Bool.{false, _&&_, _||_}
+use mathlib.Core.Path.{_≡_, sym, ap, ap₂, _∙_}
 use lib.IntN.{pos}
 use lib.ListN.{getD}
 use mir.Syntax.{w32}
@@ -10,12 +10,12 @@ use mir.Val.{toZ, ofZ}
 use mir.Facts.{toZ-ofZ}
 use borrow.Author.Tests.{not-true, not-false}
 use Rattle.exact.proofs.Ints.{fits32}
-use Rattle.protocol.specs.Lists.{all}
+use Rattle.protocol.specs.Lists.{oneTo, all}
 use Rattle.protocol.specs.Plan.{value}
-use Rattle.protocol.proofs.Laws.{range, is-yes}
+use Rattle.protocol.proofs.Laws.{range, is-yes, on}
 use Rattle.rows.specs.Rows.{row}
 use Rattle.rows.proofs.Spans.{Walked, walk-begin, all-next, all-stop, all-over}
-use Rattle.rules.specs.Rules.{withValue, pairHolds, holdsAt, sparedAt, testedIn, Linked}
+use Rattle.rules.specs.Rules.{withValue, pairHolds, holdsAt, sparedAt, testedIn, walkedIn, testedBy}
 use Rattle.rules.proofs.rules_hold.Statement.{statement}
 use Rattle.rules.proofs.rules_hold.Tie as tie
 use Rattle.rules.proofs.rules_hold.Reads as reads
@@ -31,6 +31,10 @@ Inv-loop lower gap upper k links values at n m x sound end size i₀ i =
 
 abbrev μ-loop : tie.MeasureT-loop
 μ-loop lower gap upper k links values at n m x sound end size i₀ i = end - i
+
+-- no walk is made
+unwalked : (c : tie.Joined1 Inv-loop μ-loop) → let a = (c .before .before .before .args) in (a .sound && oneTo 32 (a .m)) ≡ false
+unwalked c = on (c .if1 .came) (λ w. rw (w .0 .taken, sym (w .1 .ensures) ∙ w .2 .left)) (λ w. rw (w .left))
 
 -- the row that is tested is the one given
 exactly : (c : tie.After-capped2 Inv-loop μ-loop) → let a = (c .before .before .args) in
@@ -73,14 +77,14 @@ linked-hold-requires c κs =
     let r = range 32 _ (is-yes (sym (c .before .one-to .ensures) ∙ (c .if2 .taken))) in (omega arith, r .0, r .1)
 
 returns : tie.Need-returns Inv-loop μ-loop
+unfolding testedBy
 returns c =
-    λ h.
     let s = (c .before .before .before .before .before .before) in
     let a = s .args in
     let e = (c .before .before .before .before .before .capped .ensures) in
     let n = (c .before .before .before .before .capped2 .ensures) in
-    (c .linked-hold .ensures) (subst (Linked (a .links .now) (a .lower .now) (a .upper .now) 0) (sym e) (h (c .before .before .before .if1 .taken)))
-    ∙ (λ i. testedIn (sym (c .before .before .before .if1 .taken) i) (a .m) (a .lower .now) (a .gap .now) (a .upper .now) (e i) (withValue (a .m) (toZ-ofZ (s .fits .x) i) (row (a .values .now) (a .at) (n i))))
+    rw ((c .before .before .before .if1 .taken), sym (c .before .before .one-to .ensures) ∙ (c .before .if2 .taken))
+    ((c .linked-hold .ensures) ∙ (λ i. walkedIn (a .links .now) (a .m) (a .lower .now) (a .gap .now) (a .upper .now) (e i) (withValue (a .m) (toZ-ofZ (s .fits .x) i) (row (a .values .now) (a .at) (n i)))))
 
 loop-holds : tie.Need-loop-holds Inv-loop μ-loop
 loop-holds c = walk-begin _ _ _
@@ -107,9 +111,10 @@ stands-requires : tie.Need-stands-requires Inv-loop μ-loop
 stands-requires c κs = search needs
 
 returns-2 : tie.Need-returns-2 Inv-loop μ-loop
-unfolding testedIn
+unfolding testedBy testedIn
 returns-2 c =
-    λ h. all-stop _ _ _ _ (c .before .before .before .before .before .before .loop .inv) (omega arith) (sym (tested (c .before)) ∙ not-true _ (c .if3 .taken)) ∙ exactly (c .before .before .before .before .before .before .before .before)
+    rw (unwalked (c .before .before .before .before .before .before .before))
+    (all-stop _ _ _ _ (c .before .before .before .before .before .before .loop .inv) (omega arith) (sym (tested (c .before)) ∙ not-true _ (c .if3 .taken)) ∙ exactly (c .before .before .before .before .before .before .before .before))
 
 add-i : tie.Need-add-i Inv-loop μ-loop
 add-i c = omega arith
@@ -122,8 +127,10 @@ loop-again c =
     all-next _ _ _ _ (c .before .before .before .before .before .before .loop .inv) (omega arith) (sym (tested (c .before)) ∙ not-false _ (c .if3 .left))
 
 returns-3 : tie.Need-returns-3 Inv-loop μ-loop
-unfolding testedIn
-returns-3 c = λ h. all-over _ _ _ _ (c .before .loop .inv) (omega arith) ∙ exactly (c .before .before .before)
+unfolding testedBy testedIn
+returns-3 c =
+    rw (unwalked (c .before .before))
+    (all-over _ _ _ _ (c .before .loop .inv) (omega arith) ∙ exactly (c .before .before .before))
 
 pub rules-hold-spec : {M : Type 1} → statement M
 rules-hold-spec =

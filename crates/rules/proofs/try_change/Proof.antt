@@ -12,7 +12,7 @@ use mathlib.Core.Bool.{Bool, true, cond}
 use mathlib.Core.List.{List}
 use Rattle.rules.specs.declared.Trial.the-variants.{Effective, Broken}
 use Rattle.rows.specs.Rows.{row}
-use Rattle.rules.specs.Rules.{withValue, LinkedIf, testedIn, trialOf}
+use Rattle.rules.specs.Rules.{withValue, testedBy, trialOf}
 use Rattle.rules.proofs.Rows.{trial-parts}
 use borrow.Author.Needs.{needs}
 use Rattle.rules.proofs.try_change.Statement.{statement}
@@ -40,10 +40,6 @@ module _ (c : tie.After-rules-hold) where
   abbrev start : tie.Start
   start = c .before .before .before .before .before .before .before
 
-  -- what is asked of the links
-  abbrev Asked : Type 0
-  Asked = LinkedIf (start .args .sound) (start .args .links .now) (start .args .lower .now) (start .args .upper .now) (min (start .args .k) 64)
-
   abbrev x : ℤ
   x = c .before .before .made .given .0 .0
 
@@ -51,7 +47,7 @@ module _ (c : tie.After-rules-hold) where
   values = row (start .args .values .now) (start .args .at) (min (start .args .n) 32)
 
   abbrev test : List ℤ → Bool
-  test = testedIn (start .args .sound) (start .args .m) (start .args .lower .now) (start .args .gap .now) (start .args .upper .now) (min (start .args .k) 64)
+  test = testedBy (start .args .sound) (start .args .links .now) (start .args .m) (start .args .lower .now) (start .args .gap .now) (start .args .upper .now) (min (start .args .k) 64)
 
   tried : (inRange (result start) ≡ true) × (x ≡ result start)
   tried = ranged-in (result start) x (sym (c .before .before .made .given .1) ∙ gives (c .before .before .before .before))
@@ -59,11 +55,11 @@ module _ (c : tie.After-rules-hold) where
   same : toZ w32 (ofZ w32 x) ≡ result start
   same = toZ-ofZ (fits32 x (c .before .known-told .given .0 .1)) ∙ tried .1
 
-  tested : Asked → c .rules-hold .result ≡ test (withValue (start .args .m) (result start) values)
-  tested h = c .rules-hold .ensures h ∙ ap (λ y. test (withValue (start .args .m) y values)) same
+  tested : c .rules-hold .result ≡ test (withValue (start .args .m) (result start) values)
+  tested = c .rules-hold .ensures ∙ ap (λ y. test (withValue (start .args .m) y values)) same
 
-  parts : Asked → trialOf test (start .args .m) (viewChange (start .args .change)) values ≡ cond (c .rules-hold .result) (Effective (result start)) Broken
-  parts h = trial-parts test (start .args .m) (viewChange (start .args .change)) values ∙ rw (tried .0, ← tested h)
+  parts : trialOf test (start .args .m) (viewChange (start .args .change)) values ≡ cond (c .rules-hold .result) (Effective (result start)) Broken
+  parts = trial-parts test (start .args .m) (viewChange (start .args .change)) values ∙ rw (tried .0, ← tested)
 
 capped-requires : tie.Need-capped-requires
 capped-requires c κs = search needs
@@ -81,7 +77,7 @@ enum-told : tie.Need-enum-told
 enum-told c = search needs
 
 returns : tie.Need-returns
-returns c = λ h.
+returns c =
     let s = (c .before .before .before .before .before) in
     sym (trial-parts _ (s .args .m) (viewChange (s .args .change)) (row (s .args .values .now) (s .args .at) (min (s .args .n) 32)) ∙ rw (ranged-out (result s) (sym ((c .enum-told .given .1)) ∙ gives (c .before .before))))
 
@@ -89,14 +85,14 @@ rules-hold-requires : tie.Need-rules-hold-requires
 rules-hold-requires c κs = search needs
 
 returns-2 : tie.Need-returns-2
-returns-2 c = λ h.
+returns-2 c =
     let p = (c .before) in
-    sym (parts p h ∙ ap (λ b. cond b (Effective (result (start p))) Broken) ((c .if1 .taken)) ∙ ap Effective (sym (same p)))
+    sym (parts p ∙ ap (λ b. cond b (Effective (result (start p))) Broken) ((c .if1 .taken)) ∙ ap Effective (sym (same p)))
 
 returns-3 : tie.Need-returns-3
-returns-3 c = λ h.
+returns-3 c =
     let p = (c .before) in
-    sym (parts p h ∙ ap (λ b. cond b (Effective (result (start p))) Broken) ((c .if1 .left)))
+    sym (parts p ∙ ap (λ b. cond b (Effective (result (start p))) Broken) ((c .if1 .left)))
 
 pub try-change-spec : {M : Type 1} → statement M
 try-change-spec =
