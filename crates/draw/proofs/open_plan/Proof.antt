@@ -8,8 +8,7 @@ use Rattle.protocol.specs.Lists.{none}
 use Rattle.protocol.specs.Plan.{blank, is}
 use Rattle.protocol.specs.Calls.{open-plan, gives}
 use Rattle.rows.specs.Rows.{row}
-use Rattle.rules.specs.Rules.{holdsIn, testedIn}
-use Rattle.rules.proofs.Links.{unlinked}
+use Rattle.rules.specs.Rules.{holdsIn, testedIn, testedBy}
 use Rattle.heads.specs.Heads.{modeOf, measuresIn}
 use Rattle.state.proofs.Meeting.{refused-meets, accepted-meets}
 use Rattle.draw.proofs.Draws.{some-left, no-value, open-checks, open-next}
@@ -31,10 +30,10 @@ drawn c = some-left (c .before .before .before .before .before .args .t1 .head .
 
 -- the test found what the rules are on the row as it stands
 rules-fine : (c : tie.After-rules-hold) → let p = c .before .before .before .before .before .before .before .before .before .before .before .before .before .args .t1 in c .rules-hold .result ≡ holdsIn (p .lower) (p .gap) (p .upper) (min (p .head .rules) 64) (row (p .values) 0 (measuresIn (p .head)))
-unfolding testedIn holdsIn
+unfolding testedBy testedIn holdsIn
 rules-fine c =
     let p = c .before .before .before .before .before .before .before .before .before .before .before .before .before .args .t1 in
-    c .rules-hold .ensures (unlinked _ _ _ _) ∙ ap (testedIn false 0 (p .lower) (p .gap) (p .upper) (min (p .head .rules) 64)) (no-value (pos 0) (row (p .values) 0 (measuresIn (p .head))))
+    c .rules-hold .ensures ∙ ap (testedIn false 0 (p .lower) (p .gap) (p .upper) (min (p .head .rules) 64)) (no-value (pos 0) (row (p .values) 0 (measuresIn (p .head))))
 
 mode-number-requires : tie.Need-mode-number-requires
 mode-number-requires c κs = search needs
