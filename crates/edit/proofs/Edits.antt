@@ -4,7 +4,7 @@ use native.Mathlib.Omega.{arith}
 use mathlib.Core.Bool.{Bool, true, false, not, _&&_, _||_}
 use mathlib.Core.Path.{_≡_, refl, sym, ap, _∙_}
 use mathlib.Core.Logic.{_≢_}
-use mathlib.Core.List.{List, [], _∷_}
+use mathlib.Core.List.{List}
 use lib.IntN.{ℤ, pos}
 use lib.Dec.{T, T-not, leb, nltb→le, eqb→eq}
 use lib.ListN.{length, getD, set}
@@ -13,14 +13,15 @@ use borrow.Author.Tests.{leb-false}
 use Rattle.protocol.specs.Lists.{natural, oneTo, modify, snoc}
 use Rattle.protocol.specs.Plan as model
 use Rattle.protocol.specs.Plan.{is, blank, whole, split, joining, modeNumber, holds, allowed, applied, value, made, unsent, sideAt}
-use Rattle.protocol.specs.Calls.{Call, edit, Check, _unless_, _when_, Verdict, fine, refused, first, apart, no22, no24, no25, no26, no28, no30, checks, further, onValues, after, gives, stepBy, step}
+use Rattle.protocol.specs.Calls.{Call, edit, Check, Verdict, fine, refused, first, apart, checks, further, onValues, after, gives, stepBy, step}
 use Rattle.protocol.proofs.Laws.{cases, yes-is, no-is, is-yes, which, range, Fine, Pass, passed}
 use Rattle.change.specs.declared.Change.{Change}
 use Rattle.change.specs.Change.{madeOf}
 use Rattle.rows.specs.Rows.{span, row}
 use Rattle.rows.proofs.Spans.{length-span}
-use Rattle.rules.specs.Rules.{heldFor}
-use Rattle.rules.proofs.Rows.{made-spared, made-with, row-set, row-apart}
+use Rattle.rules.specs.Rules.{LinkedIf, RuleTest, testedIn, testedBy}
+use Rattle.rules.proofs.Rows.{tested-all, tested-sound, made-with, row-set, row-apart}
+use Rattle.rules.proofs.Links.{tested-linked}
 use Rattle.records.specs.declared.EditRecord.{EditRecord}
 use Rattle.records.specs.declared.Fate.the-variants.{Unsent}
 use Rattle.heads.specs.declared.Head.{Head}
@@ -33,7 +34,7 @@ use Rattle.state.specs.Meets.{answerOf, SameIfRefused, Meets}
 use Rattle.state.proofs.Views.{Sized, plan-same, sides-most, sides-length, side-at, sides-modify, lookup-named, named-found}
 use Rattle.records.proofs.Logs.{log-snoc}
 use Rattle.ruling.specs.declared.Decision.{Decision}
-use Rattle.ruling.specs.Edits.{editChecks, ruled, changeOf, changeIn, editRuling, editHead, editDecision, spotOf, slotOf, editIn, stored}
+use Rattle.ruling.specs.Edits.{editChecks, ruled, changeOf, changeIn, editRuling, editHead, editDecision, spotOf, slotOf, editBy, editIn, stored}
 use Rattle.ruling.proofs.Rulings.{made-change}
 
 -- two sides' rows do not meet
@@ -48,29 +49,13 @@ single-apart h t = which (is split (modeOf (h .mode))) (is joining (modeOf (h .m
     (λ u. rw (eqb→eq (modeNumber (modeOf (h .mode))) 2 u))
     (λ u. rw (eqb→eq (modeNumber (modeOf (h .mode))) 3 u))
 
--- from what each step of an edit gave, in the code's order, to the decision in the state and the places of its stores
-pub edit-decided : (sound : Bool) (p : State) (s client n m kind k : ℤ) {s′ client′ n′ m′ kind′ k′ old : ℤ} {number i seat side measure spot slot kd : ℕ} {d : Decision}
-    → s′ ≡ s → client′ ≡ client → n′ ≡ n → m′ ≡ m → kind′ ≡ kind → k′ ≡ k
-    → number ≡ natural n′ → i ≡ positionOf (endIn (p .head)) (keptIn (p .head)) number → seat ≡ placeOf i
-    → side ≡ natural s′ → measure ≡ natural m′ → spot ≡ spotOf side measure → slot ≡ slotOf (p .head) → old ≡ getD (p .values) spot (pos 0) → kd ≡ natural kind′
-    → d ≡ editDecision (p .head) (editRuling sound (p .head) (p .lower) (p .gap) (p .upper) (p .firm) (p .values) (recordOf i (getD (p .edits) seat noRecord)) side client′ n′ measure kd k′) old side (natural client′) (natural n′) measure
-    → (d ≡ editIn sound p (natural s) client n (natural m) (natural kind) k) × (spot ≡ spotOf (natural s) (natural m)) × (slot ≡ slotOf (p .head))
-edit-decided sound p s client n m kind k to-s to-client to-n to-m to-kind to-k number-is position-is seat-is side-is measure-is spot-is slot-is old-is kind-is d-is =
-    let name = named-found p (number-is ∙ ap natural to-n) position-is seat-is refl in
-    let side = side-is ∙ ap natural to-s in
-    let measure = measure-is ∙ ap natural to-m in
-    let spot = spot-is ∙ (λ j. spotOf (side j) (measure j)) in
-    let old = old-is ∙ ap (λ j. getD (p .values) j (pos 0)) spot in
-    let kd = kind-is ∙ ap natural to-kind in
-    (d-is ∙ (λ j. editDecision (p .head) (editRuling sound (p .head) (p .lower) (p .gap) (p .upper) (p .firm) (p .values) (name j) (side j) (to-client j) (to-n j) (measure j) (kd j) (to-k j)) (old j) (side j) (natural (to-client j)) (natural (to-n j)) (measure j)), spot, slot-is)
-
--- where all rules held on the side's row, it is enough to test those that name the measure
-checks-sound : (mode : model.Mode) (sides : ℕ) (rules : List model.Rule) (named : model.Kept) (kept next : ℕ) (vs : List ℤ) (s : ℕ) (client n : ℤ) (m : ℕ) (ch : model.Change)
-    → (T (not (is blank mode)) → T (oneTo sides s) → holds rules vs ≡ true)
-    → first (editChecks true mode sides rules named kept next vs s client n m ch) ≡ first (editChecks false mode sides rules named kept next vs s client n m ch)
-checks-sound mode sides rules named kept next vs s client n m ch h = cases (is whole mode || apart mode)
+-- what the test of the rules finds counts only where the plan is drawn up and the side is one of its own
+checks-found : (mode : model.Mode) (sides : ℕ) (rules : List model.Rule) (named : model.Kept) (kept next : ℕ) (vs : List ℤ) (s : ℕ) (client n : ℤ) (m : ℕ) (ch : model.Change) (held held′ : Bool)
+    → (T (not (is blank mode)) → T (oneTo sides s) → held ≡ held′)
+    → first (editChecks held mode sides rules named kept next vs s client n m ch) ≡ first (editChecks held′ mode sides rules named kept next vs s client n m ch)
+checks-found mode sides rules named kept next vs s client n m ch held held′ h = cases (is whole mode || apart mode)
     (λ t. cases (oneTo sides s)
-    (λ u. ap (λ b. first (tested b)) (made-spared m ch rules vs (h (drawn mode (is-yes t)) (is-yes u))))
+    (λ u. ap (λ b. first (editChecks b mode sides rules named kept next vs s client n m ch)) (h (drawn mode (is-yes t)) (is-yes u)))
     (λ u. rw (t, u)))
     (λ t. rw t)
   where
@@ -82,20 +67,40 @@ checks-sound mode sides rules named kept next vs s client n m ch h = cases (is w
     drawn model.joining t = tt
     drawn model.closing t = tt
 
-    -- the checks by what the test of the rules finds
-    tested : Bool → List Check
-    tested b =
-        (31 unless (is whole mode || apart mode)) ∷ (21 unless oneTo sides s) ∷ no22 client ∷ (23 unless oneTo (length vs) m) ∷ no24 ch ∷ no25 named client n
-        ∷ no26 mode rules m ∷ (27 when (apart mode && leb 256 kept)) ∷ no30 next ∷ no28 vs m ch ∷ (29 unless b) ∷ []
+-- so two tests of the rules that then find the same make the same decision
+decision-same : (test test′ : RuleTest) (p : State) (s : ℕ) (client n : ℤ) (m kind : ℕ) (k : ℤ)
+    → (let vs = row (p .values) (offsetOf s) (measuresIn (p .head)) in let ws = made m (changeOf kind k) vs in
+    T (not (is blank (modeOf (p .head .mode)))) → T (oneTo (sidesIn (p .head)) s) → test m (p .lower) (p .gap) (p .upper) (min (p .head .rules) 64) ws ≡ test′ m (p .lower) (p .gap) (p .upper) (min (p .head .rules) 64) ws)
+    → editBy test p s client n m kind k ≡ editBy test′ p s client n m kind k
+unfolding editRuling
+decision-same test test′ p s client n m kind k h =
+    ap (λ v. editDecision (p .head) (ruled v (changeIn (madeOf kind k)) (applied (changeOf kind k) (value (row (p .values) (offsetOf s) (measuresIn (p .head))) m)))
+    (getD (p .values) (spotOf s m) (pos 0)) s (natural client) (natural n) m)
+    (checks-found (modeOf (p .head .mode)) (sidesIn (p .head)) (rulesOf p) (keptAt 0 (namedIn p (natural n))) (keptIn (p .head)) (p .head .next) (row (p .values) (offsetOf s) (measuresIn (p .head))) s client n m (changeOf kind k) _ _ h)
 
+-- from what each step of an edit gave, in the code's order, with the rules' own links, to the decision in the state and the places of its stores
+pub edit-decided : (sound : Bool) (p : State) (s client n m kind k : ℤ) {s′ client′ n′ m′ kind′ k′ old : ℤ} {number i seat side measure spot slot kd : ℕ} {links : List ℕ} {d : Decision}
+    → s′ ≡ s → client′ ≡ client → n′ ≡ n → m′ ≡ m → kind′ ≡ kind → k′ ≡ k
+    → number ≡ natural n′ → i ≡ positionOf (endIn (p .head)) (keptIn (p .head)) number → seat ≡ placeOf i
+    → side ≡ natural s′ → measure ≡ natural m′ → spot ≡ spotOf side measure → slot ≡ slotOf (p .head) → old ≡ getD (p .values) spot (pos 0) → kd ≡ natural kind′
+    → d ≡ editDecision (p .head) (editRuling (testedBy sound links) (p .head) (p .lower) (p .gap) (p .upper) (p .firm) (p .values) (recordOf i (getD (p .edits) seat noRecord)) side client′ n′ measure kd k′) old side (natural client′) (natural n′) measure
+    → LinkedIf sound links (p .lower) (p .upper) (min (p .head .rules) 64)
+    → (d ≡ editIn sound p (natural s) client n (natural m) (natural kind) k) × (spot ≡ spotOf (natural s) (natural m)) × (slot ≡ slotOf (p .head))
+edit-decided sound p s client n m kind k {links = links} to-s to-client to-n to-m to-kind to-k number-is position-is seat-is side-is measure-is spot-is slot-is old-is kind-is d-is linked =
+    let name = named-found p (number-is ∙ ap natural to-n) position-is seat-is refl in
+    let side = side-is ∙ ap natural to-s in
+    let measure = measure-is ∙ ap natural to-m in
+    let spot = spot-is ∙ (λ j. spotOf (side j) (measure j)) in
+    let old = old-is ∙ ap (λ j. getD (p .values) j (pos 0)) spot in
+    let kd = kind-is ∙ ap natural to-kind in
+    let own = decision-same (testedBy sound links) (testedIn sound) p (natural s) client n (natural m) (natural kind) k (λ d o. tested-linked sound links (natural m) (p .lower) (p .gap) (p .upper) _ _ linked) in
+    (d-is ∙ (λ j. editDecision (p .head) (editRuling (testedBy sound links) (p .head) (p .lower) (p .gap) (p .upper) (p .firm) (p .values) (name j) (side j) (to-client j) (to-n j) (measure j) (kd j) (to-k j)) (old j) (side j) (natural (to-client j)) (natural (to-n j)) (measure j)) ∙ own, spot, slot-is)
+
+-- where all rules held on the side's row, it is enough to test those that name the measure
 pub edit-sound : (p : State) (s : ℕ) (client n : ℤ) (m kind : ℕ) (k : ℤ)
     → (T (not (is blank (modeOf (p .head .mode)))) → T (oneTo (sidesIn (p .head)) s) → holds (rulesOf p) (row (p .values) (offsetOf s) (measuresIn (p .head))) ≡ true)
     → editIn true p s client n m kind k ≡ editIn false p s client n m kind k
-unfolding editRuling
-edit-sound p s client n m kind k h =
-    ap (λ v. editDecision (p .head) (ruled v (changeIn (madeOf kind k)) (applied (changeOf kind k) (value (row (p .values) (offsetOf s) (measuresIn (p .head))) m)))
-    (getD (p .values) (spotOf s m) (pos 0)) s (natural client) (natural n) m)
-    (checks-sound (modeOf (p .head .mode)) (sidesIn (p .head)) (rulesOf p) (keptAt 0 (namedIn p (natural n))) (keptIn (p .head)) (p .head .next) (row (p .values) (offsetOf s) (measuresIn (p .head))) s client n m (changeOf kind k) h)
+edit-sound p s client n m kind k h = decision-same (testedIn true) (testedIn false) p s client n m kind k (λ d o. tested-sound (p .lower) (p .gap) (p .upper) (p .firm) (min (p .head .rules) 64) m (changeOf kind k) _ (h d o))
 
 module _ (p : State) (z : Sized p) (s client n m kind k : ℤ) where
   abbrev h : Head
@@ -113,8 +118,11 @@ module _ (p : State) (z : Sized p) (s client n m kind k : ℤ) where
   abbrev vs : List ℤ
   vs = row (p .values) (offsetOf (natural s)) (measuresIn h)
 
+  abbrev held : Bool
+  held = testedIn false (natural m) (p .lower) (p .gap) (p .upper) (min (h .rules) 64) (made (natural m) ch vs)
+
   abbrev Checks : List Check
-  Checks = editChecks false mode (sidesIn h) (rulesOf p) (keptAt 0 (namedIn p (natural n))) (keptIn h) (h .next) vs (natural s) client n (natural m) ch
+  Checks = editChecks held mode (sidesIn h) (rulesOf p) (keptAt 0 (namedIn p (natural n))) (keptIn h) (h .next) vs (natural s) client n (natural m) ch
 
   kept-length : length (keptOf h (p .edits)) ≡ keptIn h
   kept-length = length-span 0 (keptIn h) (λ i. keptAt (endIn h - (keptIn h - i)) (getD (p .edits) i noRecord))
@@ -124,11 +132,13 @@ module _ (p : State) (z : Sized p) (s client n m kind k : ℤ) where
 
   -- the decision's checks are the protocol's
   checks-same : first (checks call (view p)) ≡ first Checks
-  unfolding checks further heldFor holds
+  unfolding checks further
   checks-same =
       rw (sides-length p, kept-length, lookup-named p (natural n))
       (cases (oneTo (sidesIn h) (natural s))
-      (λ t. ap (λ ws. first (editChecks false mode (sidesIn h) (rulesOf p) (keptAt 0 (namedIn p (natural n))) (keptIn h) (h .next) ws (natural s) client n (natural m) ch)) (ap (λ x. x .values) (side-is (is-yes t))))
+      (λ t.
+      ap (λ ws. first (editChecks (holds (rulesOf p) (made (natural m) ch ws)) mode (sidesIn h) (rulesOf p) (keptAt 0 (namedIn p (natural n))) (keptIn h) (h .next) ws (natural s) client n (natural m) ch)) (ap (λ x. x .values) (side-is (is-yes t)))
+      ∙ ap (λ b. first (editChecks b mode (sidesIn h) (rulesOf p) (keptAt 0 (namedIn p (natural n))) (keptIn h) (h .next) vs (natural s) client n (natural m) ch)) (tested-all (p .lower) (p .gap) (p .upper) (p .firm) (min (h .rules) 64) (natural m) (made (natural m) ch vs)))
       (λ t. rw t))
 
   abbrev change : Change

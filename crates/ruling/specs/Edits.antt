@@ -15,7 +15,7 @@ use Rattle.change.specs.declared.Made.{Made}
 use Rattle.change.specs.declared.Made.the-variants.{Made as MadeOf, Refused as NotMade}
 use Rattle.change.specs.Change.{viewChange, madeOf}
 use Rattle.rows.specs.Rows.{row}
-use Rattle.rules.specs.Rules.{rulesIn, heldFor}
+use Rattle.rules.specs.Rules.{RuleTest, testedIn, rulesIn}
 use Rattle.records.specs.declared.EditRecord.{EditRecord}
 use Rattle.records.specs.declared.Fate.the-variants.{Unsent}
 use Rattle.heads.specs.declared.Head.{Head}
@@ -28,27 +28,27 @@ use Rattle.ruling.specs.declared.Ruling.{Ruling}
 use Rattle.ruling.specs.declared.Ruling.the-variants.{Refused as Denied, Granted}
 use Rattle.ruling.specs.declared.Decision.{Decision}
 
--- ---- checks, in 01's order, from the parts of a plan that they look at; `sound` says that all rules held before
+-- ---- checks, in 01's order, from the parts of a plan that they look at; `held` says what the test of the rules found
 
 abbrev pub changeChecks : Bool → model.Mode → List model.Rule → ℕ → ℕ → List ℤ → ℕ → model.Change → List Check
-changeChecks sound mode rules kept next vs m ch =
-    no26 mode rules m ∷ (27 when (apart mode && leb keptLimit kept)) ∷ no30 next ∷ no28 vs m ch ∷ (29 unless heldFor sound m rules (made m ch vs)) ∷ []
+changeChecks held mode rules kept next vs m ch =
+    no26 mode rules m ∷ (27 when (apart mode && leb keptLimit kept)) ∷ no30 next ∷ no28 vs m ch ∷ (29 unless held) ∷ []
 
 abbrev pub editChecks : Bool → model.Mode → ℕ → List model.Rule → model.Kept → ℕ → ℕ → List ℤ → ℕ → ℤ → ℤ → ℕ → model.Change → List Check
-editChecks sound mode sides rules named kept next vs s client n m ch =
+editChecks held mode sides rules named kept next vs s client n m ch =
     (31 unless (is whole mode || apart mode)) ∷ (21 unless oneTo sides s) ∷ no22 client ∷ (23 unless oneTo (length vs) m) ∷ no24 ch ∷ no25 named client n
-    ∷ changeChecks sound mode rules kept next vs m ch
+    ∷ changeChecks held mode rules kept next vs m ch
 
--- ---- what they find
+-- ---- what they find, with any test of the rules
 
 abbrev pub ruled : Verdict → Change → ℤ → Ruling
 ruled fine c x = Granted c x
 ruled (refused k) c x = Denied k
 
-unfoldable pub changeRuling : Bool → Head → List ℕ → List ℤ → List ℕ → List Bool → List ℤ → ℕ → ℕ → Change → Ruling
-changeRuling sound h lower gap upper firm values at m c =
+unfoldable pub changeRuling : RuleTest → Head → List ℕ → List ℤ → List ℕ → List Bool → List ℤ → ℕ → ℕ → Change → Ruling
+changeRuling test h lower gap upper firm values at m c =
     let vs = row values at (measuresIn h) in
-    ruled (first (changeChecks sound (modeOf (h .mode)) (rulesIn lower gap upper firm (min (h .rules) 64)) (keptIn h) (h .next) vs m (viewChange c))) c (applied (viewChange c) (value vs m))
+    ruled (first (changeChecks (test m lower gap upper (min (h .rules) 64) (made m (viewChange c) vs)) (modeOf (h .mode)) (rulesIn lower gap upper firm (min (h .rules) 64)) (keptIn h) (h .next) vs m (viewChange c))) c (applied (viewChange c) (value vs m))
 
 -- the change of a kind number and a constant
 abbrev pub changeOf : ℕ → ℤ → model.Change
@@ -58,10 +58,10 @@ abbrev pub changeIn : Made → Change
 changeIn (MadeOf c) = c
 changeIn NotMade = Set (pos 0)
 
-unfoldable pub editRuling : Bool → Head → List ℕ → List ℤ → List ℕ → List Bool → List ℤ → EditRecord → ℕ → ℤ → ℤ → ℕ → ℕ → ℤ → Ruling
-editRuling sound h lower gap upper firm values named s client n m kind k =
+unfoldable pub editRuling : RuleTest → Head → List ℕ → List ℤ → List ℕ → List Bool → List ℤ → EditRecord → ℕ → ℤ → ℤ → ℕ → ℕ → ℤ → Ruling
+editRuling test h lower gap upper firm values named s client n m kind k =
     let vs = row values (offsetOf s) (measuresIn h) in
-    ruled (first (editChecks sound (modeOf (h .mode)) (sidesIn h) (rulesIn lower gap upper firm (min (h .rules) 64)) (keptAt 0 named) (keptIn h) (h .next) vs s client n m (changeOf kind k)))
+    ruled (first (editChecks (test m lower gap upper (min (h .rules) 64) (made m (changeOf kind k) vs)) (modeOf (h .mode)) (sidesIn h) (rulesIn lower gap upper firm (min (h .rules) 64)) (keptAt 0 named) (keptIn h) (h .next) vs s client n m (changeOf kind k)))
     (changeIn (madeOf kind k)) (applied (changeOf kind k) (value vs m))
 
 -- ---- what is decided and stored
@@ -104,11 +104,14 @@ spotOf s m = offsetOf s + min (m - 1) 31
 abbrev pub slotOf : Head → ℕ
 slotOf h = min (h .kept) 255
 
--- the decision in a state
-abbrev pub editIn : Bool → State → ℕ → ℤ → ℤ → ℕ → ℕ → ℤ → Decision
-editIn sound p s client n m kind k =
-    editDecision (p .head) (editRuling sound (p .head) (p .lower) (p .gap) (p .upper) (p .firm) (p .values) (namedIn p (natural n)) s client n m kind k)
+-- the decision in a state, by a test of the rules; and by the one that needs no links, where `sound` says that all rules held before
+abbrev pub editBy : RuleTest → State → ℕ → ℤ → ℤ → ℕ → ℕ → ℤ → Decision
+editBy test p s client n m kind k =
+    editDecision (p .head) (editRuling test (p .head) (p .lower) (p .gap) (p .upper) (p .firm) (p .values) (namedIn p (natural n)) s client n m kind k)
     (getD (p .values) (spotOf s m) (pos 0)) s (natural client) (natural n) m
+
+abbrev pub editIn : Bool → State → ℕ → ℤ → ℤ → ℕ → ℕ → ℤ → Decision
+editIn sound = editBy (testedIn sound)
 
 -- a decision carried out
 abbrev pub stored : State → ℕ → ℕ → Decision → State

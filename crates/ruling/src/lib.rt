@@ -6,7 +6,7 @@ ghost use lib.Dec.{leb};
 ghost use Rattle.protocol.specs.Lists.{natural};
 ghost use Rattle.protocol.specs.Plan.{is, whole};
 ghost use Rattle.protocol.specs.Calls.{apart, no22, no25};
-ghost use Rattle.rules.specs.Rules.{LinkedIf, firmIn};
+ghost use Rattle.rules.specs.Rules.{testedBy, firmIn};
 ghost use Rattle.heads.specs.Heads.{modeOf};
 ghost use Rattle.records.specs.Records.{keptAt, recordOf};
 ghost use Rattle.ruling.specs.Edits.{changeRuling, editRuling, editHead, editRecord, editDecision};
@@ -110,7 +110,7 @@ fn full(mode: Mode, kept: u32) -> bool
 }
 
 // The checks on the change: 26, 27, 30, 28, 29. A caller that knows that all rules hold on the row says so (`sound`): then only those
-// that name the measure are tested, found by the rules' links.
+// along the links are tested, which with the rules' own are the ones that name the measure.
 fn change_ruling<'a>(
     h: Head,
     lower: &'a [u32; 64],
@@ -124,7 +124,7 @@ fn change_ruling<'a>(
     change: Change,
     sound: bool,
 ) -> Ruling
-    ensures { λ r. ⌜ (LinkedIf sound (now (links .entry)) (now (lower .entry)) (now (upper .entry)) (min (h .rules) 64) → r ≡ changeRuling sound h (now (lower .entry)) (now (gap .entry)) (now (upper .entry)) (now (firm .entry)) (now (values .entry)) at m change) ⌝ }
+    ensures { λ r. ⌜ r ≡ changeRuling (testedBy sound (now (links .entry))) h (now (lower .entry)) (now (gap .entry)) (now (upper .entry)) (now (firm .entry)) (now (values .entry)) at m change ⌝ }
 {
     let mode = h.mode;
     if frozen(mode, lower, upper, firm, h.rules, m) {
@@ -174,7 +174,7 @@ fn edit_ruling<'a>(
     constant: i32,
     sound: bool,
 ) -> Ruling
-    ensures { λ r. ⌜ (LinkedIf sound (now (links .entry)) (now (lower .entry)) (now (upper .entry)) (min (h .rules) 64) → r ≡ editRuling sound h (now (lower .entry)) (now (gap .entry)) (now (upper .entry)) (now (firm .entry)) (now (values .entry)) named s client after m kind constant) ⌝ }
+    ensures { λ r. ⌜ r ≡ editRuling (testedBy sound (now (links .entry))) h (now (lower .entry)) (now (gap .entry)) (now (upper .entry)) (now (firm .entry)) (now (values .entry)) named s client after m kind constant ⌝ }
 {
     let mode = h.mode;
     if !editable(mode) {
@@ -306,7 +306,7 @@ pub fn decide_edit<'a>(
     constant: i32,
     sound: bool,
 ) -> Decision
-    ensures { λ r. ⌜ (LinkedIf sound (now (links .entry)) (now (lower .entry)) (now (upper .entry)) (min (h .rules) 64) → r ≡ editDecision h (editRuling sound h (now (lower .entry)) (now (gap .entry)) (now (upper .entry)) (now (firm .entry)) (now (values .entry)) (recordOf i seen) s client after m kind constant) old s (natural client) (natural after) m) ⌝ }
+    ensures { λ r. ⌜ r ≡ editDecision h (editRuling (testedBy sound (now (links .entry))) h (now (lower .entry)) (now (gap .entry)) (now (upper .entry)) (now (firm .entry)) (now (values .entry)) (recordOf i seen) s client after m kind constant) old s (natural client) (natural after) m ⌝ }
 {
     let ruling = edit_ruling(
         h,

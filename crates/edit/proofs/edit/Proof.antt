@@ -34,7 +34,7 @@ met c =
     let p = a .t1 in
     let g = edit-decided false p (a .s) (a .client) (a .after) (a .m) (a .kind) (a .constant) (toZ-ofZ (s .fits .s)) (toZ-ofZ (s .fits .client)) (toZ-ofZ (s .fits .after)) (toZ-ofZ (s .fits .m)) (toZ-ofZ (s .fits .kind)) (toZ-ofZ (s .fits .constant))
     (c .before .before .before .before .before .before .before .before .before .before .before .before .before .before .before .before .before .before .before .before .before .number .ensures) (c .before .before .before .before .before .before .before .before .before .before .before .before .before .before .before .before .before .before .before .before .position .ensures .0) (c .before .before .before .before .before .before .before .before .before .before .before .before .before .before .before .before .before .before .before .place .ensures .0) (c .before .before .before .before .before .before .before .before .before .before .before .before .before .before .before .before .before .number2 .ensures) (c .before .before .before .before .before .before .before .before .before .before .before .before .before .before .before .before .number3 .ensures) (c .before .before .before .before .before .before .before .before .before .before .before .before .before .before .before .spot .ensures .0) (c .before .before .before .before .before .before .before .before .before .before .before .before .before .before .capped .ensures)
-    (toZ-ofZ (fits32 (getD (p .values) (c .before .before .before .before .before .before .before .before .before .before .before .before .before .before .before .spot .result) (pos 0)) (c .before .before .before .before .before .before .before .before .before .before .before .before .before .old .given))) (c .before .before .before .before .number4 .ensures) ((c .before .before .before .decide-edit .ensures) (unlinked _ _ _ _)) in
+    (toZ-ofZ (fits32 (getD (p .values) (c .before .before .before .before .before .before .before .before .before .before .before .before .before .before .before .spot .result) (pos 0)) (c .before .before .before .before .before .before .before .before .before .before .before .before .before .old .given))) (c .before .before .before .before .number4 .ensures) (c .before .before .before .decide-edit .ensures) (unlinked _ _ _ _) in
     rw (g .1, g .2, g .0) (edit-meets p (owned-sized p (s .good .0)) (a .s) (a .client) (a .after) (a .m) (a .kind) (a .constant))
 
 -- its value is one that fits

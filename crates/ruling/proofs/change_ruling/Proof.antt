@@ -8,12 +8,12 @@ use lib.Dec.{leb}
 use borrow.Author.Tests.{lt-ltb, le-ltb}
 use mir.Facts.{toZ-ofZ}
 use Rattle.exact.proofs.Ints.{fits32}
-use Rattle.protocol.specs.Plan.{firmlyNamed, keptLimit, made}
+use Rattle.protocol.specs.Plan.{firmlyNamed, keptLimit}
 use Rattle.protocol.specs.Calls.{apart}
 use Rattle.change.specs.Change.{viewChange}
 use Rattle.rows.specs.Rows.{row}
-use Rattle.rules.specs.Rules.{LinkedIf, rulesIn, testedIn, heldFor, trialOf}
-use Rattle.rules.proofs.Rows.{tested-is, firm-is, trial-out, trial-broken, trial-effective}
+use Rattle.rules.specs.Rules.{rulesIn, testedBy, trialOf}
+use Rattle.rules.proofs.Rows.{firm-is, trial-out, trial-broken, trial-effective}
 use Rattle.heads.specs.Heads.{modeOf, measuresIn, keptIn}
 use Rattle.ruling.specs.declared.Ruling.the-variants.{Granted}
 use Rattle.ruling.specs.Edits.{changeRuling}
@@ -46,32 +46,29 @@ module _ (c : tie.After-try-change) where
   ch = viewChange (start .args .change)
 
   abbrev test : List ℤ → Bool
-  test = testedIn (start .args .sound) (start .args .m) (start .args .lower .now) (start .args .gap .now) (start .args .upper .now) (min (start .args .h .rules) 64)
+  test = testedBy (start .args .sound) (start .args .links .now) (start .args .m) (start .args .lower .now) (start .args .gap .now) (start .args .upper .now) (min (start .args .h .rules) 64)
 
-  trial : LinkedIf (start .args .sound) (start .args .links .now) (start .args .lower .now) (start .args .upper .now) (min (start .args .h .rules) 64) → c .try-change .result ≡ trialOf test (start .args .m) ch vs
-  trial h = c .try-change .ensures h
-
-  tested : heldFor (start .args .sound) (start .args .m) (rulesIn (start .args .lower .now) (start .args .gap .now) (start .args .upper .now) (start .args .firm .now) (min (start .args .h .rules) 64)) (made (start .args .m) ch vs) ≡ test (made (start .args .m) ch vs)
-  tested = sym (tested-is (start .args .lower .now) (start .args .gap .now) (start .args .upper .now) (start .args .firm .now) (min (start .args .h .rules) 64) (start .args .sound) (start .args .m) (made (start .args .m) ch vs))
+  trial : c .try-change .result ≡ trialOf test (start .args .m) ch vs
+  trial = c .try-change .ensures
 
 frozen-requires : tie.Need-frozen-requires
 frozen-requires c κs = search needs
 
 returns : tie.Need-returns
 unfolding changeRuling
-returns c = λ h. rw (is-frozen (c .before) ∙ (c .if1 .taken))
+returns c = rw (is-frozen (c .before) ∙ (c .if1 .taken))
 
 full-requires : tie.Need-full-requires
 full-requires c κs = search needs
 
 returns-2 : tie.Need-returns-2
 unfolding changeRuling
-returns-2 c = λ h.
+returns-2 c =
     rw (is-frozen (c .before .before .before) ∙ (c .before .before .if1 .left), is-full (c .before) ∙ (c .if2 .taken))
 
 returns-3 : tie.Need-returns-3
 unfolding changeRuling
-returns-3 c = λ h.
+returns-3 c =
     rw (is-frozen (c .before .before .before .before .before) ∙ (c .before .before .before .before .if1 .left), is-full (c .before .before .before) ∙ (c .before .before .if2 .left), lt-ltb 999999 _ ((c .if3 .taken)))
 
 try-change-requires : tie.Need-try-change-requires
@@ -88,25 +85,25 @@ enum-told-2 c = search needs
 
 returns-4 : tie.Need-returns-4
 unfolding changeRuling
-returns-4 c = λ h.
+returns-4 c =
     let p = (c .before .before .before) in
     let x = (c .before .tried .given .0 .0) in
-    let t = trial-effective (test p) (start p .args .m) (ch p) (vs p) x (sym ((c .before .tried .given .1)) ∙ trial p h) in
-    rw (is-frozen (c .before .before .before .before .before .before .before .before .before) ∙ (c .before .before .before .before .before .before .before .before .if1 .left), is-full (c .before .before .before .before .before .before .before) ∙ (c .before .before .before .before .before .before .if2 .left), le-ltb 999999 _ ((c .before .before .before .before .if3 .left)), t .0, tested p ∙ t .1) (ap (Granted (start p .args .change)) (toZ-ofZ (fits32 x ((c .known-told .given .0 .1))) ∙ t .2))
+    let t = trial-effective (test p) (start p .args .m) (ch p) (vs p) x (sym ((c .before .tried .given .1)) ∙ trial p) in
+    rw (is-frozen (c .before .before .before .before .before .before .before .before .before) ∙ (c .before .before .before .before .before .before .before .before .if1 .left), is-full (c .before .before .before .before .before .before .before) ∙ (c .before .before .before .before .before .before .if2 .left), le-ltb 999999 _ ((c .before .before .before .before .if3 .left)), t .0, t .1) (ap (Granted (start p .args .change)) (toZ-ofZ (fits32 x ((c .known-told .given .0 .1))) ∙ t .2))
 
 returns-5 : tie.Need-returns-5
 unfolding changeRuling
-returns-5 c = λ h.
+returns-5 c =
     let p = (c .before .before) in
-    let t = trial-out (test p) (start p .args .m) (ch p) (vs p) (sym ((c .enum-told .given .1)) ∙ trial p h) in
+    let t = trial-out (test p) (start p .args .m) (ch p) (vs p) (sym ((c .enum-told .given .1)) ∙ trial p) in
     rw (is-frozen (c .before .before .before .before .before .before .before .before) ∙ (c .before .before .before .before .before .before .before .if1 .left), is-full (c .before .before .before .before .before .before) ∙ (c .before .before .before .before .before .if2 .left), le-ltb 999999 _ ((c .before .before .before .if3 .left)), t)
 
 returns-6 : tie.Need-returns-6
 unfolding changeRuling
-returns-6 c = λ h.
+returns-6 c =
     let p = (c .before .before) in
-    let t = trial-broken (test p) (start p .args .m) (ch p) (vs p) (sym ((c .enum-told2 .given .1)) ∙ trial p h) in
-    rw (is-frozen (c .before .before .before .before .before .before .before .before) ∙ (c .before .before .before .before .before .before .before .if1 .left), is-full (c .before .before .before .before .before .before) ∙ (c .before .before .before .before .before .if2 .left), le-ltb 999999 _ ((c .before .before .before .if3 .left)), t .0, tested p ∙ t .1)
+    let t = trial-broken (test p) (start p .args .m) (ch p) (vs p) (sym ((c .enum-told2 .given .1)) ∙ trial p) in
+    rw (is-frozen (c .before .before .before .before .before .before .before .before) ∙ (c .before .before .before .before .before .before .before .if1 .left), is-full (c .before .before .before .before .before .before) ∙ (c .before .before .before .before .before .if2 .left), le-ltb 999999 _ ((c .before .before .before .if3 .left)), t .0, t .1)
 
 pub change-ruling-spec : {M : Type 1} → statement M
 change-ruling-spec =

@@ -2,6 +2,7 @@ use mir.Facts.{toZ-ofZ}
 use mathlib.Core.Path.{_≡_, ap, _∙_}
 use Rattle.protocol.specs.Lists.{natural}
 use Rattle.records.specs.Records.{recordOf}
+use Rattle.rules.specs.Rules.{testedBy}
 use Rattle.ruling.specs.Edits.{editRuling, editDecision}
 use borrow.Author.Needs.{needs}
 use Rattle.ruling.proofs.decide_edit.Statement.{statement}
@@ -30,7 +31,6 @@ edit-decision-requires c κs = search needs
 
 returns : tie.Need-returns
 returns c =
-    λ h.
     let s = (c .before .before .before .before .before) in
     let a = s .args in
     let named = (c .before .before .before .before .found .ensures) in
@@ -38,8 +38,8 @@ returns c =
     let after = toZ-ofZ (s .fits .after) in
     let constant = toZ-ofZ (s .fits .constant) in
     let old = toZ-ofZ (s .fits .old) in
-    let ruling : (c .before .before .before .edit-ruling .result) ≡ editRuling (a .sound) (a .h) (a .lower .now) (a .gap .now) (a .upper .now) (a .firm .now) (a .values .now) (recordOf (a .i) (a .seen)) (a .s) (a .client) (a .after) (a .m) (a .kind) (a .constant) =
-    (c .before .before .before .edit-ruling .ensures) h ∙ (λ i. editRuling (a .sound) (a .h) (a .lower .now) (a .gap .now) (a .upper .now) (a .firm .now) (a .values .now) (named i) (a .s) (client i) (after i) (a .m) (a .kind) (constant i))
+    let ruling : (c .before .before .before .edit-ruling .result) ≡ editRuling (testedBy (a .sound) (a .links .now)) (a .h) (a .lower .now) (a .gap .now) (a .upper .now) (a .firm .now) (a .values .now) (recordOf (a .i) (a .seen)) (a .s) (a .client) (a .after) (a .m) (a .kind) (a .constant) =
+    (c .before .before .before .edit-ruling .ensures) ∙ (λ i. editRuling (testedBy (a .sound) (a .links .now)) (a .h) (a .lower .now) (a .gap .now) (a .upper .now) (a .firm .now) (a .values .now) (named i) (a .s) (client i) (after i) (a .m) (a .kind) (constant i))
     in
     let by = (c .before .before .number .ensures) ∙ ap natural client in
     let on = (c .before .number2 .ensures) ∙ ap natural after in

@@ -12,7 +12,7 @@ use Rattle.protocol.specs.Calls.{apart, no22, no25, first}
 use Rattle.change.specs.declared.Change.{Change}
 use Rattle.change.specs.Change.{madeOf}
 use Rattle.rows.specs.Rows.{row}
-use Rattle.rules.specs.Rules.{rulesIn}
+use Rattle.rules.specs.Rules.{testedBy, rulesIn}
 use Rattle.rows.proofs.Spans.{length-span}
 use Rattle.heads.specs.Heads.{modeOf, sidesIn, measuresIn, offsetOf, keptIn}
 use Rattle.records.specs.Records.{keptAt}
@@ -64,7 +64,7 @@ editable-requires c κs = search needs
 
 returns : tie.Need-returns
 unfolding editRuling
-returns c = λ h. rw (ok31 (c .before) ∙ not-true _ ((c .if1 .taken)))
+returns c = rw (ok31 (c .before) ∙ not-true _ ((c .if1 .taken)))
 
 side-count-requires : tie.Need-side-count-requires
 side-count-requires c κs = search needs
@@ -74,7 +74,7 @@ one-to-requires c κs = search needs
 
 returns-2 : tie.Need-returns-2
 unfolding editRuling
-returns-2 c = λ h.
+returns-2 c =
     rw (ok31 (c .before .before .before .before) ∙ not-false _ ((c .before .before .before .if1 .left)), ok21 (c .before) ∙ not-true _ ((c .if2 .taken)))
 
 is-client-requires : tie.Need-is-client-requires
@@ -82,7 +82,7 @@ is-client-requires c κs = search needs
 
 returns-3 : tie.Need-returns-3
 unfolding editRuling
-returns-3 c = λ h.
+returns-3 c =
     rw (ok31 (c .before .before .before .before .before .before) ∙ not-false _ ((c .before .before .before .before .before .if1 .left)), ok21 (c .before .before .before) ∙ not-false _ ((c .before .before .if2 .left)), ok22 (c .before) ∙ not-true _ ((c .if3 .taken)))
 
 capped-requires : tie.Need-capped-requires
@@ -93,7 +93,7 @@ one-to-requires-2 c κs = search needs
 
 returns-4 : tie.Need-returns-4
 unfolding editRuling
-returns-4 c = λ h.
+returns-4 c =
     rw (ok31 (c .before .before .before .before .before .before .before .before .before) ∙ not-false _ ((c .before .before .before .before .before .before .before .before .if1 .left)), ok21 (c .before .before .before .before .before .before) ∙ not-false _ ((c .before .before .before .before .before .if2 .left)), ok22 (c .before .before .before .before) ∙ not-false _ ((c .before .before .before .if3 .left)), ok23 (c .before) ∙ not-true _ ((c .if4 .taken)))
 
 make-requires : tie.Need-make-requires
@@ -107,7 +107,7 @@ enum-told c = search needs
 
 returns-5 : tie.Need-returns-5
 unfolding editRuling
-returns-5 c = λ h.
+returns-5 c =
     let m = made-no _ _ (sym ((c .enum-told .given .1)) ∙ makes (c .before .before)) in
     rw (ok31 (c .before .before .before .before .before .before .before .before .before .before .before .before) ∙ not-false _ ((c .before .before .before .before .before .before .before .before .before .before .before .if1 .left)), ok21 (c .before .before .before .before .before .before .before .before .before) ∙ not-false _ ((c .before .before .before .before .before .before .before .before .if2 .left)), ok22 (c .before .before .before .before .before .before .before) ∙ not-false _ ((c .before .before .before .before .before .before .if3 .left)), ok23 (c .before .before .before .before) ∙ not-false _ ((c .before .before .before .if4 .left)), m)
 
@@ -116,7 +116,7 @@ may-follow-requires c κs = search needs
 
 returns-6 : tie.Need-returns-6
 unfolding editRuling
-returns-6 c = λ h.
+returns-6 c =
     let m = made-yes _ _ _ (sym ((c .before .before .before .made .given .1)) ∙ makes (c .before .before .before .before .before)) in
     rw (ok31 (c .before .before .before .before .before .before .before .before .before .before .before .before .before .before .before) ∙ not-false _ ((c .before .before .before .before .before .before .before .before .before .before .before .before .before .before .if1 .left)), ok21 (c .before .before .before .before .before .before .before .before .before .before .before .before) ∙ not-false _ ((c .before .before .before .before .before .before .before .before .before .before .before .if2 .left)), ok22 (c .before .before .before .before .before .before .before .before .before .before) ∙ not-false _ ((c .before .before .before .before .before .before .before .before .before .if3 .left)), ok23 (c .before .before .before .before .before .before .before) ∙ not-false _ ((c .before .before .before .before .before .before .if4 .left)), m .0, ok25 (c .before) ∙ not-true _ ((c .if5 .taken)))
 
@@ -128,15 +128,16 @@ change-ruling-requires c κs = search needs
 
 returns-7 : tie.Need-returns-7
 unfolding editRuling changeRuling
-returns-7 c = λ h.
+returns-7 c =
     let a = (c .before .before .before .before .before .before .before .before .before .before .before .before .before .before .before .before .before .before .args) in
     let d = (c .before .before .before .before .before .made .given .0 .0) in
     let made = sym ((c .before .before .before .before .before .made .given .1)) ∙ makes (c .before .before .before .before .before .before .before) in
     let m = made-yes (a .kind) (a .constant) d made in
     let vs = row (a .values .now) (offsetOf (a .s)) (measuresIn (a .h)) in
-    let tail : model.Change → Change → Ruling = λ x e. ruled (first (changeChecks (a .sound) (modeOf (a .h .mode)) (rulesIn (a .lower .now) (a .gap .now) (a .upper .now) (a .firm .now) (min (a .h .rules) 64)) (keptIn (a .h)) (a .h .next) vs (a .m) x)) e (applied x (value vs (a .m))) in
+    let test = testedBy (a .sound) (a .links .now) in
+    let tail : model.Change → Change → Ruling = λ x e. ruled (first (changeChecks (test (a .m) (a .lower .now) (a .gap .now) (a .upper .now) (min (a .h .rules) 64) (model.made (a .m) x vs)) (modeOf (a .h .mode)) (rulesIn (a .lower .now) (a .gap .now) (a .upper .now) (a .firm .now) (min (a .h .rules) 64)) (keptIn (a .h)) (a .h .next) vs (a .m) x)) e (applied x (value vs (a .m))) in
     rw (ok31 (c .before .before .before .before .before .before .before .before .before .before .before .before .before .before .before .before .before) ∙ not-false _ ((c .before .before .before .before .before .before .before .before .before .before .before .before .before .before .before .before .if1 .left)), ok21 (c .before .before .before .before .before .before .before .before .before .before .before .before .before .before) ∙ not-false _ ((c .before .before .before .before .before .before .before .before .before .before .before .before .before .if2 .left)), ok22 (c .before .before .before .before .before .before .before .before .before .before .before .before) ∙ not-false _ ((c .before .before .before .before .before .before .before .before .before .before .before .if3 .left)), ok23 (c .before .before .before .before .before .before .before .before .before) ∙ not-false _ ((c .before .before .before .before .before .before .before .before .if4 .left)), m .0, ok25 (c .before .before .before) ∙ not-false _ ((c .before .before .if5 .left)))
-    ((c .change-ruling .ensures h) ∙ ap (λ at. changeRuling (a .sound) (a .h) (a .lower .now) (a .gap .now) (a .upper .now) (a .firm .now) (a .values .now) at (a .m) d) ((c .before .offset .ensures .0)) ∙ ap (λ x. tail x d) (m .1) ∙ ap (λ e. tail (changeOf (a .kind) (a .constant)) e) (ap changeIn made))
+    ((c .change-ruling .ensures) ∙ ap (λ at. changeRuling test (a .h) (a .lower .now) (a .gap .now) (a .upper .now) (a .firm .now) (a .values .now) at (a .m) d) ((c .before .offset .ensures .0)) ∙ ap (λ x. tail x d) (m .1) ∙ ap (λ e. tail (changeOf (a .kind) (a .constant)) e) (ap changeIn made))
 
 pub edit-ruling-spec : {M : Type 1} → statement M
 edit-ruling-spec =
