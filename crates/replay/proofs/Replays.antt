@@ -1,5 +1,5 @@
 -- A replay's decision, carried out, is the protocol's step. Assumes nothing.
-use Prim.Native.Nat.{ℕ, min, _+_, _-_}
+use Prim.Native.Nat.{ℕ, min, _+_}
 use native.Mathlib.Omega.{arith}
 use native.Mathlib.Numerals.{add-one}
 use mathlib.Core.Bool.{Bool, true, false, not, cond, _&&_}
@@ -15,12 +15,12 @@ use Rattle.protocol.specs.Plan as model
 use Rattle.protocol.specs.Plan.{active, holds, isSettled, effective, fits, made, applied, value}
 use Rattle.protocol.specs.Calls.{Call, replay, Check, Verdict, fine, refused, first, checks, further, replayable, settled, outcome, update, nextPlace, after, gives, ok, stepBy, step}
 use Rattle.protocol.proofs.Laws.{cases, is-yes, range, Fine, Pass, passed}
-use Rattle.change.specs.declared.Change.{Change}
 use Rattle.change.specs.Change.{viewChange}
 use Rattle.rows.specs.Rows.{row}
 use Rattle.rows.proofs.Spans.{length-span}
-use Rattle.rules.specs.Rules.{holdsIn, testedIn, rulesIn}
-use Rattle.rules.proofs.Rows.{made-with, modify-out, holds-is, tested-is, made-spared, row-set}
+use Rattle.rules.specs.Rules.{LinkedIf, RuleTest, testedIn, testedBy}
+use Rattle.rules.proofs.Rows.{made-with, modify-out, tested-all, tested-sound, row-set}
+use Rattle.rules.proofs.Links.{tested-linked}
 use Rattle.records.specs.declared.EditRecord.{EditRecord}
 use Rattle.heads.specs.declared.Head.{Head}
 use Rattle.state.specs.declared.State.{State}
@@ -33,16 +33,36 @@ use Rattle.state.proofs.Views.{Sized, plan-same, flags-unset, lookup-named, sea
 use Rattle.records.proofs.Logs.{Placed, placed, log-modify}
 use Rattle.settling.specs.declared.Outcome.the-variants.{Settled}
 use Rattle.settling.specs.declared.Decision.{Decision}
-use Rattle.settling.specs.Replays.{replayChecks, draftIn, effectiveIn, draftOutcome, settledBy, replayOutcome, settledRecord, replayDecision, pointOf, slotIn, replayIn, stored}
+use Rattle.settling.specs.Replays.{replayChecks, draftIn, effectiveIn, draftOutcome, settledBy, replayOutcome, settledRecord, replayDecision, pointOf, slotIn, replayBy, replayIn, stored}
 
--- from what each step of a replay gave, in the code's order, to the decision in the state and the places of its stores
-pub replay-decided : (sound : Bool) (p : State) (n : ℤ) {n′ old : ℤ} {number i slot i′ seat missing settled point : ℕ} {e : EditRecord} {d : Decision}
+-- what the test of the rules finds counts only where the plan is joining or closing: two tests that then find the same make the same decision
+decision-same : (test test′ : RuleTest) (p : State) (n : ℕ)
+    → (let e = namedIn p n in let ws = made (e .measure) (viewChange (e .change)) (draftIn (p .head) (p .draft)) in
+    T (active (modeOf (p .head .mode))) → test (e .measure) (p .lower) (p .gap) (p .upper) (min (p .head .rules) 64) ws ≡ test′ (e .measure) (p .lower) (p .gap) (p .upper) (min (p .head .rules) 64) ws)
+    → replayBy test p n ≡ replayBy test′ p n
+unfolding replayOutcome draftOutcome effectiveIn
+decision-same test test′ p n h = cases (active (modeOf (p .head .mode)))
+    (λ t.
+    let e = namedIn p n in
+    let vs = draftIn (p .head) (p .draft) in
+    let old = getD (p .draft) (pointOf (e .measure)) (pos 0) in
+    ap (λ y.
+    let b = fits (e .measure) (viewChange (e .change)) vs && y in
+    replayDecision
+    (settledBy (first (replayChecks (modeOf (p .head .mode)) (unsetIn (p .arrived) (sidesIn (p .head))) (keptAt 0 e) (keptAt 0 (namedIn p (e .earlier))))) (Settled b (cond (b && oneTo (min (p .head .drafted) 32) (e .measure)) (applied (viewChange (e .change)) (value vs (e .measure))) old)))
+    (getD (p .edits) (slotIn p n) noRecord) old (count isSettled (keptOf (p .head) (p .edits)) + 1))
+    (h (is-yes t)))
+    (λ t. rw t)
+
+-- from what each step of a replay gave, in the code's order, with the rules' own links, to the decision in the state and the places of its stores
+pub replay-decided : (sound : Bool) (p : State) (n : ℤ) {n′ old : ℤ} {number i slot i′ seat missing settled point : ℕ} {links : List ℕ} {e : EditRecord} {d : Decision}
     → n′ ≡ n → number ≡ natural n′ → i ≡ positionOf (endIn (p .head)) (keptIn (p .head)) number → slot ≡ placeOf i → e ≡ recordOf i (getD (p .edits) slot noRecord)
     → i′ ≡ positionOf (endIn (p .head)) (keptIn (p .head)) (e .earlier) → seat ≡ placeOf i′
     → missing ≡ unsetIn (p .arrived) (sidesIn (p .head)) → settled ≡ count isSettled (keptOf (p .head) (p .edits)) → point ≡ pointOf (e .measure) → old ≡ getD (p .draft) point (pos 0)
-    → d ≡ replayDecision (replayOutcome sound (p .head) (p .lower) (p .gap) (p .upper) (p .draft) missing (recordOf i (getD (p .edits) slot noRecord)) (recordOf i′ (getD (p .edits) seat noRecord)) old) (getD (p .edits) slot noRecord) old (settled + 1)
+    → d ≡ replayDecision (replayOutcome (testedBy sound links) (p .head) (p .lower) (p .gap) (p .upper) (p .draft) missing (recordOf i (getD (p .edits) slot noRecord)) (recordOf i′ (getD (p .edits) seat noRecord)) old) (getD (p .edits) slot noRecord) old (settled + 1)
+    → LinkedIf sound links (p .lower) (p .upper) (min (p .head .rules) 64)
     → (d ≡ replayIn sound p (natural n)) × (point ≡ pointOf (namedIn p (natural n) .measure)) × (slot ≡ slotIn p (natural n))
-replay-decided sound p n to-n number-is position-is slot-is e-is position-is′ seat-is missing-is settled-is point-is old-is d-is =
+replay-decided sound p n {links = links} to-n number-is position-is slot-is e-is position-is′ seat-is missing-is settled-is point-is old-is d-is linked =
     let number = number-is ∙ ap natural to-n in
     let slot = seat-found p number position-is slot-is in
     let found = named-found p number position-is slot-is refl in
@@ -50,30 +70,12 @@ replay-decided sound p n to-n number-is position-is slot-is e-is position-is′ 
     let earlier = named-found p (ap (λ r. r .earlier) e) position-is′ seat-is refl in
     let point = point-is ∙ ap (λ r. pointOf (r .measure)) e in
     let old = old-is ∙ ap (λ j. getD (p .draft) j (pos 0)) point in
-    (d-is ∙ (λ j. replayDecision (replayOutcome sound (p .head) (p .lower) (p .gap) (p .upper) (p .draft) (missing-is j) (found j) (earlier j) (old j)) (getD (p .edits) (slot j) noRecord) (old j) (settled-is j + 1)), point, slot)
+    let own = decision-same (testedBy sound links) (testedIn sound) p (natural n) (λ t. tested-linked sound links _ (p .lower) (p .gap) (p .upper) _ _ linked) in
+    (d-is ∙ (λ j. replayDecision (replayOutcome (testedBy sound links) (p .head) (p .lower) (p .gap) (p .upper) (p .draft) (missing-is j) (found j) (earlier j) (old j)) (getD (p .edits) (slot j) noRecord) (old j) (settled-is j + 1)) ∙ own, point, slot)
 
 -- where all rules held on the draft, it is enough to test those that name the measure
-effect-sound : (lower : List ℕ) (gap : List ℤ) (upper : List ℕ) (firm : List Bool) (k m : ℕ) (ch : model.Change) (vs : List ℤ)
-    → holds (rulesIn lower gap upper firm k) vs ≡ true → effectiveIn true lower gap upper k m ch vs ≡ effectiveIn false lower gap upper k m ch vs
-unfolding effectiveIn
-effect-sound lower gap upper firm k m ch vs h =
-    ap (λ b. fits m ch vs && b)
-    (tested-is lower gap upper firm k true m (made m ch vs) ∙ made-spared m ch (rulesIn lower gap upper firm k) vs h ∙ sym (tested-is lower gap upper firm k false m (made m ch vs)))
-
-draft-sound : (h : Head) (lower : List ℕ) (gap : List ℤ) (upper : List ℕ) (firm : List Bool) (draft : List ℤ) (m : ℕ) (c : Change) (old : ℤ)
-    → holds (rulesIn lower gap upper firm (min (h .rules) 64)) (draftIn h draft) ≡ true → draftOutcome true h lower gap upper draft m c old ≡ draftOutcome false h lower gap upper draft m c old
-unfolding draftOutcome
-draft-sound h lower gap upper firm draft m c old e =
-    ap (λ b. Settled b (cond (b && oneTo (min (h .drafted) 32) m) (applied (viewChange c) (value (draftIn h draft) m)) old))
-    (effect-sound lower gap upper firm (min (h .rules) 64) m (viewChange c) (draftIn h draft) e)
-
 pub replay-sound : (p : State) (n : ℕ) → (T (active (modeOf (p .head .mode))) → holds (rulesOf p) (draftIn (p .head) (p .draft)) ≡ true) → replayIn true p n ≡ replayIn false p n
-unfolding replayOutcome
-replay-sound p n e = cases (active (modeOf (p .head .mode)))
-    (λ t.
-    ap (λ o. replayDecision (settledBy (first (replayChecks (modeOf (p .head .mode)) (unsetIn (p .arrived) (sidesIn (p .head))) (keptAt 0 (namedIn p n)) (keptAt 0 (namedIn p (namedIn p n .earlier))))) o) (getD (p .edits) (slotIn p n) noRecord) (getD (p .draft) (pointOf (namedIn p n .measure)) (pos 0)) (count isSettled (keptOf (p .head) (p .edits)) + 1))
-    (draft-sound (p .head) (p .lower) (p .gap) (p .upper) (p .firm) (p .draft) (namedIn p n .measure) (namedIn p n .change) (getD (p .draft) (pointOf (namedIn p n .measure)) (pos 0)) (e (is-yes t))))
-    (λ t. rw t)
+replay-sound p n h = decision-same (testedIn true) (testedIn false) p n (λ t. tested-sound (p .lower) (p .gap) (p .upper) (p .firm) (min (p .head .rules) 64) (namedIn p n .measure) (viewChange (namedIn p n .change)) _ (h t))
 
 module _ (p : State) (z : Sized p) (n : ℤ) where
   abbrev h : Head
@@ -100,12 +102,12 @@ module _ (p : State) (z : Sized p) (n : ℤ) where
   checks-same = rw (flags-unset p (λ x. x .arrived) (p .arrived) (λ s. refl), lookup-named p (natural n), lookup-named p (e .earlier))
 
   -- and so is the trial
-  effect : replayable (view p .content) (natural n) ≡ effectiveIn false (p .lower) (p .gap) (p .upper) (min (h .rules) 64) (e .measure) ch vs
-  unfolding replayable effective effectiveIn testedIn holdsIn
-  effect = rw (lookup-named p (natural n)) (ap (λ b. fits (e .measure) ch vs && b) (holds-is (p .lower) (p .gap) (p .upper) (p .firm) (min (h .rules) 64) (made (e .measure) ch vs)))
+  effect : replayable (view p .content) (natural n) ≡ effectiveIn (testedIn false) (p .lower) (p .gap) (p .upper) (min (h .rules) 64) (e .measure) ch vs
+  unfolding replayable effective effectiveIn
+  effect = rw (lookup-named p (natural n)) (ap (λ b. fits (e .measure) ch vs && b) (tested-all (p .lower) (p .gap) (p .upper) (p .firm) (min (h .rules) 64) (e .measure) (made (e .measure) ch vs)))
 
   abbrev b : Bool
-  b = effectiveIn false (p .lower) (p .gap) (p .upper) (min (h .rules) 64) (e .measure) ch vs
+  b = effectiveIn (testedIn false) (p .lower) (p .gap) (p .upper) (min (h .rules) 64) (e .measure) ch vs
 
   abbrev old : ℤ
   old = getD (p .draft) (pointOf (e .measure)) (pos 0)
@@ -164,7 +166,7 @@ module _ (p : State) (z : Sized p) (n : ℤ) where
           ∙ sym (q .5 (settled b (nextPlace (keptOf h (p .edits)))))
 
   abbrev decided : Verdict → Decision
-  decided v = replayDecision (settledBy v (draftOutcome false h (p .lower) (p .gap) (p .upper) (p .draft) (e .measure) (e .change) old)) standing old place
+  decided v = replayDecision (settledBy v (draftOutcome (testedIn false) h (p .lower) (p .gap) (p .upper) (p .draft) (e .measure) (e .change) old)) standing old place
 
   abbrev next : Verdict → State
   next v = stored p (pointOf (e .measure)) (slotIn p (natural n)) (decided v)

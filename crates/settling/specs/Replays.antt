@@ -11,7 +11,7 @@ use Rattle.protocol.specs.Calls.{Check, _unless_, _when_, Verdict, fine, refuse
 use Rattle.change.specs.declared.Change.{Change}
 use Rattle.change.specs.Change.{viewChange}
 use Rattle.rows.specs.Rows.{row}
-use Rattle.rules.specs.Rules.{testedIn}
+use Rattle.rules.specs.Rules.{RuleTest, testedIn}
 use Rattle.records.specs.declared.EditRecord.{EditRecord}
 use Rattle.records.specs.declared.Fate.{Fate}
 use Rattle.records.specs.declared.Fate.the-variants.{Accepted, Revoked}
@@ -35,26 +35,26 @@ replayChecks mode missing e earlier = (31 unless active mode) ∷ (34 unless non
 abbrev pub draftIn : Head → List ℤ → List ℤ
 draftIn h draft = row draft 0 (min (h .drafted) 32)
 
--- whether a change takes effect, with the rules of three arrays; `sound` says that all rules held before
-unfoldable pub effectiveIn : Bool → List ℕ → List ℤ → List ℕ → ℕ → ℕ → model.Change → List ℤ → Bool
-unfolding fits made testedIn
-effectiveIn sound lower gap upper k m ch vs = fits m ch vs && testedIn sound m lower gap upper k (made m ch vs)
+-- whether a change takes effect, with the rules of three arrays and any test of them
+unfoldable pub effectiveIn : RuleTest → List ℕ → List ℤ → List ℕ → ℕ → ℕ → model.Change → List ℤ → Bool
+unfolding fits made
+effectiveIn test lower gap upper k m ch vs = fits m ch vs && test m lower gap upper k (made m ch vs)
 
 -- the value at the measure's place: what the change makes, if it takes effect on a measure of the draft
-unfoldable pub draftOutcome : Bool → Head → List ℕ → List ℤ → List ℕ → List ℤ → ℕ → Change → ℤ → Outcome
-draftOutcome sound h lower gap upper draft m c old =
+unfoldable pub draftOutcome : RuleTest → Head → List ℕ → List ℤ → List ℕ → List ℤ → ℕ → Change → ℤ → Outcome
+draftOutcome test h lower gap upper draft m c old =
     let vs = draftIn h draft in
-    let b = effectiveIn sound lower gap upper (min (h .rules) 64) m (viewChange c) vs in
+    let b = effectiveIn test lower gap upper (min (h .rules) 64) m (viewChange c) vs in
     Settled b (cond (b && oneTo (min (h .drafted) 32) m) (applied (viewChange c) (value vs m)) old)
 
 abbrev pub settledBy : Verdict → Outcome → Outcome
 settledBy fine o = o
 settledBy (refused k) o = Denied k
 
-unfoldable pub replayOutcome : Bool → Head → List ℕ → List ℤ → List ℕ → List ℤ → ℕ → EditRecord → EditRecord → ℤ → Outcome
+unfoldable pub replayOutcome : RuleTest → Head → List ℕ → List ℤ → List ℕ → List ℤ → ℕ → EditRecord → EditRecord → ℤ → Outcome
 unfolding draftOutcome
-replayOutcome sound h lower gap upper draft missing e earlier old =
-    settledBy (first (replayChecks (modeOf (h .mode)) missing (keptAt 0 e) (keptAt 0 earlier))) (draftOutcome sound h lower gap upper draft (e .measure) (e .change) old)
+replayOutcome test h lower gap upper draft missing e earlier old =
+    settledBy (first (replayChecks (modeOf (h .mode)) missing (keptAt 0 e) (keptAt 0 earlier))) (draftOutcome test h lower gap upper draft (e .measure) (e .change) old)
 
 -- ---- what is decided and stored
 
@@ -76,13 +76,16 @@ pointOf m = min (m - 1) 31
 abbrev pub slotIn : State → ℕ → ℕ
 slotIn p n = placeOf (positionOf (endIn (p .head)) (keptIn (p .head)) n)
 
--- the decision in a state
-abbrev pub replayIn : Bool → State → ℕ → Decision
-replayIn sound p n =
+-- the decision in a state, by a test of the rules; and by the one that needs no links, where `sound` says that all rules held before
+abbrev pub replayBy : RuleTest → State → ℕ → Decision
+replayBy test p n =
     let e = namedIn p n in
     replayDecision
-    (replayOutcome sound (p .head) (p .lower) (p .gap) (p .upper) (p .draft) (unsetIn (p .arrived) (sidesIn (p .head))) e (namedIn p (e .earlier)) (getD (p .draft) (pointOf (e .measure)) (pos 0)))
+    (replayOutcome test (p .head) (p .lower) (p .gap) (p .upper) (p .draft) (unsetIn (p .arrived) (sidesIn (p .head))) e (namedIn p (e .earlier)) (getD (p .draft) (pointOf (e .measure)) (pos 0)))
     (getD (p .edits) (slotIn p n) noRecord) (getD (p .draft) (pointOf (e .measure)) (pos 0)) (count isSettled (keptOf (p .head) (p .edits)) + 1)
+
+abbrev pub replayIn : Bool → State → ℕ → Decision
+replayIn sound = replayBy (testedIn sound)
 
 -- a decision carried out
 abbrev pub stored : State → ℕ → ℕ → Decision → State

@@ -1,8 +1,7 @@
 // What a replay decides: its checks, the trial on the draft, and what it stores. Read only, on what is lent to it.
 ghost use mathlib.Core.Path.{_≡_};
-ghost use Prim.Native.Nat.{min};
 ghost use Rattle.protocol.specs.Plan.{isWaiting};
-ghost use Rattle.rules.specs.Rules.{LinkedIf};
+ghost use Rattle.rules.specs.Rules.{testedBy};
 ghost use Rattle.records.specs.Records.{keptAt, recordOf};
 ghost use Rattle.settling.specs.Replays.{draftOutcome, replayOutcome, settledFate, settledRecord, replayDecision};
 use change::Change;
@@ -34,7 +33,7 @@ fn is_waiting(e: EditRecord) -> bool
 }
 
 // A change tried on the draft: whether it takes effect, and the value at its place then. A caller that knows that all rules hold on the
-// draft says so (`sound`): then only those that name the measure are tested, found by the rules' links.
+// draft says so (`sound`): then only those along the links are tested, which with the rules' own are the ones that name the measure.
 fn try_draft<'a>(
     h: Head,
     lower: &'a [u32; 64],
@@ -47,7 +46,7 @@ fn try_draft<'a>(
     old: i32,
     sound: bool,
 ) -> Outcome
-    ensures { λ r. ⌜ (LinkedIf sound (now (links .entry)) (now (lower .entry)) (now (upper .entry)) (min (h .rules) 64) → r ≡ draftOutcome sound h (now (lower .entry)) (now (gap .entry)) (now (upper .entry)) (now (draft .entry)) m change old) ⌝ }
+    ensures { λ r. ⌜ r ≡ draftOutcome (testedBy sound (now (links .entry))) h (now (lower .entry)) (now (gap .entry)) (now (upper .entry)) (now (draft .entry)) m change old ⌝ }
 {
     let n = rows::capped(h.drafted, 32);
     let tried = rules::try_change(
@@ -89,7 +88,7 @@ fn replay_outcome<'a>(
     old: i32,
     sound: bool,
 ) -> Outcome
-    ensures { λ r. ⌜ (LinkedIf sound (now (links .entry)) (now (lower .entry)) (now (upper .entry)) (min (h .rules) 64) → r ≡ replayOutcome sound h (now (lower .entry)) (now (gap .entry)) (now (upper .entry)) (now (draft .entry)) missing e earlier old) ⌝ }
+    ensures { λ r. ⌜ r ≡ replayOutcome (testedBy sound (now (links .entry))) h (now (lower .entry)) (now (gap .entry)) (now (upper .entry)) (now (draft .entry)) missing e earlier old ⌝ }
 {
     let mode = h.mode;
     if !heads::is_active(mode) {
@@ -186,7 +185,7 @@ pub fn decide_replay<'a>(
     place: u32,
     sound: bool,
 ) -> Decision
-    ensures { λ r. ⌜ (LinkedIf sound (now (links .entry)) (now (lower .entry)) (now (upper .entry)) (min (h .rules) 64) → r ≡ replayDecision (replayOutcome sound h (now (lower .entry)) (now (gap .entry)) (now (upper .entry)) (now (draft .entry)) missing (recordOf i standing) (recordOf j seen) old) standing old place) ⌝ }
+    ensures { λ r. ⌜ r ≡ replayDecision (replayOutcome (testedBy sound (now (links .entry))) h (now (lower .entry)) (now (gap .entry)) (now (upper .entry)) (now (draft .entry)) missing (recordOf i standing) (recordOf j seen) old) standing old place ⌝ }
 {
     let outcome = replay_outcome(
         h,

@@ -93,7 +93,7 @@ returns c =
     let d = (c .before .before .decide-replay .result) in
     let g = replay-decided false p (s .args .n) (toZ-ofZ (s .fits .n)) (c .before .before .before .before .before .before .before .before .before .before .before .before .before .before .before .before .before .before .before .before .before .before .before .before .number .ensures) (c .before .before .before .before .before .before .before .before .before .before .before .before .before .before .before .before .before .before .before .before .before .before .before .position .ensures .0) (c .before .before .before .before .before .before .before .before .before .before .before .before .before .before .before .before .before .before .before .before .before .before .place .ensures .0) (c .before .before .before .before .before .before .before .before .before .before .before .before .before .before .before .before .before .before .before .before .found .ensures)
     (c .before .before .before .before .before .before .before .before .before .before .before .before .before .before .before .before .before .before .before .position2 .ensures .0) (c .before .before .before .before .before .before .before .before .before .before .before .before .before .before .before .before .before .before .place2 .ensures .0) (c .before .before .before .before .before .before .before .before .before .before .before .before .before .before .unset .ensures .0) (c .before .before .before .before .before .before .before .before .before .before .before .before .count .ensures .0)
-    (c .before .before .before .before .before .before .before .before .before .before .before .point .ensures .0) (toZ-ofZ (fits32 (getD (p .draft) ((c .before .before .before .before .before .before .before .before .before .before .before .point .result)) (pos 0)) ((c .before .before .before .before .before .before .before .before .before .before .old .given)))) ((c .before .before .decide-replay .ensures) (unlinked _ _ _ _)) in
+    (c .before .before .before .before .before .before .before .before .before .before .before .point .ensures .0) (toZ-ofZ (fits32 (getD (p .draft) ((c .before .before .before .before .before .before .before .before .before .before .before .point .result)) (pos 0)) ((c .before .before .before .before .before .before .before .before .before .before .old .given)))) (c .before .before .decide-replay .ensures) (unlinked _ _ _ _) in
     let amount = toZ-ofZ (fits32 (d .amount) ((c .before .struct-told .given .0 .1))) in
     rw (amount, g .1, g .2, g .0) (replay-meets p (owned-sized p (s .good .0)) (s .args .n))
 

@@ -1,6 +1,7 @@
 use mathlib.Core.Path.{_≡_, _∙_}
 use mir.Facts.{toZ-ofZ}
 use Rattle.records.specs.Records.{recordOf}
+use Rattle.rules.specs.Rules.{testedBy}
 use Rattle.settling.specs.Replays.{replayOutcome, replayDecision}
 use borrow.Author.Needs.{needs}
 use Rattle.settling.proofs.decide_replay.Statement.{statement}
@@ -25,14 +26,13 @@ replay-decision-requires c κs = search needs
 
 returns : tie.Need-returns
 returns c =
-    λ h.
     let s = (c .before .before .before .before) in
     let a = s .args in
     let e = (c .before .before .before .found .ensures) in
     let earlier = (c .before .before .found2 .ensures) in
     let old = toZ-ofZ (s .fits .old) in
-    let outcome : (c .before .replay-outcome .result) ≡ replayOutcome (a .sound) (a .h) (a .lower .now) (a .gap .now) (a .upper .now) (a .draft .now) (a .missing) (recordOf (a .i) (a .standing)) (recordOf (a .j) (a .seen)) (a .old) =
-    (c .before .replay-outcome .ensures) h ∙ (λ i. replayOutcome (a .sound) (a .h) (a .lower .now) (a .gap .now) (a .upper .now) (a .draft .now) (a .missing) (e i) (earlier i) (old i))
+    let outcome : (c .before .replay-outcome .result) ≡ replayOutcome (testedBy (a .sound) (a .links .now)) (a .h) (a .lower .now) (a .gap .now) (a .upper .now) (a .draft .now) (a .missing) (recordOf (a .i) (a .standing)) (recordOf (a .j) (a .seen)) (a .old) =
+    (c .before .replay-outcome .ensures) ∙ (λ i. replayOutcome (testedBy (a .sound) (a .links .now)) (a .h) (a .lower .now) (a .gap .now) (a .upper .now) (a .draft .now) (a .missing) (e i) (earlier i) (old i))
     in
     (c .replay-decision .ensures) ∙ (λ i. replayDecision (outcome i) (a .standing) (old i) (a .place))
 

@@ -1,6 +1,7 @@
 use mathlib.Core.Path.{sym, ap, _∙_}
 use borrow.Author.Tests.{eq-eqb, ne-eqb, not-true, not-false}
 use mir.Facts.{toZ-ofZ}
+use Rattle.rules.specs.Rules.{testedBy}
 use Rattle.settling.specs.Replays.{draftOutcome, replayOutcome}
 use borrow.Author.Needs.{needs}
 use Rattle.settling.proofs.replay_outcome.Statement.{statement}
@@ -16,11 +17,11 @@ is-active-requires c κs = search needs
 
 returns : tie.Need-returns
 unfolding replayOutcome
-returns c = λ h. rw (sym ((c .before .is-active .ensures)) ∙ not-true _ ((c .if1 .taken)))
+returns c = rw (sym ((c .before .is-active .ensures)) ∙ not-true _ ((c .if1 .taken)))
 
 returns-2 : tie.Need-returns-2
 unfolding replayOutcome
-returns-2 c = λ h.
+returns-2 c =
     rw (sym ((c .before .before .is-active .ensures)) ∙ not-false _ ((c .before .if1 .left)), ne-eqb _ 0 ((c .if2 .taken)))
 
 is-waiting-requires : tie.Need-is-waiting-requires
@@ -28,7 +29,7 @@ is-waiting-requires c κs = search needs
 
 returns-3 : tie.Need-returns-3
 unfolding replayOutcome
-returns-3 c = λ h.
+returns-3 c =
     rw (sym ((c .before .before .before .before .is-active .ensures)) ∙ not-false _ ((c .before .before .before .if1 .left)), eq-eqb _ 0 ((c .before .before .if2 .left)), sym ((c .before .is-waiting .ensures)) ∙ not-true _ ((c .if3 .taken)))
 
 is-waiting-requires-2 : tie.Need-is-waiting-requires-2
@@ -36,7 +37,7 @@ is-waiting-requires-2 c κs = search needs
 
 returns-4 : tie.Need-returns-4
 unfolding replayOutcome
-returns-4 c = λ h.
+returns-4 c =
     rw (sym ((c .before .before .before .before .before .before .is-active .ensures)) ∙ not-false _ ((c .before .before .before .before .before .if1 .left)), eq-eqb _ 0 ((c .before .before .before .before .if2 .left)), sym ((c .before .before .before .is-waiting .ensures)) ∙ not-false _ ((c .before .before .if3 .left)), sym ((c .before .is-waiting2 .ensures)) ∙ (c .if4 .taken))
 
 try-draft-requires : tie.Need-try-draft-requires
@@ -44,10 +45,10 @@ try-draft-requires c κs = search needs
 
 returns-5 : tie.Need-returns-5
 unfolding replayOutcome
-returns-5 c = λ h.
+returns-5 c =
     let a = (c .before .before .before .before .before .before .before .before .args) in
     rw (sym ((c .before .before .before .before .before .before .before .is-active .ensures)) ∙ not-false _ ((c .before .before .before .before .before .before .if1 .left)), eq-eqb _ 0 ((c .before .before .before .before .before .if2 .left)), sym ((c .before .before .before .before .is-waiting .ensures)) ∙ not-false _ ((c .before .before .before .if3 .left)), sym ((c .before .before .is-waiting2 .ensures)) ∙ (c .before .if4 .left))
-    ((c .try-draft .ensures h) ∙ ap (draftOutcome (a .sound) (a .h) (a .lower .now) (a .gap .now) (a .upper .now) (a .draft .now) (a .e .measure) (a .e .change)) (toZ-ofZ ((c .before .before .before .before .before .before .before .before .fits .old))))
+    ((c .try-draft .ensures) ∙ ap (draftOutcome (testedBy (a .sound) (a .links .now)) (a .h) (a .lower .now) (a .gap .now) (a .upper .now) (a .draft .now) (a .e .measure) (a .e .change)) (toZ-ofZ ((c .before .before .before .before .before .before .before .before .fits .old))))
 
 pub replay-outcome-spec : {M : Type 1} → statement M
 replay-outcome-spec =

@@ -8,7 +8,7 @@ use Rattle.exact.proofs.Ints.{fits32}
 use Rattle.protocol.specs.Plan as model
 use Rattle.protocol.specs.Lists.{oneTo}
 use Rattle.change.specs.Change.{viewChange}
-use Rattle.rules.specs.Rules.{LinkedIf, testedIn, trialOf}
+use Rattle.rules.specs.Rules.{testedBy, trialOf}
 use Rattle.rules.proofs.Rows.{trial-out, trial-broken, trial-effective}
 use Rattle.settling.specs.declared.Outcome.the-variants.{Settled}
 use Rattle.settling.specs.Replays.{draftIn, effectiveIn, draftOutcome}
@@ -33,10 +33,10 @@ module _ (c : tie.After-try-change) where
   ch = viewChange (start .args .change)
 
   abbrev test : List ℤ → Bool
-  test = testedIn (start .args .sound) (start .args .m) (start .args .lower .now) (start .args .gap .now) (start .args .upper .now) (min (start .args .h .rules) 64)
+  test = testedBy (start .args .sound) (start .args .links .now) (start .args .m) (start .args .lower .now) (start .args .gap .now) (start .args .upper .now) (min (start .args .h .rules) 64)
 
-  trial : LinkedIf (start .args .sound) (start .args .links .now) (start .args .lower .now) (start .args .upper .now) (min (start .args .h .rules) 64) → c .try-change .result ≡ trialOf test (start .args .m) ch vs
-  trial h = c .try-change .ensures h
+  trial : c .try-change .result ≡ trialOf test (start .args .m) ch vs
+  trial = c .try-change .ensures
 
 capped-requires : tie.Need-capped-requires
 capped-requires c κs = search needs
@@ -52,10 +52,10 @@ one-to-requires c κs = search needs
 
 returns : tie.Need-returns
 unfolding draftOutcome effectiveIn
-returns c = λ h.
+returns c =
     let p = (c .before .before .before .before .before) in
     let x = (c .before .before .before .tried .given .0 .0) in
-    let t = trial-effective (test p) (start p .args .m) (ch p) (vs p) x (sym ((c .before .before .before .tried .given .1)) ∙ trial p h) in
+    let t = trial-effective (test p) (start p .args .m) (ch p) (vs p) x (sym ((c .before .before .before .tried .given .1)) ∙ trial p) in
     let o : oneTo (min (start p .args .h .drafted) 32) (start p .args .m) ≡ true = ap (λ n. oneTo n (start p .args .m)) (sym ((c .before .before .before .before .before .before .capped .ensures))) ∙ sym ((c .before .one-to .ensures)) ∙ (c .if1 .taken) in
     rw (t .0, t .1, o) (ap (Settled true) (toZ-ofZ (fits32 x ((c .before .before .known-told .given .0 .1))) ∙ t .2))
 
@@ -67,24 +67,24 @@ enum-told-2 c = search needs
 
 returns-2 : tie.Need-returns-2
 unfolding draftOutcome effectiveIn
-returns-2 c = λ h.
+returns-2 c =
     let p = (c .before .before .before .before .before) in
-    let t = trial-effective (test p) (start p .args .m) (ch p) (vs p) _ (sym ((c .before .before .before .tried .given .1)) ∙ trial p h) in
+    let t = trial-effective (test p) (start p .args .m) (ch p) (vs p) _ (sym ((c .before .before .before .tried .given .1)) ∙ trial p) in
     let o : oneTo (min (start p .args .h .drafted) 32) (start p .args .m) ≡ false = ap (λ n. oneTo n (start p .args .m)) (sym ((c .before .before .before .before .before .before .capped .ensures))) ∙ sym ((c .before .one-to .ensures)) ∙ (c .if1 .left) in
     rw (t .0, t .1, o) (ap (Settled true) (toZ-ofZ ((c .before .before .before .before .before .before .before .fits .old))))
 
 returns-3 : tie.Need-returns-3
 unfolding draftOutcome effectiveIn
-returns-3 c = λ h.
+returns-3 c =
     let p = (c .before .before) in
-    let t = trial-out (test p) (start p .args .m) (ch p) (vs p) (sym ((c .enum-told .given .1)) ∙ trial p h) in
+    let t = trial-out (test p) (start p .args .m) (ch p) (vs p) (sym ((c .enum-told .given .1)) ∙ trial p) in
     rw (t, toZ-ofZ ((c .before .before .before .before .fits .old)))
 
 returns-4 : tie.Need-returns-4
 unfolding draftOutcome effectiveIn
-returns-4 c = λ h.
+returns-4 c =
     let p = (c .before .before) in
-    let t = trial-broken (test p) (start p .args .m) (ch p) (vs p) (sym ((c .enum-told2 .given .1)) ∙ trial p h) in
+    let t = trial-broken (test p) (start p .args .m) (ch p) (vs p) (sym ((c .enum-told2 .given .1)) ∙ trial p) in
     rw (t .0, t .1, toZ-ofZ ((c .before .before .before .before .fits .old)))
 
 pub try-draft-spec : {M : Type 1} → statement M
