@@ -1,14 +1,20 @@
 -- The checks of send, stop, confirm and install from what is lent to them, and the heads that the calls leave. Assumes nothing.
-use Prim.Native.Nat.{ℕ}
-use mathlib.Core.Bool.{Bool, not, _||_}
+use Prim.Native.Nat.{ℕ, _<_, _≤_}
+use mathlib.Core.Bool.{Bool, true, not, _||_}
 use mathlib.Core.List.{List, [], _∷_}
 use lib.Dec.{eqb, ltb}
+use lib.ListN.{length, getD}
+use mathlib.Core.Path.{_≡_}
 use Rattle.protocol.specs.Lists.{none, oneTo}
 use Rattle.protocol.specs.Plan.{joining, closing, modeNumber, is, active}
-use Rattle.protocol.specs.Calls.{Check, _unless_, _when_}
+use Rattle.protocol.specs.Calls.{Check, _unless_, _when_, Verdict, fine, refused, first, sent}
 use Rattle.heads.specs.declared.Head.{Head}
 use Rattle.heads.specs.declared.Mode.the-variants.{Whole}
-use Rattle.heads.specs.Heads.{modeOf, sidesIn}
+use Rattle.heads.specs.Heads.{modeOf, sidesIn, keptIn}
+use Rattle.state.specs.declared.Answer.the-variants.{Refused, Number}
+use Rattle.records.specs.declared.EditRecord.{EditRecord}
+use Rattle.records.specs.Records.{keptAt, noRecord}
+use Rattle.turns.specs.declared.Sending.{Sending}
 
 -- ---- checks
 
@@ -28,6 +34,23 @@ confirmChecks h s confirmed unsent =
 
 abbrev pub installChecks : Head → ℕ → ℕ → List Check
 installChecks h missing waiting = turnChecks h (modeNumber closing) 40 missing waiting
+
+-- ---- what send decides
+
+-- the edits of its side among the kept ones are marked; a refused send marks none
+abbrev pub sendBy : Verdict → Head → Bool → ℕ → Sending
+sendBy fine h arrived unsent = record { marked = keptIn h; arrived = true; answer = Number unsent }
+sendBy (refused k) h arrived unsent = record { marked = 0; arrived = arrived; answer = Refused k }
+
+abbrev pub sendDecision : Head → ℕ → Bool → ℕ → Sending
+sendDecision h s arrived unsent = sendBy (first (sendChecks h s arrived unsent)) h arrived unsent
+
+-- The first i kept edits are sent where they are unsent and side s's; the rest are as before.
+pub record Marked (s : ℕ) (before next : List EditRecord) (i : ℕ) : Type 0 where
+  pub size : length next ≡ 256
+  pub done : (j : ℕ) → j < i → (n : ℕ) → keptAt n (getD next j noRecord) ≡ sent s (keptAt n (getD before j noRecord))
+  pub rest : (j : ℕ) → i ≤ j → getD next j noRecord ≡ getD before j noRecord
+  pub none : i ≡ 0 → next ≡ before
 
 -- ---- heads
 

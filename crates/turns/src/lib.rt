@@ -1,16 +1,16 @@
 // The checks of send, stop, confirm and install, the heads that they leave, and edits sent. Read only.
 ghost use mathlib.Core.Path.{_≡_};
-ghost use mathlib.Core.List.{map};
-ghost use Prim.Native.Nat.{ℕ};
+ghost use Prim.Native.Nat.{ℕ, min};
 ghost use Rattle.protocol.specs.Calls.{sent, first};
-ghost use Rattle.records.specs.Records.{keptAt, keptOf};
+ghost use Rattle.records.specs.Records.{keptAt};
 ghost use Rattle.state.specs.Meets.{refusalOf};
-ghost use Rattle.turns.specs.Moves.{sendChecks, turnChecks, stopChecks, confirmChecks, installChecks, installHead};
+ghost use Rattle.turns.specs.Moves.{sendChecks, sendDecision, Marked, turnChecks, stopChecks, confirmChecks, installChecks, installHead};
 use heads::Head;
 use heads::Mode;
 use records::EditRecord;
 use records::Fate;
 use records::Test;
+use state::Answer;
 
 // ---- checks
 
@@ -85,6 +85,33 @@ pub fn install_refusal(h: Head, missing: u32, waiting: u32) -> u32
     turn_refusal(h, 4, 40, missing, waiting)
 }
 
+// What send stores besides: of how many kept edits those of its side are marked, the side's flag, and its answer.
+pub struct Sending {
+    pub marked: usize,
+    pub arrived: bool,
+    pub answer: Answer,
+}
+
+pub fn decide_send(h: Head, s: u32, arrived: bool, unsent: u32) -> Sending
+    ensures { λ r. ⌜ r ≡ sendDecision h s arrived unsent ⌝ }
+{
+    let k = send_refusal(h, s, arrived, unsent);
+    if k != 0 {
+        let answer = Answer::Refused(k);
+        return Sending {
+            marked: 0,
+            arrived,
+            answer,
+        };
+    }
+    let answer = Answer::Number(unsent);
+    Sending {
+        marked: rows::capped(h.kept, 256),
+        arrived: true,
+        answer,
+    }
+}
+
 // ---- heads
 
 // The kept edits' numbers go on ending below the next number of now.
@@ -99,8 +126,8 @@ pub fn install_head(h: Head) -> Head
 
 // ---- kept edits
 
-// An unsent edit of a side is sent.
-fn sent_record(e: EditRecord, s: u32) -> EditRecord
+// An unsent edit of a side is sent; another stays as it is.
+pub fn sent_record(e: EditRecord, s: u32) -> EditRecord
     ensures { λ r. ⌜ ((n : ℕ) → keptAt n r ≡ sent s (keptAt n e)) ⌝ }
 {
     if records::satisfies(e, Test::UnsentOf(s)) == 0 {
@@ -111,10 +138,17 @@ fn sent_record(e: EditRecord, s: u32) -> EditRecord
     r
 }
 
-pub fn mark_sent(edits: [EditRecord; 256], h: Head, s: u32) -> [EditRecord; 256]
-    ensures { λ r. ⌜ keptOf h r ≡ map (sent s) (keptOf h edits) ⌝ }
+fn at_most_all(n: usize) -> usize
+    ensures { λ r. ⌜ r ≡ min n 256 ⌝ }
 {
-    let k = rows::capped(h.kept, 256);
+    if n < 256 { n } else { 256 }
+}
+
+// The edits with those of a side marked among the first so many.
+pub fn mark_sent(edits: [EditRecord; 256], marked: usize, s: u32) -> [EditRecord; 256]
+    ensures { λ r. ⌜ Marked s edits r (min marked 256) ⌝ }
+{
+    let k = at_most_all(marked);
     let mut next = edits;
     let mut i: usize = 0;
     while i < k {

@@ -1,29 +1,30 @@
-use mathlib.Core.Path.{_≡_}
+use mathlib.Core.Path.{_≡_, _∙_, subst}
 use borrow.Author.Needs.{needs}
 use native.Mathlib.Omega.{arith}
 use Prim.Native.Nat.{_-_, _≤_}
 use lib.ListN.{length}
 use Rattle.state.proofs.Views.{unmapped}
-use Rattle.turns.proofs.Sends.{Sent, sent-begin, sent-next, sent-over}
+use Rattle.turns.proofs.Sends.{marked-begin, marked-next}
 use Rattle.turns.proofs.mark_sent.Statement.{statement}
 use Rattle.turns.proofs.mark_sent.Tie as tie
 use Rattle.turns.proofs.mark_sent.Reads as reads
 use Rattle.turns.proofs.mark_sent.Lts as lts
 use Rattle.turns.proofs.sent_record.Reads as sent-record-reads
-use Rattle.rows.proofs.capped.Reads as capped-reads
+use Rattle.turns.specs.Moves.{Marked}
+use Rattle.turns.proofs.at_most_all.Reads as at-most-all-reads
 
 abbrev Inv-loop : tie.InvT-loop
-Inv-loop s k next₀ i₀ next i = (i ≤ k) × (k ≤ 256) × Sent s next₀ next i
+Inv-loop marked s k next₀ i₀ next i = (i ≤ k) × (k ≤ 256) × Marked s next₀ next i
 
 abbrev μ-loop : tie.MeasureT-loop
-μ-loop s k next₀ i₀ next i = k - i
+μ-loop marked s k next₀ i₀ next i = k - i
 
-capped-requires : tie.Need-capped-requires Inv-loop μ-loop
-capped-requires c κs = search needs
+at-most-all-requires : tie.Need-at-most-all-requires Inv-loop μ-loop
+at-most-all-requires c κs = search needs
 
 loop-holds : tie.Need-loop-holds Inv-loop μ-loop
 loop-holds c =
-    let l : length ((c .before .args .edits)) ≡ 256 = search unmapped in (omega arith, omega (arith, (c .capped .ensures)), sent-begin _ _ l)
+    let l : length ((c .before .args .edits)) ≡ 256 = search unmapped in (omega arith, omega (arith, (c .at-most-all .ensures)), marked-begin _ _ l)
 
 mul-e : tie.Need-mul-e Inv-loop μ-loop
 mul-e c = omega arith
@@ -48,11 +49,13 @@ loop-less c = omega arith
 
 loop-again : tie.Need-loop-again Inv-loop μ-loop
 loop-again c =
-    (omega arith, (c .before .before .before .loop .inv .1), sent-next _ _ _ _ _ (omega (arith, (c .before .before .before .loop .inv .1))) ((c .before .before .before .loop .inv .2)) ((c .sent-record .ensures)))
+    (omega arith, (c .before .before .before .loop .inv .1), marked-next _ _ _ _ _ (omega (arith, (c .before .before .before .loop .inv .1))) ((c .before .before .before .loop .inv .2)) ((c .sent-record .ensures)))
 
 returns : tie.Need-returns Inv-loop μ-loop
 returns c =
-    sent-over _ ((c .before .before .before .args .h)) _ _ _ (omega (arith, (c .before .before .capped .ensures), (c .loop-test))) ((c .before .loop .inv .2))
+    let w = (c .before .loop .inv) in
+    let e : (c .before .loop .i) ≡ (c .before .before .at-most-all .result) = (let a = w .0 in let b = (c .loop-test) in omega (arith, a, b)) in
+    subst (Marked (c .before .before .before .args .s) (c .before .before .before .args .edits) (c .before .loop .next)) (e ∙ (c .before .before .at-most-all .ensures)) (w .2)
 
 pub mark-sent-spec : {M : Type 1} → statement M
 mark-sent-spec =
@@ -60,7 +63,7 @@ mark-sent-spec =
     (tie.spec
     Inv-loop
     μ-loop
-    capped-requires
+    at-most-all-requires
     loop-holds
     mul-e
     array-copy-out-e

@@ -1,8 +1,7 @@
 use Rattle.records.specs.Records.{keptAt, testOf}
 use Rattle.records.specs.declared.Test.the-variants.{UnsentOf}
 use mathlib.Core.Path.{sym, _∙_}
-use Rattle.protocol.proofs.Laws.{bit-zero, no-is}
-use Rattle.turns.proofs.Sends.{bit-some}
+use Rattle.turns.proofs.Sends.{bit-some, sent-other}
 use borrow.Author.Needs.{needs}
 use Rattle.turns.proofs.sent_record.Statement.{statement}
 use Rattle.turns.proofs.sent_record.Tie as tie
@@ -15,11 +14,7 @@ satisfies-requires : tie.Need-satisfies-requires
 satisfies-requires c κs = search needs
 
 returns : tie.Need-returns
-returns c =
-    λ n.
-    let e = ((c .before .before .args .e)) in
-    let s = ((c .before .before .args .s)) in
-    rw (no-is (testOf (UnsentOf s) (keptAt n e)) (bit-zero (testOf (UnsentOf s) (keptAt n e)) (sym ((c .before .satisfies .ensures)) ∙ ((c .if1 .taken)))))
+returns c = sent-other (c .before .before .args .s) (c .before .before .args .e) (sym (c .before .satisfies .ensures) ∙ (c .if1 .taken))
 
 with-fate-requires : tie.Need-with-fate-requires
 with-fate-requires c κs = search needs
