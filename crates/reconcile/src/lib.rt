@@ -1,16 +1,13 @@
 // The calls of a join under way, but for replay: send, stop, confirm, install (01, "The calls").
-// Each is made on a part of a state, with the counts of kept edits that it asks for: stop, confirm and install on its frame, send on its
-// kept edits. A caller that owns a state does so with counts of its own.
+// stop, confirm and install are made on the frame of a state, with the counts of kept edits that they ask for. A caller that owns a state
+// does so with counts of its own.
 ghost use Rattle.protocol.specs.Lists.{natural};
 ghost use Rattle.protocol.specs.Calls.{send, stop, confirm, install};
 ghost use Rattle.state.specs.Meets.{Meets};
 ghost use Rattle.frames.specs.Frames.{Waiting, Unsent, Moves};
-ghost use Rattle.reconcile.specs.Sends.{Sends};
 use frames::Frame;
 use frames::Moved;
-use heads::Head;
 use heads::Mode;
-use records::EditRecord;
 use records::Test;
 use state::Answer;
 use state::Answered;
@@ -72,35 +69,6 @@ pub fn install_frame(f: Frame, waiting: u32) -> Moved
     Moved { frame: g, answer }
 }
 
-// What send makes of the kept edits and of its side's flag, and its answer.
-pub struct Sent {
-    pub edits: [EditRecord; 256],
-    pub arrived: bool,
-    pub answer: Answer,
-}
-
-pub fn send_edits(edits: [EditRecord; 256], h: Head, s: i32, arrived: bool, unsent: u32) -> Sent
-    ensures { λ r. ⌜ Sends s h edits arrived unsent r ⌝ }
-{
-    let side = exact::number(s);
-    let k = turns::send_refusal(h, side, arrived, unsent);
-    if k != 0 {
-        let answer = Answer::Refused(k);
-        return Sent {
-            edits,
-            arrived,
-            answer,
-        };
-    }
-    let next = turns::mark_sent(edits, h, side);
-    let answer = Answer::Number(unsent);
-    Sent {
-        edits: next,
-        arrived: true,
-        answer,
-    }
-}
-
 // ---- the calls on a state
 
 pub fn send(p: State, s: i32) -> Answered
@@ -112,13 +80,12 @@ pub fn send(p: State, s: i32) -> Answered
     let n = records::count(edits, h, Test::UnsentOf(side));
     let i = heads::index(side);
     let flag = p.arrived[i];
-    let r = send_edits(edits, h, s, flag, n);
-    let next = r.edits;
-    let arrived = r.arrived;
-    let answer = r.answer;
+    let d = turns::decide_send(h, side, flag, n);
+    let next = turns::mark_sent(edits, d.marked, side);
+    let answer = d.answer;
     let mut q = p;
     q.edits = next;
-    q.arrived[i] = arrived;
+    q.arrived[i] = d.arrived;
     Answered { state: q, answer }
 }
 

@@ -1,13 +1,13 @@
-use mathlib.Core.Path.{_≡_, ap, subst, _∙_}
-use mathlib.Core.Bool.{false}
+use native.Mathlib.Omega.{arith}
+use mathlib.Core.Path.{_≡_, ap, _∙_}
 use lib.ListN.{length, getD}
+use mathlib.Core.Bool.{false}
+use mir.Facts.{toZ-ofZ}
 use Rattle.protocol.specs.Lists.{natural}
 use Rattle.protocol.specs.Plan.{unsentOf}
-use Rattle.heads.specs.Heads.{indexOf}
 use Rattle.records.specs.Records.{keptOf}
-use Rattle.frames.specs.Frames.{frameOf}
-use Rattle.reconcile.specs.Sends.{Sends}
-use mir.Facts.{toZ-ofZ}
+use Rattle.turns.proofs.Sends.{send-few}
+use Rattle.reconcile.proofs.Moves.{Named, send-decided}
 use borrow.Author.Needs.{needs}
 use Rattle.reconcile.proofs.send.Statement.{statement}
 use Rattle.reconcile.proofs.send.Tie as tie
@@ -15,8 +15,9 @@ use Rattle.reconcile.proofs.send.Reads as reads
 use Rattle.reconcile.proofs.send.Lts as lts
 use Rattle.exact.proofs.number.Reads as number-reads
 use Rattle.heads.proofs.index.Reads as index-reads
-use Rattle.reconcile.proofs.send_edits.Reads as send-edits-reads
 use Rattle.records.proofs.count.Reads as count-reads
+use Rattle.turns.proofs.decide_send.Reads as decide-send-reads
+use Rattle.turns.proofs.mark_sent.Reads as mark-sent-reads
 
 flags : (c : tie.Start) → length (c .args .t1 .arrived) ≡ 8
 flags c = search needs
@@ -33,8 +34,11 @@ index-requires c κs = search needs
 element-copy-out-flag : tie.Need-element-copy-out-flag
 element-copy-out-flag c = search needs
 
-send-edits-requires : tie.Need-send-edits-requires
-send-edits-requires c κs = search needs
+decide-send-requires : tie.Need-decide-send-requires
+decide-send-requires c κs = search needs
+
+mark-sent-requires : tie.Need-mark-sent-requires
+mark-sent-requires c κs = search needs
 
 element-write-q : tie.Need-element-write-q
 element-write-q c = search needs
@@ -43,11 +47,12 @@ returns : tie.Need-returns
 returns c =
     let s = (c .before .before .before .before .before .before .before .before) in
     let p = s .args .t1 in
-    let z = toZ-ofZ (s .fits .s) in
-    let number = (c .before .before .before .before .before .number .ensures) ∙ ap natural z in
-    let i = (c .before .before .before .index .ensures .0) ∙ ap indexOf number in
-    rw i (subst (λ x. Sends x (p .head) (p .edits) (getD (p .arrived) ((c .before .before .before .index .result)) false) ((c .before .before .before .before .count .result)) ((c .before .send-edits .result))) z ((c .before .send-edits .ensures))
-    (frameOf p) (p .arrived) (p .lower) (p .gap) (p .upper) (p .firm) (flags s) (ap (λ j. getD (p .arrived) j false) i) (λ t. (c .before .before .before .before .count .ensures .0) ∙ ap (λ x. unsentOf x (keptOf (p .head) (p .edits))) number))
+    let d = (c .before .decide-send .result) in
+    let number = (c .before .before .before .before .before .number .ensures) ∙ ap natural (toZ-ofZ (s .fits .s)) in
+    let few = send-few (p .head) (c .before .before .before .before .before .number .result) (getD (p .arrived) (c .before .before .before .index .result) false) (c .before .before .before .before .count .result) d (c .before .decide-send .ensures) in
+    let w : Named p (s .args .s) (c .before .before .before .before .before .number .result) (c .before .before .before .index .result) (c .before .before .before .before .count .result) =
+    record { number = number; place = (c .before .before .before .index .ensures .0); unsent = λ t. (c .before .before .before .before .count .ensures .0) ∙ ap (λ x. unsentOf x (keptOf (p .head) (p .edits))) number } in
+    send-decided p (s .args .s) d (c .mark-sent .result) w (flags s) (c .before .decide-send .ensures) (c .mark-sent .ensures) (omega (arith, few))
 
 pub send-spec : {M : Type 1} → statement M
 send-spec =
@@ -57,6 +62,7 @@ send-spec =
     count-requires
     index-requires
     element-copy-out-flag
-    send-edits-requires
+    decide-send-requires
+    mark-sent-requires
     element-write-q
     returns)
