@@ -5,11 +5,11 @@ use mathlib.Core.Path.{_≡_, refl, sym, ap, _∙_}
 use mathlib.Core.List.{[], _∷_}
 use lib.Dec.{eqb}
 use lib.IntN.{ℤ, pos}
-use lib.ListN.{getD}
+use lib.ListN.{length, getD}
 use Rattle.protocol.specs.Lists.{natural, count}
-use Rattle.protocol.specs.Plan.{isOpen, measureLimit}
+use Rattle.protocol.specs.Plan.{isOpen, measureLimit, active}
 use Rattle.protocol.specs.Calls.{show, fate-of, left, Verdict, fine, refused, first, checks, further, after, gives, step, Stepped, ok}
-use Rattle.protocol.proofs.Laws.{cases, yes-is}
+use Rattle.protocol.proofs.Laws.{cases, is-yes, yes-is}
 use Rattle.format.specs.Sheets.{stepOf}
 use Rattle.guarantee.proofs.Kept.{settled-count}
 use Rattle.rows.specs.Rows.{row}
@@ -18,15 +18,14 @@ use Rattle.state.specs.declared.State.{State}
 use Rattle.state.specs.declared.Answer.{Answer}
 use Rattle.state.specs.declared.Answer.the-variants.{Refused, Done, Number, Pair}
 use Rattle.state.specs.View.{view}
-use Rattle.records.specs.Records.{keptAt, noRecord}
-use Rattle.heads.specs.Heads.{endIn, keptIn}
-use Rattle.heads.specs.Heads.{positionOf, placeOf}
+use Rattle.records.specs.Records.{keptAt, keptOf, noRecord}
+use Rattle.heads.specs.Heads.{modeOf, endIn, keptIn, positionOf, placeOf}
 use Rattle.state.specs.Meets.{answerOf}
 use Rattle.state.proofs.Meeting.{fine-pass}
 use Rattle.figures.specs.Reads.{fateAnswer, showChecks, leftNumber}
 use Rattle.query.proofs.Readings.{fate-is, left-by, show-checks, shown-row}
 use Rattle.tally.specs.declared.Tallies.{Tallies}
-use Rattle.tally.specs.Tallies.{Counted}
+use Rattle.tally.specs.Tallies.{Counted, Tallied}
 use Rattle.reads.specs.declared.Reading.{Reading}
 use Rattle.reads.specs.Readings.{readCall, alone, showBy, showReading, readingOf}
 use Rattle.writer.specs.Writes.{withRow}
@@ -38,12 +37,22 @@ alone-row Done = refl
 alone-row (Number n) = refl
 alone-row (Pair a b) = refl
 
-module _ (p : State) (t : Tallies) (h : Counted t (view p .content .kept)) where
+-- counts made from the records, and the number left from them, are the plan's
+pub tallies-right : (p : State) (t : Tallies) → Counted t (keptOf (p .head) (p .edits)) → length (t .unsent) ≡ 8 → t .left ≡ leftNumber (p .head) (p .arrived) (p .confirmed) (t .unsent) (min (keptIn (p .head) - t .settled) 256) → Tallied t (view p)
+tallies-right p t h l e =
+    let ks = view p .content .kept in
+    let c = settled-count ks in
+    let n = length-span 0 (keptIn (p .head)) (λ i. keptAt (endIn (p .head) - (keptIn (p .head) - i)) (getD (p .edits) i noRecord)) in
+    let s = h .settled in
+    let rest : min (keptIn (p .head) - t .settled) 256 ≡ count isOpen ks = omega arith in
+    record { long = l; counted = h; left = λ a. e ∙ ap (leftNumber (p .head) (p .arrived) (p .confirmed) (t .unsent)) rest ∙ left-by p (t .unsent) (h .unsent) ∙ rw (yes-is (active (modeOf (p .head .mode))) a) }
+
+module _ (p : State) (t : Tallies) (h : Tallied t (view p)) where
   abbrev pub placeIn : ℤ → ℕ
   placeIn a = positionOf (endIn (p .head)) (keptIn (p .head)) (natural a)
 
   abbrev pub readingIn : ℕ → ℤ → Reading
-  readingIn op a = readingOf op a (p .head) (placeIn a) (getD (p .edits) (placeOf (placeIn a)) noRecord) (p .arrived) (p .confirmed) (t .unsent) (t .settled)
+  readingIn op a = readingOf op a (p .head) (placeIn a) (getD (p .edits) (placeOf (placeIn a)) noRecord) (t .left)
 
   -- what is wanted of a reading
   Right : Reading → Stepped → Type 0
@@ -66,12 +75,7 @@ module _ (p : State) (t : Tallies) (h : Counted t (view p .content .kept)) where
   left-right : (a : ℤ) → Right (readingIn 14 a) (step left (view p))
   unfolding step checks further gives after Right
   left-right a =
-      let ks = view p .content .kept in
-      let c = settled-count ks in
-      let l = length-span 0 (keptIn (p .head)) (λ i. keptAt (endIn (p .head) - (keptIn (p .head) - i)) (getD (p .edits) i noRecord)) in
-      let s = h .settled in
-      let rest : min (keptIn (p .head) - t .settled) 256 ≡ count isOpen ks = omega arith in
-      (ap (λ n. ok (pos n ∷ [])) (ap (leftNumber (p .head) (p .arrived) (p .confirmed) (t .unsent)) rest ∙ left-by p (t .unsent) (h .unsent)), refl)
+      cases (active (modeOf (p .head .mode))) (λ e. rw (e, h .left (is-yes e)) (refl, refl)) (λ e. rw e (refl, refl))
 
   pub reading-right : (op : ℕ) (a : ℤ) → (withRow (answerOf (readingIn op a .answer)) (row (p .values) (readingIn op a .from) (readingIn op a .width)) ≡ stepOf (readCall op a) (view p) .answer) × (stepOf (readCall op a) (view p) .plan ≡ view p)
   unfolding Right step

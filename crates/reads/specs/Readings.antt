@@ -1,19 +1,18 @@
 -- What the reading calls answer from what is lent to them. Assumes nothing.
-use Prim.Native.Nat.{ℕ, _-_, min}
-use mathlib.Core.Bool.{Bool, cond}
-use mathlib.Core.List.{List}
+use Prim.Native.Nat.{ℕ}
+use mathlib.Core.Bool.{cond}
 use mathlib.Core.Option.{Option, none, some}
 use lib.Dec.{eqb}
 use lib.IntN.{ℤ}
 use Rattle.protocol.specs.Lists.{natural}
-use Rattle.protocol.specs.Plan.{measureLimit}
+use Rattle.protocol.specs.Plan.{measureLimit, active}
 use Rattle.protocol.specs.Calls.{Call, show, fate-of, left, Verdict, fine, refused, first}
 use Rattle.records.specs.declared.EditRecord.{EditRecord}
 use Rattle.heads.specs.declared.Head.{Head}
 use Rattle.state.specs.declared.Answer.{Answer}
 use Rattle.state.specs.declared.Answer.the-variants.{Refused, Done, Number}
-use Rattle.heads.specs.Heads.{keptIn, offsetOf, measuresIn}
-use Rattle.figures.specs.Reads.{fateAnswer, showChecks, leftNumber}
+use Rattle.heads.specs.Heads.{modeOf, offsetOf, measuresIn}
+use Rattle.figures.specs.Reads.{fateAnswer, showChecks}
 use Rattle.reads.specs.declared.Reading.{Reading}
 
 -- the reading calls by their number in the order of 01
@@ -30,8 +29,9 @@ showBy (refused k) h s = alone (Refused k)
 abbrev pub showReading : Head → ℕ → Reading
 showReading h s = showBy (first (showChecks h s measureLimit)) h s
 
-abbrev pub readingOf : ℕ → ℤ → Head → ℕ → EditRecord → List Bool → List Bool → List ℕ → ℕ → Reading
-readingOf op a h i e arrived confirmed unsent settled =
-    cond (eqb op 12) (showReading h (natural a))
-    (cond (eqb op 13) (alone (fateAnswer i e))
-    (cond (eqb op 14) (alone (Number (leftNumber h arrived confirmed unsent (min (keptIn h - settled) 256)))) (alone (Refused 51))))
+abbrev pub leftAnswer : Head → ℕ → Answer
+leftAnswer h n = Number (cond (active (modeOf (h .mode))) n 0)
+
+abbrev pub readingOf : ℕ → ℤ → Head → ℕ → EditRecord → ℕ → Reading
+readingOf op a h i e n =
+    cond (eqb op 12) (showReading h (natural a)) (cond (eqb op 13) (alone (fateAnswer i e)) (cond (eqb op 14) (alone (leftAnswer h n)) (alone (Refused 51))))

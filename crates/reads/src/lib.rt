@@ -1,11 +1,12 @@
 // The calls that only read (show, fate, left), and a line that cannot be read, answered from what the owner of a state lends.
 ghost use mathlib.Core.Path.{_≡_};
-ghost use Prim.Native.Nat.{_-_};
+ghost use Prim.Native.Nat.{_-_, min};
 ghost use Rattle.heads.specs.Heads.{keptIn};
 ghost use Rattle.records.specs.Records.{keptOf};
 ghost use lib.ListN.{length};
 ghost use Rattle.tally.specs.Tallies.{Counted};
-ghost use Rattle.reads.specs.Readings.{showReading, readingOf};
+ghost use Rattle.figures.specs.Reads.{leftNumber};
+ghost use Rattle.reads.specs.Readings.{showReading, leftAnswer, readingOf};
 use heads::Head;
 use records::EditRecord;
 use records::Test;
@@ -40,30 +41,20 @@ fn show_reading(h: Head, s: u32) -> Reading
     }
 }
 
-// How many of the kept edits are not settled.
-fn unsettled(h: Head, settled: u32) -> u32
-    ensures { λ r. ⌜ r ≡ keptIn h - settled ⌝ }
+// From the number left that is kept beside the state.
+fn left_answer(h: Head, left: u32) -> Answer
+    ensures { λ r. ⌜ r ≡ leftAnswer h left ⌝ }
 {
-    let k = rows::capped(h.kept, 256) as u32;
-    if settled < k {
-        return k - settled;
+    let mode = h.mode;
+    if heads::is_active(mode) {
+        return Answer::Number(left);
     }
-    0
+    Answer::Number(0)
 }
 
-// The call numbered op, with its number a: from the edit at place i that it names, and the counts of the kept edits.
-pub fn read<'a>(
-    op: u32,
-    a: i32,
-    h: Head,
-    i: usize,
-    e: EditRecord,
-    arrived: &'a [bool; 8],
-    confirmed: &'a [bool; 8],
-    unsent: &'a [u32; 8],
-    settled: u32,
-) -> Reading
-    ensures { λ r. ⌜ r ≡ readingOf op a h i e (now (arrived .entry)) (now (confirmed .entry)) (now (unsent .entry)) settled ⌝ }
+// The call numbered op, with its number a: from the edit at place i that it names, and the number left.
+pub fn read(op: u32, a: i32, h: Head, i: usize, e: EditRecord, left: u32) -> Reading
+    ensures { λ r. ⌜ r ≡ readingOf op a h i e left ⌝ }
 {
     if op == 12 {
         return show_reading(h, exact::number(a));
@@ -77,8 +68,7 @@ pub fn read<'a>(
         };
     }
     if op == 14 {
-        let n = figures::left_number(h, arrived, confirmed, unsent, unsettled(h, settled));
-        let answer = Answer::Number(n);
+        let answer = left_answer(h, left);
         return Reading {
             answer,
             from: 0,
@@ -93,16 +83,23 @@ pub fn read<'a>(
     }
 }
 
-// The counts of kept edits, from the records.
-pub fn tallies(edits: [EditRecord; 256], h: Head) -> Tallies
-    ensures { λ r. ⌜ Counted r (keptOf h edits) × (length (r .unsent) ≡ 8) ⌝ }
+// The counts of kept edits, from the records, and the number left.
+pub fn tallies<'a>(
+    edits: [EditRecord; 256],
+    h: Head,
+    arrived: &'a [bool; 8],
+    confirmed: &'a [bool; 8],
+) -> Tallies
+    ensures { λ r. ⌜ Counted r (keptOf h edits) × (length (r .unsent) ≡ 8) × (r .left ≡ leftNumber h (now (arrived .entry)) (now (confirmed .entry)) (r .unsent) (min (keptIn h - r .settled) 256)) ⌝ }
 {
     let unsent = figures::unsent_counts(edits, h);
     let waiting = records::count(edits, h, Test::Waiting);
     let settled = records::count(edits, h, Test::Settled);
+    let left = figures::left_number(h, arrived, confirmed, &unsent, tally::unsettled(h, settled));
     Tallies {
         unsent,
         waiting,
         settled,
+        left,
     }
 }

@@ -1,10 +1,7 @@
 use mathlib.Core.Path.{ap, sym, _∙_}
-use Prim.Native.Nat.{min}
 use borrow.Author.Tests.{eq-eqb, ne-eqb}
 use mir.Facts.{toZ-ofZ}
 use Rattle.protocol.specs.Lists.{natural}
-use Rattle.state.specs.declared.Answer.the-variants.{Number}
-use Rattle.figures.specs.Reads.{leftNumber}
 use Rattle.reads.specs.Readings.{showReading, alone}
 use borrow.Author.Needs.{needs}
 use Rattle.reads.proofs.read.Statement.{statement}
@@ -12,10 +9,9 @@ use Rattle.reads.proofs.read.Tie as tie
 use Rattle.reads.proofs.read.Reads as reads
 use Rattle.reads.proofs.read.Lts as lts
 use Rattle.exact.proofs.number.Reads as number-reads
-use Rattle.figures.proofs.left_number.Reads as left-number-reads
 use Rattle.figures.proofs.fate_answer.Reads as fate-answer-reads
+use Rattle.reads.proofs.left_answer.Reads as left-answer-reads
 use Rattle.reads.proofs.show_reading.Reads as show-reading-reads
-use Rattle.reads.proofs.unsettled.Reads as unsettled-reads
 
 number-requires : tie.Need-number-requires
 number-requires c κs = search needs
@@ -26,30 +22,25 @@ show-reading-requires c κs = search needs
 returns : tie.Need-returns
 returns c =
     let s = (c .before .before .before) in
-    (c .show-reading .ensures) ∙ ap (showReading (s .args .h)) ((c .before .number .ensures) ∙ ap natural (toZ-ofZ (s .fits .a))) ∙ sym (rw (eq-eqb _ 12 ((c .before .before .if1 .taken))))
+    (c .show-reading .ensures) ∙ ap (showReading (s .args .h)) ((c .before .number .ensures) ∙ ap natural (toZ-ofZ (s .fits .a))) ∙ sym (rw (eq-eqb _ 12 (c .before .before .if1 .taken)))
 
 fate-answer-requires : tie.Need-fate-answer-requires
 fate-answer-requires c κs = search needs
 
 returns-2 : tie.Need-returns-2
 returns-2 c =
-    ap alone ((c .fate-answer .ensures)) ∙ sym (rw (ne-eqb _ 12 ((c .before .before .if1 .left)), eq-eqb _ 13 ((c .before .if2 .taken))))
+    ap alone (c .fate-answer .ensures) ∙ sym (rw (ne-eqb _ 12 (c .before .before .if1 .left), eq-eqb _ 13 (c .before .if2 .taken)))
 
-unsettled-requires : tie.Need-unsettled-requires
-unsettled-requires c κs = search needs
-
-left-number-requires : tie.Need-left-number-requires
-left-number-requires c κs = search needs
+left-answer-requires : tie.Need-left-answer-requires
+left-answer-requires c κs = search needs
 
 returns-3 : tie.Need-returns-3
 returns-3 c =
-    let a = (c .before .before .before .before .before .args) in
-    ap (λ n. alone (Number n)) ((c .left-number .ensures) ∙ ap (λ k. leftNumber (a .h) (a .arrived .now) (a .confirmed .now) (a .unsent .now) (min k 256)) ((c .before .unsettled .ensures)))
-    ∙ sym (rw (ne-eqb _ 12 ((c .before .before .before .before .if1 .left)), ne-eqb _ 13 ((c .before .before .before .if2 .left)), eq-eqb _ 14 ((c .before .before .if3 .taken))))
+    ap alone (c .left-answer .ensures) ∙ sym (rw (ne-eqb _ 12 (c .before .before .before .if1 .left), ne-eqb _ 13 (c .before .before .if2 .left), eq-eqb _ 14 (c .before .if3 .taken)))
 
 returns-4 : tie.Need-returns-4
 returns-4 c =
-    rw (ne-eqb _ 12 ((c .before .before .if1 .left)), ne-eqb _ 13 ((c .before .if2 .left)), ne-eqb _ 14 ((c .if3 .left)))
+    rw (ne-eqb _ 12 (c .before .before .if1 .left), ne-eqb _ 13 (c .before .if2 .left), ne-eqb _ 14 (c .if3 .left))
 
 pub read-spec : {M : Type 1} → statement M
 read-spec =
@@ -60,7 +51,6 @@ read-spec =
     returns
     fate-answer-requires
     returns-2
-    unsettled-requires
-    left-number-requires
+    left-answer-requires
     returns-3
     returns-4)
