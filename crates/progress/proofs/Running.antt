@@ -15,19 +15,17 @@ use Rattle.reader.specs.Cut.{upTo}
 use Rattle.reader.proofs.Cuts.{lines-over, lines-at}
 use Rattle.state.specs.declared.State.{State}
 use Rattle.state.specs.View.{view}
-use Rattle.records.specs.Records.{keptOf}
 use Rattle.rules.specs.Rules.{Linked}
 use Rattle.state.proofs.Views.{Sized}
 use Rattle.tally.specs.declared.Tallies.{Tallies}
-use Rattle.tally.specs.Tallies.{Counted}
+use Rattle.tally.specs.Tallies.{Tallied}
 use Rattle.protocol.proofs.Laws.{cases}
 use Rattle.progress.specs.Progress.{Ran, behindRan, ran, Advanced, lastOf, Sound}
 
 -- a run that goes on: the answers written so far, and what is still to come of the whole run
 pub record Going (reserve : ℕ) (sheet : List ℕ) (from : ℕ) (lent : List ℕ) (start : State) (area : List ℕ) (p : State) (t : Tallies) (at i : ℕ) : Type 0 where
   pub sized : Sized p
-  pub long : length (t .unsent) ≡ 8
-  pub counted : Counted t (keptOf (p .head) (p .edits))
+  pub tallied : Tallied t (view p)
   pub same : length area ≡ length lent
   pub most : at ≤ length lent
   pub rest : drop at area ≡ drop at lent
@@ -87,9 +85,9 @@ module _ (reserve : ℕ) (sheet : List ℕ) (from : ℕ) (lent : List ℕ) (star
         let n : leb (length bytes) (length lent - at) ≡ false = ap (leb (length bytes)) (sym room) ∙ f in
         ends q (end + 1) true (rw (cut h) (rw (le-ltb (length lent - at) reserve r, ← b, n, ← v)))
 
-    pub next-line : leb (length bytes) (length (drop at area)) ≡ true → Sized q → length (t′ .unsent) ≡ 8 → Counted t′ (keptOf (q .head) (q .edits))
+    pub next-line : leb (length bytes) (length (drop at area)) ≡ true → Sized q → Tallied t′ (view q)
         → Going reserve sheet from lent start (take at area ++ inFront bytes (drop at area)) q t′ (at + length bytes) (end + 1)
-    next-line f z l k =
+    next-line f z k =
         let w = leb-true (length bytes) (length (drop at area)) f in
         let n : length (take at area) ≡ at = (let x = length-take at area in let s = g .same in let m = g .most in omega arith) in
         let whole : length (take at area ++ inFront bytes (drop at area)) ≡ length lent =
@@ -99,8 +97,7 @@ module _ (reserve : ℕ) (sheet : List ℕ) (from : ℕ) (lent : List ℕ) (star
         let e : length lent - at - length bytes ≡ length lent - (at + length bytes) = omega arith in
         record {
           sized = z;
-          long = l;
-          counted = k;
+          tallied = k;
           same = whole;
           most = (let s = room in let m = g .most in omega arith);
           rest = ap (drop (at + length bytes)) two ∙ drop-at (take at area ++ bytes) (drop (length bytes) (drop at area)) (at + length bytes) long ∙ ap (drop (length bytes)) (g .rest) ∙ drop-drop (length bytes) at lent;
@@ -138,8 +135,8 @@ module _ {sound : Bool} {reserve : ℕ} {sheet : List ℕ} {from : ℕ} {lent : 
 
 -- ---- the beginning
 
-pub begins : (reserve : ℕ) (sheet : List ℕ) (from : ℕ) (lent : List ℕ) (p : State) (t : Tallies) → Sized p → length (t .unsent) ≡ 8 → Counted t (keptOf (p .head) (p .edits)) → Going reserve sheet from lent p lent p t 0 from
-begins reserve sheet from lent p t z l k = record { sized = z; long = l; counted = k; same = refl; most = omega arith; rest = refl; course = (let e : length lent ≡ length lent - 0 = omega arith in ap (λ n. ran reserve n (view p) (lines (drop from sheet))) e) }
+pub begins : (reserve : ℕ) (sheet : List ℕ) (from : ℕ) (lent : List ℕ) (p : State) (t : Tallies) → Sized p → Tallied t (view p) → Going reserve sheet from lent p lent p t 0 from
+begins reserve sheet from lent p t z k = record { sized = z; tallied = k; same = refl; most = omega arith; rest = refl; course = (let e : length lent ≡ length lent - 0 = omega arith in ap (λ n. ran reserve n (view p) (lines (drop from sheet))) e) }
 
 -- ---- an area of which the rest was lent
 

@@ -1,19 +1,19 @@
 -- A line that was read, made on a state: the call that it asks for, and the counts after it. Assumes nothing.
-use Prim.Native.Nat.{ℕ, zero, suc, _-_, _<_, _≤_, min}
+use Prim.Native.Nat.{ℕ, zero, suc, _+_, _-_, _<_, _≤_, min}
 use native.Mathlib.Omega.{arith}
 use mathlib.Core.Path.{_≡_, refl, sym, ap, _∙_, subst}
 use mathlib.Core.Bool.{Bool, true, false, not, cond, _&&_, _||_}
 use mathlib.Core.List.{List, []}
-use mathlib.Core.Option.{Option, none, some, Option·some-injective, Option·none-ne-some}
+use mathlib.Core.Option.{Option, none, some}
 use borrow.Author.Tests.{eqb-true, eqb-false, ne-eqb, ltb-true, ltb-false}
 use lib.Dec.{T, eqb, ltb, leb}
 use lib.IntN.{ℤ, pos}
-use lib.ListN.{length, getD}
-use Rattle.protocol.specs.Lists.{natural, oneTo, count}
-use Rattle.protocol.specs.Plan.{modeNumber, is, blank, whole, holds, isSettled, absentSide, measureLimit}
+use lib.ListN.{length, getD, set, length-set}
+use Rattle.protocol.specs.Lists.{bit, natural, oneTo, count}
+use Rattle.protocol.specs.Plan.{modeNumber, is, blank, whole, holds, isSettled, absentSide, sideAt}
 use Rattle.protocol.specs.Calls as model
-use Rattle.protocol.specs.Calls.{Call, measure, rule, open-plan, split-side, edit, join, send, replay, stop, confirm, install, show, fate-of, left, Verdict, fine, refused, first, firstValues, withBase, withKept, checks, after, step, stepBy, no, ok}
-use Rattle.protocol.proofs.Laws.{cases, passed, both, or-left, or-right, is-yes, yes-is, range, all-nth}
+use Rattle.protocol.specs.Calls.{Call, measure, rule, open-plan, split-side, edit, send, replay, Verdict, fine, refused, first, firstValues, withBase, withKept, checks, further, after, step, stepBy, no, ok}
+use Rattle.protocol.proofs.Laws.{cases, Pass, passed, both, or-left, or-right, is-yes, yes-is, range, all-nth}
 use Rattle.guarantee.specs.Holding.{Holding}
 use Rattle.guarantee.proofs.Kept.{settled-count}
 use Rattle.guarantee.proofs.Holding.{holding-step}
@@ -26,39 +26,65 @@ use Rattle.state.specs.declared.Answer.the-variants.{Refused, Done, Number, Pai
 use Rattle.state.specs.declared.Answered.{Answered}
 use Rattle.state.specs.View.{view, rulesOf}
 use Rattle.state.specs.Parts.{namedIn}
-use Rattle.heads.specs.Heads.{modeOf, sidesIn, offsetOf, measuresIn, keptIn, endIn}
-use Rattle.records.specs.Records.{keptOf, keptAt, noRecord}
+use Rattle.heads.specs.Heads.{modeOf, sidesIn, indexOf, offsetOf, measuresIn, keptIn, endIn}
+use Rattle.records.specs.declared.EditRecord.{EditRecord}
+use Rattle.records.specs.declared.Test.the-variants.{UnsentOf}
+use Rattle.records.specs.Records.{keptOf, keptAt, noRecord, testOf}
 use Rattle.state.specs.Meets.{answerOf, Meets}
+use Rattle.state.proofs.Steps as storing
 use Rattle.state.proofs.Views.{Sized, sides-length, sides-most, side-at}
 use Rattle.ruling.specs.declared.Decision.{Decision}
 use Rattle.ruling.specs.declared.Ruling.{Ruling}
 use Rattle.ruling.specs.declared.Ruling.the-variants.{Refused as Denied, Granted}
 use Rattle.ruling.specs.Edits.{spotOf, editRuling, editDecision, editIn, stored}
-use Rattle.rules.specs.Rules.{Linked}
+use Rattle.rules.specs.Rules.{testedIn, Linked}
 use Rattle.draw.proofs.Draws.{rules-length}
 use Rattle.edit.proofs.Edits.{edit-sound}
 use Rattle.settling.specs.Replays.{replayIn}
 use Rattle.replay.proofs.Replays.{replay-sound}
 use Rattle.tally.specs.declared.Tallies.{Tallies}
-use Rattle.tally.specs.Tallies.{Counted, tallyAfter, opOf, firstNumber}
-use Rattle.tally.proofs.Counts.{counted-after}
+use Rattle.tally.specs.Tallies.{Tallied, isAccepted, oneUnsent, moveTally}
+use Rattle.tally.proofs.Counts.{tallyAfter, tallied-after}
+use Rattle.turns.specs.declared.Sending.{Sending}
+use Rattle.turns.specs.Moves.{sendDecision, Marked}
+use Rattle.turns.proofs.Sends.{marked-begin, marked-next, marked-passed, sent-other}
+use Rattle.reconcile.proofs.Moves.{Named, send-decided}
 use Rattle.dispatch.specs.Rare.{drawCall, moveCall, Performs}
 use Rattle.reads.specs.Readings.{readCall}
 use Rattle.reads.proofs.Right.{alone-row}
 use Rattle.reader.specs.declared.Line.{Line}
 use Rattle.reader.specs.Reads.{lineIn}
 use Rattle.writer.specs.Writes.{withRow}
-use Rattle.progress.specs.Progress.{isMove, isDraw, movedOp, movesCounts, Sound}
+use Rattle.progress.specs.Progress.{isMove, isDraw, Sound}
 
 -- ---- the arms' tests exclude each other
 
-abbrev pub isHot : ℕ → Bool
-isHot op = eqb op 7 || (ltb 11 op || (eqb op 8 || (eqb op 5 || false)))
+-- the line is one of the arms' that were passed: of the reading calls, of edit too, of replay too, of send too
+abbrev pub doneReads : ℕ → Bool
+doneReads op = ltb 11 op || false
 
-pub off-reads : (op : ℕ) → 11 < op → (eqb op 8 || (eqb op 5 || false)) ≡ false
-off-reads op h = rw (ne-eqb op 8 (λ e. omega arith), ne-eqb op 5 (λ e. omega arith))
+abbrev pub doneEdit : ℕ → Bool
+doneEdit op = eqb op 5 || doneReads op
 
-pub off-send : (op : ℕ) → op ≡ 7 → (ltb 11 op || (eqb op 8 || (eqb op 5 || false))) ≡ false
+abbrev pub doneReplay : ℕ → Bool
+doneReplay op = eqb op 8 || doneEdit op
+
+abbrev pub doneSend : ℕ → Bool
+doneSend op = eqb op 7 || doneReplay op
+
+abbrev pub doneMoves : ℕ → Bool
+doneMoves op = isMove op || doneSend op
+
+abbrev pub doneDraws : ℕ → Bool
+doneDraws op = isDraw op || doneMoves op
+
+pub off-edit : (op : ℕ) → op ≡ 5 → doneReads op ≡ false
+off-edit op e = rw e
+
+pub off-replay : (op : ℕ) → op ≡ 8 → doneEdit op ≡ false
+off-replay op e = rw e
+
+pub off-send : (op : ℕ) → op ≡ 7 → doneReplay op ≡ false
 off-send op e = rw e
 
 -- a move is one of five calls
@@ -83,20 +109,20 @@ by-draw op m a b c =
     cases (eqb op 2) (λ z. b (eqb-true op 2 z)) (λ n2.
     c (let x = eqb-false op 1 n1 in let y = eqb-false op 2 n2 in omega arith)))
 
-pub off-moves : (op : ℕ) → isMove op ≡ true → isHot op ≡ false
+pub off-moves : (op : ℕ) → isMove op ≡ true → doneSend op ≡ false
 off-moves op m = by-move op m (λ e. rw e) (λ e. rw e) (λ e. rw e) (λ e. rw e) (λ e. rw e)
 
-pub off-draws : (op : ℕ) → isDraw op ≡ true → (isMove op || isHot op) ≡ false
+pub off-draws : (op : ℕ) → isDraw op ≡ true → doneMoves op ≡ false
 off-draws op m = by-draw op m (λ e. rw e) (λ e. rw e) (λ e. rw e)
 
 -- 0 alone is in no arm
-no-arm : (op : ℕ) → (isDraw op || (isMove op || isHot op)) ≡ false → op ≡ 0
+no-arm : (op : ℕ) → doneDraws op ≡ false → op ≡ 0
 no-arm op z =
     cases (ltb 11 op)
-    (λ e. absurd (subst T z (or-right (isDraw op) _ (or-right (isMove op) _ (or-right (eqb op 7) _ (or-left (ltb 11 op) _ (is-yes e)))))))
+    (λ e. absurd (subst T z (or-right (isDraw op) _ (or-right (isMove op) _ (or-right (eqb op 7) _ (or-right (eqb op 8) _ (or-right (eqb op 5) _ (or-left (ltb 11 op) _ (is-yes e)))))))))
     (λ e. by op (ltb-false 11 op e) z)
   where
-    by : (op : ℕ) → op ≤ 11 → (isDraw op || (isMove op || isHot op)) ≡ false → op ≡ 0
+    by : (op : ℕ) → op ≤ 11 → doneDraws op ≡ false → op ≡ 0
     by zero b z = refl
     by (suc zero) b z = cc
     by (suc (suc zero)) b z = cc
@@ -138,7 +164,7 @@ module _ (l : Line) where
   line-draws m = by-draw (l .op) m (λ e. rw e) (λ e. rw e) (λ e. rw e)
 
   -- what no arm takes is no call
-  pub line-left : (isDraw (l .op) || (isMove (l .op) || isHot (l .op))) ≡ false → lineIn l ≡ none
+  pub line-left : doneDraws (l .op) ≡ false → lineIn l ≡ none
   line-left z = line-none (no-arm (l .op) z)
 
 -- ---- what making a line gives
@@ -167,42 +193,44 @@ pub record SameRules (p q : State) : Type 0 where
   pub count : min (q .head .rules) 64 ≡ min (p .head .rules) 64
 
 -- A line between two arms: made, if one of those passed was its call's (`done`), else not touched yet. Unless it draws up the plan (`drawn`), the rules
--- are the same.
-pub record Turned (drawn done : Bool) (l : Option Call) (p q : State) (a : Answer) (f w : ℕ) : Type 0 where
+-- are the same. The counts are the plan's.
+pub record Turned (drawn done : Bool) (l : Option Call) (p q : State) (t u : Tallies) (a : Answer) (f w : ℕ) : Type 0 where
   pub made : done ≡ true → Made l p q a (row (q .values) f w)
-  pub idle : done ≡ false → (q ≡ p) × (a ≡ Refused 51) × (f ≡ 0) × (w ≡ 0)
+  pub idle : done ≡ false → (q ≡ p) × (u ≡ t) × (a ≡ Refused 51) × (f ≡ 0) × (w ≡ 0)
   pub ruled : drawn ≡ false → SameRules p q
   pub sized : Sized q
+  pub tallied : Tallied u (view q)
   pub from : f ≤ 224
   pub width : w ≤ 32
 
-pub untouched : (drawn : Bool) (l : Option Call) (p : State) → Sized p → Turned drawn false l p p (Refused 51) 0 0
-untouched drawn l p z = record { made = λ e. absurd (is-yes e); idle = λ e. (refl, refl, refl, refl); ruled = λ e. record { lower = refl; upper = refl; count = refl }; sized = z; from = omega arith; width = omega arith }
+pub untouched : (drawn : Bool) (l : Option Call) (p : State) (t : Tallies) → Sized p → Tallied t (view p) → Turned drawn false l p p t t (Refused 51) 0 0
+untouched drawn l p t z k = record { made = λ e. absurd (is-yes e); idle = λ e. (refl, refl, refl, refl, refl); ruled = λ e. record { lower = refl; upper = refl; count = refl }; sized = z; tallied = k; from = omega arith; width = omega arith }
 
-module _ {drawn done t : Bool} {l : Option Call} {p q : State} {a : Answer} {f w : ℕ} (k : Turned drawn done l p q a f w) where
+module _ {drawn done b : Bool} {l : Option Call} {p q : State} {t u : Tallies} {a : Answer} {f w : ℕ} (k : Turned drawn done l p q t u a f w) where
   -- an arm that is not the call's
-  pub passed-by : {q′ : State} {a′ : Answer} {f′ w′ : ℕ} → t ≡ false → q′ ≡ q → a′ ≡ a → f′ ≡ f → w′ ≡ w → Turned drawn (t || done) l p q′ a′ f′ w′
-  passed-by n e g h i = rw (n, e, g, h, i) k
+  pub passed-by : {q′ : State} {u′ : Tallies} {a′ : Answer} {f′ w′ : ℕ} → b ≡ false → q′ ≡ q → u′ ≡ u → a′ ≡ a → f′ ≡ f → w′ ≡ w → Turned drawn (b || done) l p q′ t u′ a′ f′ w′
+  passed-by n e v g h i = rw (n, e, v, g, h, i) k
 
   -- the call's own, which gives no values besides its answer
-  pub taken : {q′ q″ : State} {a′ a″ : Answer} {f′ w′ : ℕ} → t ≡ true → done ≡ false → q′ ≡ q″ → a′ ≡ a″ → f′ ≡ f → w′ ≡ w → Made l q q″ a″ [] → (drawn ≡ false → SameRules q q″) → Sized q″ → Turned drawn (t || done) l p q′ a′ f′ w′
-  taken {q″ = q″} {a″ = a″} y n e g h i m r z =
+  pub taken : {q′ q″ : State} {u′ u″ : Tallies} {a′ a″ : Answer} {f′ w′ : ℕ} → b ≡ true → done ≡ false → q′ ≡ q″ → u′ ≡ u″ → a′ ≡ a″ → f′ ≡ f → w′ ≡ w
+      → Made l q q″ a″ [] → (drawn ≡ false → SameRules q q″) → Sized q″ → Tallied u″ (view q″) → Turned drawn (b || done) l p q′ t u′ a′ f′ w′
+  taken {q″ = q″} {a″ = a″} y n e v g h i m r z c =
       let s = k .idle n in
-      rw (y, e, g, h ∙ s .2, i ∙ s .3) (record { made = λ u. subst (λ x. Made l x q″ a″ []) (s .0) m; idle = λ u. absurd (is-yes (sym u)); ruled = λ u. subst (λ x. SameRules x q″) (s .0) (r u); sized = z; from = omega arith; width = omega arith })
+      rw (y, e, v, g, h ∙ s .3, i ∙ s .4) (record { made = λ x. subst (λ y. Made l y q″ a″ []) (s .0) m; idle = λ x. absurd (is-yes (sym x)); ruled = λ x. subst (λ y. SameRules y q″) (s .0) (r x); sized = z; tallied = c; from = omega arith; width = omega arith })
 
   -- one that only reads
-  pub read-out : {a′ a″ : Answer} {f′ f″ w′ w″ : ℕ} → t ≡ true → done ≡ false → a′ ≡ a″ → f′ ≡ f″ → w′ ≡ w″ → Made l q q a″ (row (q .values) f″ w″) → f″ ≤ 224 → w″ ≤ 32 → Turned drawn (t || done) l p q a′ f′ w′
+  pub read-out : {a′ a″ : Answer} {f′ f″ w′ w″ : ℕ} → b ≡ true → done ≡ false → a′ ≡ a″ → f′ ≡ f″ → w′ ≡ w″ → Made l q q a″ (row (q .values) f″ w″) → f″ ≤ 224 → w″ ≤ 32 → Turned drawn (b || done) l p q t u a′ f′ w′
   read-out {a″ = a″} {f″ = f″} {w″ = w″} y n g h i m x z =
       let s = k .idle n in
-      rw (y, g, h, i) (record { made = λ u. subst (λ x. Made l x q a″ (row (q .values) f″ w″)) (s .0) m; idle = λ u. absurd (is-yes (sym u)); ruled = k .ruled; sized = k .sized; from = x; width = z })
+      rw (y, g, h, i) (record { made = λ v. subst (λ y. Made l y q a″ (row (q .values) f″ w″)) (s .0) m; idle = λ v. absurd (is-yes (sym v)); ruled = k .ruled; sized = k .sized; tallied = k .tallied; from = x; width = z })
 
 -- an arm that is reached untouched finds what held before the line
-pub still : (P : State → Type 0) {drawn done : Bool} {l : Option Call} {p q : State} {a : Answer} {f w : ℕ} → Turned drawn done l p q a f w → done ≡ false → P p → P q
+pub still : (P : State → Type 0) {drawn done : Bool} {l : Option Call} {p q : State} {t u : Tallies} {a : Answer} {f w : ℕ} → Turned drawn done l p q t u a f w → done ≡ false → P p → P q
 still P k n c = subst P (sym (k .idle n .0)) c
 
 -- after the last arm
-pub turned : {drawn done : Bool} {l : Option Call} {p q : State} {a : Answer} {f w : ℕ} → Turned drawn done l p q a f w → (done ≡ false → l ≡ none) → Made l p q a (row (q .values) f w)
-turned {done = done} {l = l} {p = p} k h = cases done (λ e. k .made e) (λ e. let s = k .idle e in rw (h e, s .0, s .1, s .2, s .3) (none-made p))
+pub turned : {drawn done : Bool} {l : Option Call} {p q : State} {t u : Tallies} {a : Answer} {f w : ℕ} → Turned drawn done l p q t u a f w → (done ≡ false → l ≡ none) → Made l p q a (row (q .values) f w)
+turned {done = done} {l = l} {p = p} k h = cases done (λ e. k .made e) (λ e. let s = k .idle e in rw (h e, s .0, s .2, s .3, s .4) (none-made p))
 
 -- ---- the rules stay
 
@@ -210,7 +238,7 @@ same-rules : {p q : State} → q .lower ≡ p .lower → q .upper ≡ p .upper �
 same-rules a b e = record { lower = a; upper = b; count = ap (λ n. min n 64) e }
 
 pub edit-rules : (p : State) (spot slot : ℕ) (sound : Bool) (s : ℕ) (client n : ℤ) (m kind : ℕ) (k : ℤ) (d : Decision) → d .head ≡ editIn sound p s client n m kind k .head → SameRules p (stored p spot slot d)
-edit-rules p spot slot sound s client n m kind k d e = same-rules refl refl (ap (λ h. h .rules) e ∙ by (editRuling sound (p .head) (p .lower) (p .gap) (p .upper) (p .firm) (p .values) (namedIn p (natural n)) s client n m kind k))
+edit-rules p spot slot sound s client n m kind k d e = same-rules refl refl (ap (λ h. h .rules) e ∙ by (editRuling (testedIn sound) (p .head) (p .lower) (p .gap) (p .upper) (p .firm) (p .values) (namedIn p (natural n)) s client n m kind k))
   where
     by : (r : Ruling) → editDecision (p .head) r (getD (p .values) (spotOf s m) (pos 0)) s (natural client) (natural n) m .head .rules ≡ p .head .rules
     by (Denied j) = refl
@@ -272,84 +300,146 @@ sound-made {l = l} {p = p} m h e = subst (λ x. Holding (x .mode) (x .content)) 
 
 -- ---- the counts after it
 
--- the counts move by the call's own number
-tally-line : (l : Line) (c : Call) (w : Bool) (t : Tallies) → lineIn l ≡ some c → tallyAfter (l .op) (natural (l .a)) w t ≡ tallyAfter (opOf c) (natural (firstNumber c)) w t
-tally-line l c w t e =
-    cases (eqb (l .op) 1) (λ z. let i = eqb-true (l .op) 1 z in through (measure (l .a)) (rw i) (rw i)) (λ n1.
-    cases (eqb (l .op) 2) (λ z. let i = eqb-true (l .op) 2 z in through (rule (l .a) (l .b) (l .c) (l .d)) (rw i) (rw i)) (λ n2.
-    cases (eqb (l .op) 3) (λ z. let i = eqb-true (l .op) 3 z in through open-plan (rw i) (rw i)) (λ n3.
-    cases (eqb (l .op) 4) (λ z. let i = eqb-true (l .op) 4 z in through (split-side (l .a)) (rw i) (rw i)) (λ n4.
-    cases (eqb (l .op) 5) (λ z. let i = eqb-true (l .op) 5 z in through (edit (l .a) (l .b) (l .c) (l .d) (l .e) (l .f)) (rw i) (rw i)) (λ n5.
-    cases (eqb (l .op) 6) (λ z. let i = eqb-true (l .op) 6 z in through join (rw i) (rw i)) (λ n6.
-    cases (eqb (l .op) 7) (λ z. let i = eqb-true (l .op) 7 z in through (send (l .a)) (rw i) (rw i)) (λ n7.
-    cases (eqb (l .op) 8) (λ z. let i = eqb-true (l .op) 8 z in through (replay (l .a)) (rw i) (rw i)) (λ n8.
-    cases (eqb (l .op) 9) (λ z. let i = eqb-true (l .op) 9 z in through stop (rw i) (rw i)) (λ n9.
-    cases (eqb (l .op) 10) (λ z. let i = eqb-true (l .op) 10 z in through (confirm (l .a)) (rw i) (rw i)) (λ n10.
-    cases (eqb (l .op) 11) (λ z. let i = eqb-true (l .op) 11 z in through install (rw i) (rw i)) (λ n11.
-    cases (eqb (l .op) 12) (λ z. let i = eqb-true (l .op) 12 z in through (show (l .a) measureLimit) (rw i) (rw i)) (λ n12.
-    cases (eqb (l .op) 13) (λ z. let i = eqb-true (l .op) 13 z in through (fate-of (l .a)) (rw i) (rw i)) (λ n13.
-    cases (eqb (l .op) 14) (λ z. let i = eqb-true (l .op) 14 z in through left (rw i) (rw i)) (λ n14.
-    absurd (Option·none-ne-some c (sym (rw (n1, n2, n3, n4, n5, n6, n7, n8, n9, n10, n11, n12, n13, n14)) ∙ e))))))))))))))))
-  where
-    through : (d : Call) → lineIn l ≡ some d → tallyAfter (l .op) (natural (l .a)) w t ≡ tallyAfter (opOf d) (natural (firstNumber d)) w t → tallyAfter (l .op) (natural (l .a)) w t ≡ tallyAfter (opOf c) (natural (firstNumber c)) w t
-    through d f x = subst (λ y. tallyAfter (l .op) (natural (l .a)) w t ≡ tallyAfter (opOf y) (natural (firstNumber y)) w t) (Option·some-injective d c (sym f ∙ e)) x
+refused-answer : (a : Answer) (vs : List ℤ) (k : ℕ) → withRow (answerOf a) vs ≡ no k → isAccepted a ≡ false
+refused-answer (Refused j) vs k e = refl
+refused-answer Done vs k e = cc
+refused-answer (Number n) vs k e = cc
+refused-answer (Pair m n) vs k e = cc
 
-refused-op : (a : Answer) (vs : List ℤ) (k op : ℕ) → withRow (answerOf a) vs ≡ no k → movedOp a op ≡ 0
-refused-op (Refused j) vs k op e = refl
-refused-op Done vs k op e = cc
-refused-op (Number n) vs k op e = cc
-refused-op (Pair m n) vs k op e = cc
+accepted-answer : (a : Answer) (vs xs : List ℤ) → withRow (answerOf a) vs ≡ ok xs → isAccepted a ≡ true
+accepted-answer (Refused j) vs xs e = cc
+accepted-answer Done vs xs e = refl
+accepted-answer (Number n) vs xs e = refl
+accepted-answer (Pair m n) vs xs e = refl
 
-accepted-op : (a : Answer) (vs xs : List ℤ) (op : ℕ) → withRow (answerOf a) vs ≡ ok xs → movedOp a op ≡ op
-accepted-op (Refused j) vs xs op e = cc
-accepted-op Done vs xs op e = refl
-accepted-op (Number n) vs xs op e = refl
-accepted-op (Pair m n) vs xs op e = refl
+kept-length : (p : State) → length (view p .content .kept) ≡ keptIn (p .head)
+kept-length p = length-span 0 (keptIn (p .head)) (λ i. keptAt (endIn (p .head) - (keptIn (p .head) - i)) (getD (p .edits) i noRecord))
 
--- a call that does not move the counts
-pub counts-stay : (a : Answer) (op s : ℕ) (w : Bool) (t : Tallies) → movesCounts op ≡ false → tallyAfter (movedOp a op) s w t ≡ t
-counts-stay a op s w t n = by a
-  where
-    off : (k : ℕ) → movesCounts k ≡ true → eqb op k ≡ false
-    off k y = ne-eqb op k (λ e. absurd (is-yes (sym (sym y ∙ ap movesCounts (sym e) ∙ n))))
+kept-most : (p : State) → length (view p .content .kept) ≤ 256
+kept-most p = let l = kept-length p in omega arith
 
-    same : tallyAfter op s w t ≡ t
-    same = rw (off 4 refl, off 5 refl, off 7 refl, off 8 refl)
+pub settled-few : (p : State) (t : Tallies) → Tallied t (view p) → min (t .settled) 256 ≡ count isSettled (keptOf (p .head) (p .edits))
+settled-few p t h = let c = h .counted .settled in let l = kept-most p in let s = settled-count (keptOf (p .head) (p .edits)) in omega arith
 
-    by : (a : Answer) → tallyAfter (movedOp a op) s w t ≡ t
-    by (Refused k) = refl
-    by Done = same
-    by (Number n) = same
-    by (Pair m n) = same
-
-pub kept-most : (p : State) → length (keptOf (p .head) (p .edits)) ≤ 256
-kept-most p = let l = length-span 0 (keptIn (p .head)) (λ i. keptAt (endIn (p .head) - (keptIn (p .head) - i)) (getD (p .edits) i noRecord)) in omega arith
-
-pub settled-few : (p : State) (t : Tallies) → Counted t (keptOf (p .head) (p .edits)) → min (t .settled) 256 ≡ count isSettled (keptOf (p .head) (p .edits))
-settled-few p t h = let c = h .settled in let l = kept-most p in let s = settled-count (keptOf (p .head) (p .edits)) in omega arith
-
-module _ (t : Tallies) (p q : State) (long : length (t .unsent) ≡ 8) (h : Counted t (keptOf (p .head) (p .edits))) where
-  pub counted-made : (l : Line) (a : Answer) (vs : List ℤ) → Made (lineIn l) p q a vs → Counted (tallyAfter (movedOp a (l .op)) (natural (l .a)) (is whole (modeOf (p .head .mode))) t) (keptOf (q .head) (q .edits))
+module _ (c : Call) {p q : State} {a : Answer} {vs : List ℤ} (m : Made (some c) p q a vs) where
+  -- a call that was accepted passed its checks
+  pub if-accepted : isAccepted a ≡ true → Pass (checks c (view p)) × (view q ≡ after c (view p .mode) (view p .content))
   unfolding step
-  counted-made l a vs m = by (lineIn l) refl (m .answer) (m .plan)
+  if-accepted y = by (first (checks c (view p))) refl (m .answer) (m .plan)
     where
-      Result : Type 0
-      Result = Counted (tallyAfter (movedOp a (l .op)) (natural (l .a)) (is whole (modeOf (p .head .mode))) t) (keptOf (q .head) (q .edits))
+      by : (w : Verdict) → first (checks c (view p)) ≡ w → withRow (answerOf a) vs ≡ stepBy w c (view p) .answer → view q ≡ stepBy w c (view p) .plan → Pass (checks c (view p)) × (view q ≡ after c (view p .mode) (view p .content))
+      by fine f e v = (passed (checks c (view p)) (rw f tt), v)
+      by (refused k) f e v = absurd (is-yes (sym (refused-answer a vs k e) ∙ y))
 
-      -- a refused line moves nothing
-      still : (k : ℕ) → withRow (answerOf a) vs ≡ no k → view q ≡ view p → Result
-      still k e v = rw (refused-op a vs k (l .op) e) (subst (Counted t) (sym (ap (λ x. x .content .kept) v)) h)
+  if-refused : isAccepted a ≡ false → view q ≡ view p
+  unfolding step
+  if-refused n = by (first (checks c (view p))) (m .answer) (m .plan)
+    where
+      by : (w : Verdict) → withRow (answerOf a) vs ≡ stepBy w c (view p) .answer → view q ≡ stepBy w c (view p) .plan → view q ≡ view p
+      by fine e v = absurd (is-yes (sym n ∙ accepted-answer a vs _ e))
+      by (refused k) e v = v
 
-      judged : (c : Call) (w : Verdict) → lineIn l ≡ some c → first (checks c (view p)) ≡ w → withRow (answerOf a) vs ≡ stepBy w c (view p) .answer → view q ≡ stepBy w c (view p) .plan → Result
-      judged c (refused k) o f e v = still k e v
-      judged c fine o f e v =
-          rw (accepted-op a vs _ (l .op) e, tally-line l c (is whole (modeOf (p .head .mode))) t o)
-          (subst (Counted (tallyAfter (opOf c) (natural (firstNumber c)) (is whole (modeOf (p .head .mode))) t)) (sym (ap (λ x. x .content .kept) v))
-          (counted-after t (view p) long (kept-most p) (let s = sides-length p in let n = sides-most (p .head) in omega arith) h c (passed (checks c (view p)) (rw f tt))))
+  -- the counts of an accepted call, else those of before
+  pub tallied-made : (t : Tallies) → Tallied t (view p) → Tallied (cond (isAccepted a) (tallyAfter c (view p) t) t) (view q)
+  tallied-made t h = cases (isAccepted a)
+      (λ y. let s = if-accepted y in rw y (subst (Tallied (tallyAfter c (view p) t)) (sym (s .1)) (tallied-after t (view p) (kept-most p) (let l = sides-length p in let n = sides-most (p .head) in omega arith) h c (s .0))))
+      (λ n. rw n (subst (Tallied t) (sym (if-refused n)) h))
 
-      by : (o : Option Call) → lineIn l ≡ o → withRow (answerOf a) vs ≡ stepOf o (view p) .answer → view q ≡ stepOf o (view p) .plan → Result
-      by none o e v = still 51 e v
-      by (some c) o e v = judged c (first (checks c (view p))) o refl e v
+-- an edit that is kept is one that was accepted while the plan was not whole
+module _ (p : State) (s client n m kind k : ℤ) {q : State} (d : Decision) (e : d ≡ editIn false p (natural s) client n (natural m) (natural kind) k) (made : Made (some (edit s client n m kind k)) p q (d .answer) []) where
+  flag-is : isAccepted (d .answer) ≡ true → getD (p .arrived) (indexOf (natural s)) false ≡ sideAt (view p .content) (natural s) .arrived
+  unfolding checks further
+  flag-is y =
+      let r = range (length (view p .content .sides)) (natural s) (if-accepted (edit s client n m kind k) made y .0 .1 .0) in
+      let l = sides-length p in
+      sym (ap (λ x. x .arrived) (side-at p (natural s) (r .0) (omega (arith, l, r .1))))
+
+  pub edit-counts : (t : Tallies) → cond (d .kept) (oneUnsent (natural s) (getD (p .arrived) (indexOf (natural s)) false) t) t ≡ cond (isAccepted (d .answer)) (tallyAfter (edit s client n m kind k) (view p) t) t
+  edit-counts t = cases (isAccepted (d .answer)) (λ y. cases (is whole (modeOf (p .head .mode))) (λ v. rw (y, yes y, v)) (λ v. rw (y, flag-is y, yes y, v))) (λ x. rw (x, not-so x))
+    where
+      yes-by : (r : Ruling) → let f = editDecision (p .head) r (getD (p .values) (spotOf (natural s) (natural m)) (pos 0)) (natural s) (natural client) (natural n) (natural m) in isAccepted (f .answer) ≡ true → f .kept ≡ not (is whole (modeOf (p .head .mode)))
+      yes-by (Denied j) y = absurd (is-yes y)
+      yes-by (Granted c x) y = refl
+
+      no-by : (r : Ruling) → let f = editDecision (p .head) r (getD (p .values) (spotOf (natural s) (natural m)) (pos 0)) (natural s) (natural client) (natural n) (natural m) in isAccepted (f .answer) ≡ false → f .kept ≡ false
+      no-by (Denied j) y = refl
+      no-by (Granted c x) y = absurd (is-yes (sym y))
+
+      ruled : Ruling
+      ruled = editRuling (testedIn false) (p .head) (p .lower) (p .gap) (p .upper) (p .firm) (p .values) (namedIn p (natural n)) (natural s) client n (natural m) (natural kind) k
+
+      yes : isAccepted (d .answer) ≡ true → d .kept ≡ not (is whole (modeOf (p .head .mode)))
+      yes y = ap (λ f. f .kept) e ∙ yes-by ruled (ap (λ f. isAccepted (f .answer)) (sym e) ∙ y)
+
+      not-so : isAccepted (d .answer) ≡ false → d .kept ≡ false
+      not-so y = ap (λ f. f .kept) e ∙ no-by ruled (ap (λ f. isAccepted (f .answer)) (sym e) ∙ y)
+
+-- a call on the frame, by its number
+pub move-counts : (op : ℕ) (x : ℤ) (p : State) (t : Tallies) → isMove op ≡ true → moveTally op (p .head) t ≡ tallyAfter (moveCall op x) (view p) t
+move-counts op x p t m =
+    by-move op m (λ e. rw e)
+    (λ e. rw (e, sides-length p, kept-length p))
+    (λ e. rw e) (λ e. rw e) (λ e. rw e)
+
+-- one that draws up the plan moves none
+pub draw-counts : (op : ℕ) (a b c d : ℤ) {l : Option Call} {p q : State} {r : Answer} {vs : List ℤ} (t : Tallies) → isDraw op ≡ true → l ≡ drawCall op a b c d → Made l p q r vs → Tallied t (view p) → Tallied t (view q)
+draw-counts op a b c d {l = l} {p = p} {q = q} {r = r} {vs = vs} t y e m h =
+    by-draw op y
+    (λ z. by (measure a) (e ∙ rw z) (λ x. refl))
+    (λ z. by (rule a b c d) (e ∙ rw z) (λ x. refl))
+    (λ z. by open-plan (e ∙ rw z) (λ x. refl))
+  where
+    by : (o : Call) → l ≡ some o → ((x : Bool) → tallyAfter o (view p) t ≡ t) → Tallied t (view q)
+    by o f s = subst (λ u. Tallied u (view q)) (cases (isAccepted r) (λ z. rw (z, s true)) (λ z. rw z)) (tallied-made o (subst (λ x. Made x p q r vs) f m) t h)
+
+-- ---- a send, of which the loop marks the edits
+
+-- the first j of the edits that it marks are marked, and nothing else is touched
+pub record Marking (s marked : ℕ) (p q : State) (j : ℕ) : Type 0 where
+  pub same : q ≡ storing.stored p (p .head) (p .base) (p .draft) (p .values) (p .arrived) (p .confirmed) (q .edits)
+  pub edits : Marked s (p .edits) (q .edits) j
+  pub most : j ≤ marked
+  pub few : marked ≤ 256
+
+pub marking-begin : (s marked : ℕ) (p : State) → Sized p → marked ≤ 256 → Marking s marked p p 0
+marking-begin s marked p z f = record { same = refl; edits = marked-begin s (p .edits) (z .edits); most = omega arith; few = f }
+
+module _ {s marked : ℕ} {p q : State} {j : ℕ} (k : Marking s marked p q j) (l : j < marked) where
+  -- one more is marked
+  pub marking-next : {q′ : State} (r : EditRecord) → q′ ≡ storing.stored q (q .head) (q .base) (q .draft) (q .values) (q .arrived) (q .confirmed) (set (q .edits) j r)
+      → ((n : ℕ) → keptAt n r ≡ model.sent s (keptAt n (getD (q .edits) j noRecord))) → Marking s marked p q′ (j + 1)
+  marking-next {q′ = q′} r e m =
+      let edits : q′ .edits ≡ set (q .edits) j r = ap (λ x. x .edits) e in
+      record {
+        same = e ∙ ap (λ x. storing.stored x (x .head) (x .base) (x .draft) (x .values) (x .arrived) (x .confirmed) (set (q .edits) j r)) (k .same) ∙ ap (λ es. storing.stored p (p .head) (p .base) (p .draft) (p .values) (p .arrived) (p .confirmed) es) (sym edits);
+        edits = subst (λ es. Marked s (p .edits) es (j + 1)) (sym edits) (marked-next s (p .edits) (q .edits) j r (omega (arith, l, k .few)) (k .edits) m);
+        most = omega (arith, l);
+        few = k .few;
+      }
+
+  -- one stays as it is
+  pub marking-passed : {q′ : State} → q′ ≡ q → bit (testOf (UnsentOf s) (keptAt 0 (getD (q .edits) j noRecord))) ≡ 0 → Marking s marked p q′ (j + 1)
+  marking-passed e z =
+      rw e (record { same = k .same; edits = marked-passed s (p .edits) (q .edits) j (omega (arith, l, k .few)) (k .edits) (sent-other s (getD (q .edits) j noRecord) z); most = omega (arith, l); few = k .few })
+
+-- all are marked
+module _ (p q : State) (i : ℕ) (b : Bool) {s marked j : ℕ} (k : Marking s marked p q j) where
+  abbrev sentTo : State
+  sentTo = storing.stored q (q .head) (q .base) (q .draft) (q .values) (set (q .arrived) i b) (q .confirmed) (q .edits)
+
+  sent-to : sentTo ≡ storing.stored p (p .head) (p .base) (p .draft) (p .values) (set (p .arrived) i b) (p .confirmed) (q .edits)
+  sent-to = ap (λ x. storing.stored x (x .head) (x .base) (x .draft) (x .values) (set (x .arrived) i b) (x .confirmed) (q .edits)) (k .same)
+
+  pub send-sized : Sized p → Sized sentTo
+  send-sized s = rw sent-to (record { base = s .base; draft = s .draft; values = s .values; arrived = length-set (p .arrived) i b ∙ s .arrived; confirmed = s .confirmed; lower = s .lower; gap = s .gap; upper = s .upper; firm = s .firm; edits = k .edits .size })
+
+  pub send-rules : SameRules p sentTo
+  send-rules = rw sent-to (alike refl refl refl)
+
+pub send-made : (p q : State) (z : ℤ) {side i n j : ℕ} (d : Sending) → Named p z side i n → length (p .arrived) ≡ 8 → (k : Marking side (d .marked) p q j) → d .marked ≤ j → d ≡ sendDecision (p .head) side (getD (p .arrived) i false) n
+    → Made (some (send z)) p (sentTo p q i (d .arrived) k) (d .answer) []
+send-made p q z {i = i} d w long k over e =
+    subst (λ x. Made (some (send z)) p x (d .answer) []) (sym (sent-to p q i (d .arrived) k)) (meets-made (send z) p _ (send-decided p z d (q .edits) w long e (k .edits) (let m = k .most in omega (arith, m, over))))
 
 -- ---- an answer put into a room
 

@@ -10,8 +10,6 @@ use Rattle.guarantee.specs.Holding.{Holding}
 use Rattle.format.specs.Lines.{lines}
 use Rattle.format.specs.Sheets.{text, turn, inFront}
 use Rattle.state.specs.declared.State.{State}
-use Rattle.state.specs.declared.Answer.{Answer}
-use Rattle.state.specs.declared.Answer.the-variants.{Refused, Done, Number, Pair}
 use Rattle.state.specs.View.{view}
 use Rattle.progress.specs.declared.Progress.{Progress}
 
@@ -25,16 +23,6 @@ isMove op = eqb op 4 || (eqb op 6 || (ltb 8 op && ltb op 12))
 
 abbrev pub isDraw : ℕ → Bool
 isDraw op = ltb 0 op && ltb op 4
-
-abbrev pub movedOp : Answer → ℕ → ℕ
-movedOp (Refused k) op = 0
-movedOp Done op = op
-movedOp (Number n) op = op
-movedOp (Pair a b) op = op
-
--- split, edit, join, send, replay
-abbrev pub movesCounts : ℕ → Bool
-movesCounts op = ltb 3 op && ltb op 9
 
 -- where the last line that is begun ends: nowhere, if an answer did not fit or less room is left than the reserve
 abbrev pub lastOf : ℕ → Bool → ℕ → ℕ → ℕ

@@ -1,9 +1,10 @@
 // The run over a sheet (01, "The sheet program"): each line is read, made on the plan and answered. The loop owns the plan and stores in place.
 ghost use mathlib.Core.Path.{_≡_};
-ghost use Rattle.records.specs.Records.{keptOf};
-ghost use Rattle.tally.specs.Tallies.{Counted};
-ghost use Rattle.progress.specs.Progress.{isMove, isDraw, movedOp, movesCounts, lastOf, Sound, Advanced};
+ghost use Rattle.state.specs.View.{view};
+ghost use Rattle.tally.specs.Tallies.{Tallied};
+ghost use Rattle.progress.specs.Progress.{isMove, isDraw, lastOf, Sound, Advanced};
 use frames::Frame;
+use records::Test;
 use state::Answer;
 use state::State;
 use tally::Tallies;
@@ -14,18 +15,6 @@ pub struct Progress {
     pub next: usize,
     pub written: usize,
     pub ended: bool,
-}
-
-// A call's number if it was accepted, else 0.
-fn moved_op(answer: Answer, op: u32) -> u32
-    ensures { λ r. ⌜ r ≡ movedOp answer op ⌝ }
-{
-    match answer {
-        Answer::Refused(_) => 0,
-        Answer::Done => op,
-        Answer::Number(_) => op,
-        Answer::Pair(_, _) => op,
-    }
 }
 
 // split, join, stop, confirm, install
@@ -54,16 +43,6 @@ fn draws(op: u32) -> bool
     false
 }
 
-// split, edit, join, send, replay: after another call the counts of the kept edits are what they were.
-fn moves_counts(op: u32) -> bool
-    ensures { λ t. ⌜ t ≡ movesCounts op ⌝ }
-{
-    if 3 < op {
-        return op < 9;
-    }
-    false
-}
-
 // Where the last line that is begun ends: nowhere, if an answer did not fit or less room is left than the reserve.
 fn last(len: usize, ended: bool, room: usize, reserve: usize) -> usize
     ensures { λ r. ⌜ r ≡ lastOf len ended room reserve ⌝ }
@@ -77,9 +56,9 @@ fn last(len: usize, ended: bool, room: usize, reserve: usize) -> usize
     len
 }
 
-// The loop, with the counts of the kept edits and the rules' links beside the plan. A call is known by its number in the order of 01; its arm decides, from what
-// is lent or from small parts by value, and stores in place. A line that cannot be read is left with 51. The arms stand in a row, not in one chain:
-// where a chain's arms meet, the check carries the variables of all of them. Where every rule is known to hold (`sound`), every call keeps it so
+// The loop, with the counts and the rules' links beside the plan. A call is known by its number in the order of 01; its arm decides, from what
+// is lent or from small parts by value, and stores in place. A line that cannot be read is left with 51. The arms stand in a row, not in one
+// chain: where a chain's arms meet, the check carries the variables of all of them. Where every rule is known to hold (`sound`), every call keeps it so
 // (guarantee's `holding-step`), and an edit or replay tests only the rules that name its measure.
 fn go(
     mut p: State,
@@ -90,7 +69,7 @@ fn go(
     from: usize,
     area: &mut [u8],
 ) -> Progress
-    requires { ⌜ Counted t (keptOf (p .head) (p .edits)) × Sound sound p ⌝ }
+    requires { ⌜ Tallied t (view p) × Sound sound p ⌝ }
     ensures { λ r. ⌜ Advanced reserve (now (sheet .entry)) from p (now (area .entry)) r (now (area .exit)) ⌝ }
 {
     let mut links = rules::indexed(&p.lower, &p.upper, p.head.rules);
@@ -105,13 +84,23 @@ fn go(
         let a = line.a;
         let side = exact::number(a);
         let h = p.head;
-        let mode = h.mode;
-        let whole = heads::mode_number(mode) == 1;
         let mut answer = Answer::Refused(51);
         let mut first: usize = 0;
         let mut width: usize = 0;
+        if 11 < op {
+            // show, fate, left
+            let named = heads::position(h, side);
+            let seat = heads::place(named);
+            let seen = p.edits[seat];
+            let r = reads::read(op, a, h, named, seen, t.left);
+            let given = r.answer;
+            answer = given;
+            first = r.from;
+            width = r.width;
+        }
         if op == 5 {
             // edit
+            let h = p.head;
             let named = heads::position(h, exact::number(line.c));
             let seat = heads::place(named);
             let seen = p.edits[seat];
@@ -147,6 +136,10 @@ fn go(
             answer = given;
             if d.kept {
                 p.edits[slot] = entry;
+                let place = heads::index(side);
+                let flag = p.arrived[place];
+                let u = tally::after_kept(t, side, flag);
+                t = u;
             }
         }
         if op == 8 {
@@ -185,28 +178,8 @@ fn go(
             p.draft[point] = amount;
             p.edits[slot] = entry;
             answer = given;
-        }
-        if 11 < op {
-            // show, fate, left
-            let h = p.head;
-            let named = heads::position(h, side);
-            let seat = heads::place(named);
-            let seen = p.edits[seat];
-            let r = reads::read(
-                op,
-                a,
-                h,
-                named,
-                seen,
-                &p.arrived,
-                &p.confirmed,
-                &t.unsent,
-                t.settled,
-            );
-            let given = r.answer;
-            answer = given;
-            first = r.from;
-            width = r.width;
+            let u = tally::after_replay(t, given);
+            t = u;
         }
         if op == 7 {
             // send
@@ -214,14 +187,22 @@ fn go(
             let place = heads::index(side);
             let flag = p.arrived[place];
             let unsent = t.unsent[place];
-            let edits = p.edits;
-            let r = reconcile::send_edits(edits, h, a, flag, unsent);
-            let next = r.edits;
-            let arrived = r.arrived;
-            let given = r.answer;
-            p.edits = next;
-            p.arrived[place] = arrived;
+            let d = turns::decide_send(h, side, flag, unsent);
+            let marked = d.marked;
+            let mut j: usize = 0;
+            while j < marked {
+                let e = p.edits[j];
+                if records::satisfies(e, Test::UnsentOf(side)) != 0 {
+                    let r = turns::sent_record(e, side);
+                    p.edits[j] = r;
+                }
+                j += 1;
+            }
+            let given = d.answer;
+            p.arrived[place] = d.arrived;
             answer = given;
+            let u = tally::after_send(t, side, given);
+            t = u;
         }
         if moves(op) {
             // split, join, stop, confirm, install
@@ -257,6 +238,8 @@ fn go(
             p.arrived = arrived;
             p.confirmed = confirmed;
             answer = given;
+            let u = tally::after_move(t, op, h, given);
+            t = u;
         }
         if draws(op) {
             // measure, rule, open
@@ -268,11 +251,6 @@ fn go(
             let h = p.head;
             let next = rules::indexed(&p.lower, &p.upper, h.rules);
             links = next;
-        }
-        if moves_counts(op) {
-            let moved = moved_op(answer, op);
-            let u = tally::tallied(t, moved, side, whole);
-            t = u;
         }
         let vs = &p.values[..];
         let n = writer::put(answer, &vs[first..first + width], &mut area[at..]);
@@ -298,6 +276,6 @@ pub fn advance(p: State, reserve: usize, sheet: &[u8], from: usize, area: &mut [
     let mode = h.mode;
     let sound = heads::mode_number(mode) == 0;
     let edits = p.edits;
-    let counts = reads::tallies(edits, h);
+    let counts = reads::tallies(edits, h, &p.arrived, &p.confirmed);
     go(p, counts, sound, reserve, sheet, from, area)
 }

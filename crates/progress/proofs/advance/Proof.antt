@@ -1,6 +1,7 @@
 use mathlib.Core.Path.{sym, _∙_}
 use borrow.Author.Needs.{needs}
 use borrow.Author.Tests.{eqb-true}
+use Rattle.reads.proofs.Right.{tallies-right}
 use Rattle.progress.proofs.Turning.{blank-holds}
 use Rattle.progress.proofs.advance.Statement.{statement}
 use Rattle.progress.proofs.advance.Tie as tie
@@ -17,7 +18,10 @@ tallies-requires : tie.Need-tallies-requires
 tallies-requires c κs = search needs
 
 go-requires : tie.Need-go-requires
-go-requires c κs = (search needs, λ e. blank-holds (c .before .before .before .before .before .before .before .args .p) (sym (c .before .before .before .mode-number .ensures) ∙ eqb-true _ 0 e))
+go-requires c κs =
+    let p = (c .before .before .before .before .before .before .before .before .before .before .args .t1) in
+    let k = (c .before .tallies .ensures) in
+    (tallies-right p (c .before .tallies .result) (k .0) (k .1) (k .2), λ e. blank-holds p (sym (c .before .before .before .before .before .before .mode-number .ensures) ∙ eqb-true _ 0 e))
 
 same-length : tie.Need-same-length
 same-length c = search needs
