@@ -2,12 +2,12 @@
 use Prim.Native.Nat.{ℕ, suc, _+_, _-_, _<_, _≤_}
 use native.Mathlib.Omega.{arith}
 use native.Mathlib.Nat.{zero-add}
-use mathlib.Core.Path.{_≡_, refl, sym, ap, ap₂, _∙_}
+use mathlib.Core.Path.{_≡_, refl, sym, ap, ap₂, _∙_, subst}
 use mathlib.Core.List.{List, [], _∷_, _++_, append-assoc, append-nil}
 use borrow.Author.Tests.{le-leb, lt-leb}
 use lib.IntN.{ℤ, pos}
-use lib.ListN.{length, length-append, set}
-use lib.Seq.{sets}
+use lib.ListN.{length, length-append, set, take}
+use lib.Seq.{sets, length-sets}
 use Rattle.format.specs.Numbers.{digits}
 use Rattle.format.specs.Lines.{space, lineFeed}
 use Rattle.format.specs.Sheets.{spaced}
@@ -81,6 +81,27 @@ not-put line area h = rw (lt-leb (length line) (length area) h) (refl, refl)
 
 is-put : (line area after : List ℕ) (n : ℕ) → length line ≤ length area → after ≡ sets area 0 line → n ≡ length line → (after ≡ putIn line area) × (n ≡ putLength line area)
 is-put line area after n h e f = rw (le-leb (length line) (length area) h) (e ∙ sets-front area line h, f)
+
+-- `no 51` and its line feed
+abbrev unread : List ℕ
+unread = 110 ∷ 111 ∷ 32 ∷ 53 ∷ 49 ∷ 10 ∷ []
+
+unread-line : ended (oneOf 110 111 51) ≡ unread
+unfolding digits
+unread-line = refl
+
+-- the room stays as its bytes are written
+pub unread-room : (area : List ℕ) (k : ℕ) → 6 ≤ length area → 6 ≤ length (sets area 0 (take k unread))
+unread-room area k h = let l = length-sets area 0 (take k unread) in omega arith
+
+pub not-unread : (area : List ℕ) → length area < 6 → (area ≡ putIn (ended (oneOf 110 111 51)) area) × (0 ≡ putLength (ended (oneOf 110 111 51)) area)
+not-unread area h = subst (λ l. (area ≡ putIn l area) × (0 ≡ putLength l area)) (sym unread-line) (not-put unread area h)
+
+pub is-unread : (area : List ℕ) → 6 ≤ length area → (sets area 0 unread ≡ putIn (ended (oneOf 110 111 51)) area) × (6 ≡ putLength (ended (oneOf 110 111 51)) area)
+is-unread area h = subst (λ l. (sets area 0 unread ≡ putIn l area) × (6 ≡ putLength l area)) (sym unread-line) (is-put unread area _ 6 h refl refl)
+
+pub unread-is : (k : ℕ) (area after : List ℕ) (r : ℕ) → k ≡ 51 → (after ≡ putIn (ended (oneOf 110 111 51)) area) × (r ≡ putLength (ended (oneOf 110 111 51)) area) → (after ≡ putIn (ended (oneOf 110 111 k)) area) × (r ≡ putLength (ended (oneOf 110 111 k)) area)
+unread-is k area after r e h = subst (λ n. (after ≡ putIn (ended (oneOf 110 111 n)) area) × (r ≡ putLength (ended (oneOf 110 111 n)) area)) (sym e) h
 
 -- bytes put behind others
 pub put-behind : (area first second : List ℕ) (at : ℕ) (xs ys : List ℕ) → first ≡ sets area 0 xs → at ≡ length xs → second ≡ sets first at ys → second ≡ sets area 0 (xs ++ ys)

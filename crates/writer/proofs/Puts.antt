@@ -52,7 +52,7 @@ module _ (n at : ℕ) (area₀ area : List ℕ) (m i : ℕ) (r : Writing n at ar
   pub writing-above : at < i
   writing-above = let l = length-some m in omega (arith, r .2)
 
-  pub writing-next : 10 ≤ m → (b : ℕ) → b ≡ 48 + m % 10 → Writing n at area₀ (set area (i - 1) b) (m / 10) (i - 1)
+  writing-next : 10 ≤ m → (b : ℕ) → b ≡ 48 + m % 10 → Writing n at area₀ (set area (i - 1) b) (m / 10) (i - 1)
   writing-next h b d =
       let l = length-more m h in
       let ds = digits (m / 10) in
@@ -68,6 +68,22 @@ module _ (n at : ℕ) (area₀ area : List ℕ) (m i : ℕ) (r : Writing n at ar
   writing-last h =
       let e : i - 1 ≡ at = let l = length-one m h in omega (arith, r .2) in
       (ap (λ j. set area j (48 + m)) e ∙ sym (ap (λ j. sets area₀ j (digits n)) e ∙ r .3 ∙ ap (sets area at) (digits-one m h)), e)
+
+-- two at a time
+module _ (n at : ℕ) (area₀ area : List ℕ) (m i : ℕ) (r : Writing n at area₀ area m i) where
+  two-less : i - 2 ≡ i - 1 - 1
+  two-less = omega arith
+
+  pub writing-above-two : 10 ≤ m → at < i - 1
+  writing-above-two h = writing-above _ _ _ _ _ _ (writing-next _ _ _ _ _ _ r h _ refl)
+
+  pub writing-next-two : 100 ≤ m → (b c : ℕ) → b ≡ 48 + m % 10 → c ≡ 48 + m / 10 % 10 → Writing n at area₀ (set (set area (i - 1) b) (i - 2) c) (m / 100) (i - 2)
+  writing-next-two h b c d e =
+      let q : m / 100 ≡ m / 10 / 10 = omega arith in
+      rw (q, two-less) (writing-next _ _ _ _ _ _ (writing-next _ _ _ _ _ _ r (omega arith) b d) (omega arith) c e)
+
+  pub writing-last-two : 10 ≤ m → m < 100 → (b : ℕ) → b ≡ 48 + m % 10 → (set (set area (i - 1) b) (i - 2) (48 + m / 10) ≡ sets area₀ (i - 2) (digits n)) × (i - 2 ≡ at)
+  writing-last-two h g b d = rw two-less (writing-last _ _ _ _ _ _ (writing-next _ _ _ _ _ _ r h b d) (omega arith))
 
 -- a byte in front of others
 pub sets-more : (area : List ℕ) (at b : ℕ) (bs : List ℕ) → sets (set area at b) (at + 1) bs ≡ sets area at (b ∷ bs)

@@ -48,7 +48,7 @@ fn width(n: u32) -> usize
     10
 }
 
-// The digits of n up to a place, written from the last to the first; the place where they begin.
+// The digits of n up to a place, written from the last to the first, two at a time; the place where they begin.
 // A digit is what the quotient leaves, which compiles to less than `m % 10`.
 fn put_back(n: u32, end: usize, area: &mut [u8]) -> usize
     requires { ⌜ (length (digits n) ≤ end) × (end ≤ length (now area)) ⌝ }
@@ -56,11 +56,20 @@ fn put_back(n: u32, end: usize, area: &mut [u8]) -> usize
 {
     let mut m = n;
     let mut i = end;
-    while 10 <= m {
-        i -= 1;
-        let q = m / 10;
-        area[i] = (48 + (m - q * 10)) as u8;
+    while 100 <= m {
+        let q = m / 100;
+        let r = m - q * 100;
+        let t = r / 10;
+        area[i - 1] = (48 + (r - t * 10)) as u8;
+        area[i - 2] = (48 + t) as u8;
+        i -= 2;
         m = q;
+    }
+    if 10 <= m {
+        let q = m / 10;
+        area[i - 1] = (48 + (m - q * 10)) as u8;
+        area[i - 2] = (48 + q) as u8;
+        return i - 2;
     }
     i -= 1;
     area[i] = (48 + m) as u8;
@@ -263,12 +272,37 @@ fn put_pair(a: u32, b: u32, area: &mut [u8]) -> usize
     w + 1
 }
 
+// `no 51`, the answer to every line that cannot be read, as it stands.
+fn put_unreadable(area: &mut [u8]) -> usize
+    ensures { λ r. ⌜ (now (area .exit) ≡ putIn (ended (oneOf 110 111 51)) (now (area .entry))) × (r ≡ putLength (ended (oneOf 110 111 51)) (now (area .entry))) ⌝ }
+{
+    if area.len() < 6 {
+        return 0;
+    }
+    area[0] = 110;
+    area[1] = 111;
+    area[2] = 32;
+    area[3] = 53;
+    area[4] = 49;
+    area[5] = 10;
+    6
+}
+
+fn put_refusal(k: u32, area: &mut [u8]) -> usize
+    ensures { λ r. ⌜ (now (area .exit) ≡ putIn (ended (oneOf 110 111 k)) (now (area .entry))) × (r ≡ putLength (ended (oneOf 110 111 k)) (now (area .entry))) ⌝ }
+{
+    if k == 51 {
+        return put_unreadable(area);
+    }
+    put_number(110, 111, k, area)
+}
+
 // An answer that gives no number is told as 0.
 fn put_alone(answer: Answer, area: &mut [u8]) -> usize
     ensures { λ r. ⌜ (now (area .exit) ≡ putIn (lineOf answer []) (now (area .entry))) × (r ≡ putLength (lineOf answer []) (now (area .entry))) ⌝ }
 {
     match answer {
-        Answer::Refused(k) => put_number(110, 111, k, area),
+        Answer::Refused(k) => put_refusal(k, area),
         Answer::Done => put_number(111, 107, 0, area),
         Answer::Number(n) => put_number(111, 107, n, area),
         Answer::Pair(a, b) => put_pair(a, b, area),
