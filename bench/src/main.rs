@@ -222,28 +222,51 @@ fn time(program: Program, sheet: &[u8], area: &mut [u8]) -> f64 {
     start.elapsed().as_nanos() as f64 / times as f64
 }
 
-/// Nanoseconds for each line of the body: library, separate program.
-fn measure(work: &Workload, rounds: usize) -> (f64, f64) {
-    let sheet = (work.setup.clone() + &work.body).into_bytes();
-    let setup = work.setup.as_bytes();
-    let lines = work.body.lines().count().max(1) as f64;
-    let programs: [Program; 2] = [library::screen_run, separate::screen_run];
-    let expected = separate::answers(&sheet);
-    let mut area = vec![0; expected.len()];
-    assert_eq!(library::screen_run(&sheet, &mut area), 2 * expected.len() as u64, "{}", work.name);
-    assert_eq!(area, expected, "{}", work.name);
-    let mut least = [[f64::MAX; 2]; 2];
-    for _ in 0..rounds {
-        for (p, &program) in programs.iter().enumerate() {
-            least[p][0] = least[p][0].min(time(program, &sheet, &mut area));
-            if !setup.is_empty() {
-                least[p][1] = least[p][1].min(time(program, setup, &mut area));
-            } else {
-                least[p][1] = 0.0;
-            }
+/// One workload under way: the least times so far of either program, on the whole sheet and on its setup alone.
+struct Run<'a> {
+    work: &'a Workload,
+    sheet: Vec<u8>,
+    area: Vec<u8>,
+    least: [[f64; 2]; 2],
+}
+
+impl Run<'_> {
+    /// The answers of both programs are compared first.
+    fn new(work: &Workload) -> Run<'_> {
+        let sheet = (work.setup.clone() + &work.body).into_bytes();
+        let expected = separate::answers(&sheet);
+        let mut area = vec![0; expected.len()];
+        assert_eq!(library::screen_run(&sheet, &mut area), 2 * expected.len() as u64, "{}", work.name);
+        assert_eq!(area, expected, "{}", work.name);
+        Run { work, sheet, area, least: [[f64::MAX; 2]; 2] }
+    }
+
+    fn round(&mut self) {
+        let programs: [Program; 2] = [library::screen_run, separate::screen_run];
+        let setup = self.work.setup.as_bytes();
+        for (least, program) in self.least.iter_mut().zip(programs) {
+            least[0] = least[0].min(time(program, &self.sheet, &mut self.area));
+            least[1] = if setup.is_empty() { 0.0 } else { least[1].min(time(program, setup, &mut self.area)) };
         }
     }
-    ((least[0][0] - least[0][1]) / lines, (least[1][0] - least[1][1]) / lines)
+
+    /// Nanoseconds for each line of the body: library, separate program.
+    fn times(&self) -> (f64, f64) {
+        let lines = self.work.body.lines().count().max(1) as f64;
+        let [library, separate] = self.least.map(|[whole, setup]| (whole - setup) / lines);
+        (library, separate)
+    }
+}
+
+/// Every round goes through all the workloads, so that a slow while of the machine falls on none of them alone.
+fn measure(works: &[Workload], rounds: usize) -> Vec<(f64, f64)> {
+    let mut runs: Vec<Run> = works.iter().map(Run::new).collect();
+    for _ in 0..rounds {
+        for run in &mut runs {
+            run.round();
+        }
+    }
+    runs.iter().map(Run::times).collect()
 }
 
 fn heading(first: &str) {
@@ -263,8 +286,7 @@ fn main() {
     heading("workload");
     let mut product = 0.0;
     let list = workloads();
-    for work in &list {
-        let times = measure(work, rounds);
+    for (work, times) in list.iter().zip(measure(&list, rounds)) {
         row(&work.name, times);
         product += (times.0 / times.1).ln();
     }
@@ -272,8 +294,8 @@ fn main() {
     for (name, works) in growth() {
         println!();
         heading(name);
-        for work in &works {
-            row(&work.name, measure(work, rounds));
+        for (work, times) in works.iter().zip(measure(&works, rounds)) {
+            row(&work.name, times);
         }
     }
 }
