@@ -26,15 +26,15 @@ use Rattle.records.specs.declared.EditRecord.{EditRecord}
 use Rattle.records.specs.declared.Fate.the-variants.{Unsent}
 use Rattle.heads.specs.declared.Head.{Head}
 use Rattle.state.specs.declared.State.{State}
-use Rattle.heads.specs.Heads.{modeOf, single, sidesIn, offsetOf, measuresIn, keptIn, endIn, positionOf, placeOf}
-use Rattle.records.specs.Records.{keptAt, logOf, keptOf, noRecord, recordOf}
+use Rattle.heads.specs.Heads.{modeOf, single, sidesIn, offsetOf, measuresIn, keptIn, endIn, seatOf}
+use Rattle.records.specs.Records.{keptAt, logOf, keptOf, noRecord}
 use Rattle.state.specs.View.{view, sideOf, rulesOf}
 use Rattle.state.specs.Parts.{namedIn}
 use Rattle.state.specs.Meets.{answerOf, SameIfRefused, Meets}
-use Rattle.state.proofs.Views.{Sized, plan-same, sides-most, sides-length, side-at, sides-modify, lookup-named, named-found}
+use Rattle.state.proofs.Views.{Sized, plan-same, sides-most, sides-length, side-at, sides-modify, lookup-named}
 use Rattle.records.proofs.Logs.{log-snoc}
 use Rattle.ruling.specs.declared.Decision.{Decision}
-use Rattle.ruling.specs.Edits.{editChecks, ruled, changeOf, changeIn, editRuling, editHead, editDecision, spotOf, slotOf, editBy, editIn, stored}
+use Rattle.ruling.specs.Edits.{editChecks, ruled, changeOf, changeIn, editRuling, editHead, editDecision, spotOf, slotOf, editFrom, editBy, editIn, stored}
 use Rattle.ruling.proofs.Rulings.{made-change}
 
 -- two sides' rows do not meet
@@ -68,39 +68,33 @@ checks-found mode sides rules named kept next vs s client n m ch held held′ h 
     drawn model.closing t = tt
 
 -- so two tests of the rules that then find the same make the same decision
-decision-same : (test test′ : RuleTest) (p : State) (s : ℕ) (client n : ℤ) (m kind : ℕ) (k : ℤ)
-    → (let vs = row (p .values) (offsetOf s) (measuresIn (p .head)) in let ws = made m (changeOf kind k) vs in
-    T (not (is blank (modeOf (p .head .mode)))) → T (oneTo (sidesIn (p .head)) s) → test m (p .lower) (p .gap) (p .upper) (min (p .head .rules) 64) ws ≡ test′ m (p .lower) (p .gap) (p .upper) (min (p .head .rules) 64) ws)
+decision-same : (test test′ : RuleTest) (p : State) (s client n m kind k : ℤ)
+    → (let vs = row (p .values) (offsetOf (natural s)) (measuresIn (p .head)) in let ws = made (natural m) (changeOf (natural kind) k) vs in
+    T (not (is blank (modeOf (p .head .mode)))) → T (oneTo (sidesIn (p .head)) (natural s)) → test (natural m) (p .lower) (p .gap) (p .upper) (min (p .head .rules) 64) ws ≡ test′ (natural m) (p .lower) (p .gap) (p .upper) (min (p .head .rules) 64) ws)
     → editBy test p s client n m kind k ≡ editBy test′ p s client n m kind k
 unfolding editRuling
 decision-same test test′ p s client n m kind k h =
-    ap (λ v. editDecision (p .head) (ruled v (changeIn (madeOf kind k)) (applied (changeOf kind k) (value (row (p .values) (offsetOf s) (measuresIn (p .head))) m)))
-    (getD (p .values) (spotOf s m) (pos 0)) s (natural client) (natural n) m)
-    (checks-found (modeOf (p .head .mode)) (sidesIn (p .head)) (rulesOf p) (keptAt 0 (namedIn p (natural n))) (keptIn (p .head)) (p .head .next) (row (p .values) (offsetOf s) (measuresIn (p .head))) s client n m (changeOf kind k) _ _ h)
+    let ch = changeOf (natural kind) k in
+    let vs = row (p .values) (offsetOf (natural s)) (measuresIn (p .head)) in
+    ap (λ v. editDecision (p .head) (ruled v (changeIn (madeOf (natural kind) k)) (applied ch (value vs (natural m))))
+    (getD (p .values) (spotOf (natural s) (natural m)) (pos 0)) (natural s) (natural client) (natural n) (natural m))
+    (checks-found (modeOf (p .head .mode)) (sidesIn (p .head)) (rulesOf p) (keptAt 0 (namedIn p (natural n))) (keptIn (p .head)) (p .head .next) vs (natural s) client n (natural m) ch _ _ h)
 
--- from what each step of an edit gave, in the code's order, with the rules' own links, to the decision in the state and the places of its stores
-pub edit-decided : (sound : Bool) (p : State) (s client n m kind k : ℤ) {s′ client′ n′ m′ kind′ k′ old : ℤ} {number i seat side measure spot slot kd : ℕ} {links : List ℕ} {d : Decision}
-    → s′ ≡ s → client′ ≡ client → n′ ≡ n → m′ ≡ m → kind′ ≡ kind → k′ ≡ k
-    → number ≡ natural n′ → i ≡ positionOf (endIn (p .head)) (keptIn (p .head)) number → seat ≡ placeOf i
-    → side ≡ natural s′ → measure ≡ natural m′ → spot ≡ spotOf side measure → slot ≡ slotOf (p .head) → old ≡ getD (p .values) spot (pos 0) → kd ≡ natural kind′
-    → d ≡ editDecision (p .head) (editRuling (testedBy sound links) (p .head) (p .lower) (p .gap) (p .upper) (p .firm) (p .values) (recordOf i (getD (p .edits) seat noRecord)) side client′ n′ measure kd k′) old side (natural client′) (natural n′) measure
+-- the decision that the code makes, with the rules' own links, is the one in the state
+pub edit-decided : (sound : Bool) (p : State) (s client n m kind k : ℤ) {seat : ℕ} {links : List ℕ} {d : Decision}
+    → seat ≡ seatOf (p .head) n
+    → d ≡ editFrom (testedBy sound links) (p .head) (p .lower) (p .gap) (p .upper) (p .firm) (p .values) (getD (p .edits) seat noRecord) s client n m kind k
     → LinkedIf sound links (p .lower) (p .upper) (min (p .head .rules) 64)
-    → (d ≡ editIn sound p (natural s) client n (natural m) (natural kind) k) × (spot ≡ spotOf (natural s) (natural m)) × (slot ≡ slotOf (p .head))
-edit-decided sound p s client n m kind k {links = links} to-s to-client to-n to-m to-kind to-k number-is position-is seat-is side-is measure-is spot-is slot-is old-is kind-is d-is linked =
-    let name = named-found p (number-is ∙ ap natural to-n) position-is seat-is refl in
-    let side = side-is ∙ ap natural to-s in
-    let measure = measure-is ∙ ap natural to-m in
-    let spot = spot-is ∙ (λ j. spotOf (side j) (measure j)) in
-    let old = old-is ∙ ap (λ j. getD (p .values) j (pos 0)) spot in
-    let kd = kind-is ∙ ap natural to-kind in
-    let own = decision-same (testedBy sound links) (testedIn sound) p (natural s) client n (natural m) (natural kind) k (λ d o. tested-linked sound links (natural m) (p .lower) (p .gap) (p .upper) _ _ linked) in
-    (d-is ∙ (λ j. editDecision (p .head) (editRuling (testedBy sound links) (p .head) (p .lower) (p .gap) (p .upper) (p .firm) (p .values) (name j) (side j) (to-client j) (to-n j) (measure j) (kd j) (to-k j)) (old j) (side j) (natural (to-client j)) (natural (to-n j)) (measure j)) ∙ own, spot, slot-is)
+    → d ≡ editIn sound p s client n m kind k
+edit-decided sound p s client n m kind k {links = links} seat-is d-is linked =
+    d-is ∙ ap (λ j. editFrom (testedBy sound links) (p .head) (p .lower) (p .gap) (p .upper) (p .firm) (p .values) (getD (p .edits) j noRecord) s client n m kind k) seat-is
+    ∙ decision-same (testedBy sound links) (testedIn sound) p s client n m kind k (λ d o. tested-linked sound links (natural m) (p .lower) (p .gap) (p .upper) _ _ linked)
 
 -- where all rules held on the side's row, it is enough to test those that name the measure
-pub edit-sound : (p : State) (s : ℕ) (client n : ℤ) (m kind : ℕ) (k : ℤ)
-    → (T (not (is blank (modeOf (p .head .mode)))) → T (oneTo (sidesIn (p .head)) s) → holds (rulesOf p) (row (p .values) (offsetOf s) (measuresIn (p .head))) ≡ true)
+pub edit-sound : (p : State) (s client n m kind k : ℤ)
+    → (T (not (is blank (modeOf (p .head .mode)))) → T (oneTo (sidesIn (p .head)) (natural s)) → holds (rulesOf p) (row (p .values) (offsetOf (natural s)) (measuresIn (p .head))) ≡ true)
     → editIn true p s client n m kind k ≡ editIn false p s client n m kind k
-edit-sound p s client n m kind k h = decision-same (testedIn true) (testedIn false) p s client n m kind k (λ d o. tested-sound (p .lower) (p .gap) (p .upper) (p .firm) (min (p .head .rules) 64) m (changeOf kind k) _ (h d o))
+edit-sound p s client n m kind k h = decision-same (testedIn true) (testedIn false) p s client n m kind k (λ d o. tested-sound (p .lower) (p .gap) (p .upper) (p .firm) (min (p .head .rules) 64) (natural m) (changeOf (natural kind) k) _ (h d o))
 
 module _ (p : State) (z : Sized p) (s client n m kind k : ℤ) where
   abbrev h : Head
@@ -233,6 +227,6 @@ module _ (p : State) (z : Sized p) (s client n m kind k : ℤ) where
       (refl, ap view same, same)
   by fine f = let g = f tt in (refl, plan-same refl refl (let o = number g in omega arith) refl refl (sides-next g) (kept-next g), tt)
 
-  pub edit-meets : let d = editIn false p (natural s) client n (natural m) (natural kind) k in Meets call p (record { state = stored p (spotOf (natural s) (natural m)) (slotOf h) d; answer = d .answer })
+  pub edit-meets : let d = editIn false p s client n m kind k in Meets call p (record { state = stored p (spotOf (natural s) (natural m)) (slotOf h) d; answer = d .answer })
   unfolding step editRuling
   edit-meets = let b = by (first Checks) (passed Checks) in record { answer = rw checks-same (b .0); plan = rw checks-same (b .1); same = b .2 }

@@ -8,7 +8,8 @@ use Rattle.protocol.specs.Plan as model
 use Rattle.heads.specs.declared.Mode.{Mode}
 use Rattle.heads.specs.declared.Mode.the-variants.{Blank, Whole, Split, Joining, Closing}
 use Rattle.heads.specs.declared.Head.{Head}
-use Rattle.protocol.specs.Lists.{tally}
+use Rattle.protocol.specs.Lists.{tally, natural}
+use lib.IntN.{ℤ}
 
 abbrev pub modeOf : Mode → model.Mode
 modeOf Blank = model.blank
@@ -54,6 +55,13 @@ positionOf e k n = cond (eqb n 0) (cond (ltb 0 k && leb e k) 1 0) (cond (ltb n e
 -- where the edit at a place from 1 stands; place 0 is none
 abbrev pub placeOf : ℕ → ℕ
 placeOf i = min (i - 1) 255
+
+-- the place, from 1, of the kept edit that a call's number names, and where it stands
+abbrev pub namedAt : Head → ℤ → ℕ
+namedAt h n = positionOf (endIn h) (keptIn h) (natural n)
+
+abbrev pub seatOf : Head → ℤ → ℕ
+seatOf h n = placeOf (namedAt h n)
 
 -- ---- flags
 

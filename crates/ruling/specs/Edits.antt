@@ -21,9 +21,8 @@ use Rattle.records.specs.declared.Fate.the-variants.{Unsent}
 use Rattle.heads.specs.declared.Head.{Head}
 use Rattle.state.specs.declared.State.{State}
 use Rattle.state.specs.declared.Answer.the-variants.{Refused, Number}
-use Rattle.heads.specs.Heads.{modeOf, sidesIn, measuresIn, offsetOf, keptIn}
-use Rattle.records.specs.Records.{keptAt, noRecord}
-use Rattle.state.specs.Parts.{namedIn}
+use Rattle.heads.specs.Heads.{modeOf, sidesIn, measuresIn, offsetOf, keptIn, namedAt, seatOf}
+use Rattle.records.specs.Records.{keptAt, noRecord, recordOf}
 use Rattle.ruling.specs.declared.Ruling.{Ruling}
 use Rattle.ruling.specs.declared.Ruling.the-variants.{Refused as Denied, Granted}
 use Rattle.ruling.specs.declared.Decision.{Decision}
@@ -104,13 +103,18 @@ spotOf s m = offsetOf s + min (m - 1) 31
 abbrev pub slotOf : Head → ℕ
 slotOf h = min (h .kept) 255
 
--- the decision in a state, by a test of the rules; and by the one that needs no links, where `sound` says that all rules held before
-abbrev pub editBy : RuleTest → State → ℕ → ℤ → ℤ → ℕ → ℕ → ℤ → Decision
-editBy test p s client n m kind k =
-    editDecision (p .head) (editRuling test (p .head) (p .lower) (p .gap) (p .upper) (p .firm) (p .values) (namedIn p (natural n)) s client n m kind k)
-    (getD (p .values) (spotOf s m) (pos 0)) s (natural client) (natural n) m
+-- the decision from a call's numbers, by a test of the rules, with the record seen where the edit that it names would stand
+abbrev pub editFrom : RuleTest → Head → List ℕ → List ℤ → List ℕ → List Bool → List ℤ → EditRecord → (s client n m kind k : ℤ) → Decision
+editFrom test h lower gap upper firm values seen s client n m kind k =
+    editDecision h (editRuling test h lower gap upper firm values (recordOf (namedAt h n) seen) (natural s) client n (natural m) (natural kind) k)
+    (getD values (spotOf (natural s) (natural m)) (pos 0)) (natural s) (natural client) (natural n) (natural m)
 
-abbrev pub editIn : Bool → State → ℕ → ℤ → ℤ → ℕ → ℕ → ℤ → Decision
+-- the decision in a state; and by the test that needs no links, where `sound` says that all rules held before
+abbrev pub editBy : RuleTest → State → (s client n m kind k : ℤ) → Decision
+editBy test p s client n m kind k =
+    editFrom test (p .head) (p .lower) (p .gap) (p .upper) (p .firm) (p .values) (getD (p .edits) (seatOf (p .head) n) noRecord) s client n m kind k
+
+abbrev pub editIn : Bool → State → (s client n m kind k : ℤ) → Decision
 editIn sound = editBy (testedIn sound)
 
 -- a decision carried out

@@ -1,7 +1,7 @@
 // What an edit decides: its checks, and what it stores. Read only, on what is lent to it.
 ghost use mathlib.Core.Path.{_≡_};
 ghost use mathlib.Core.Bool.{_&&_, _||_};
-ghost use Prim.Native.Nat.{min};
+ghost use Prim.Native.Nat.{min, _<_};
 ghost use lib.Dec.{leb};
 ghost use Rattle.protocol.specs.Lists.{natural};
 ghost use Rattle.protocol.specs.Plan.{is, whole};
@@ -9,7 +9,7 @@ ghost use Rattle.protocol.specs.Calls.{apart, no22, no25};
 ghost use Rattle.rules.specs.Rules.{testedBy, firmIn};
 ghost use Rattle.heads.specs.Heads.{modeOf};
 ghost use Rattle.records.specs.Records.{keptAt, recordOf};
-ghost use Rattle.ruling.specs.Edits.{changeRuling, editRuling, editHead, editRecord, editDecision};
+ghost use Rattle.ruling.specs.Edits.{changeRuling, editRuling, editHead, editRecord, editDecision, spotOf, editFrom};
 use change::Change;
 use change::Made;
 use heads::Head;
@@ -287,7 +287,7 @@ fn edit_decision(
 }
 
 // What an edit stores, from the edit that it names, seen at a place from 1, and from the value that stands at its place.
-pub fn decide_edit<'a>(
+fn decided<'a>(
     h: Head,
     lower: &'a [u32; 64],
     gap: &'a [i32; 64],
@@ -333,5 +333,60 @@ pub fn decide_edit<'a>(
         exact::number(client),
         exact::number(after),
         m,
+    )
+}
+
+// Where a side's measure stands among all values.
+pub fn spot(s: i32, m: i32) -> usize
+    ensures { λ r. ⌜ (r ≡ spotOf (natural s) (natural m)) × (r < 256) ⌝ }
+{
+    let at = heads::offset(exact::number(s));
+    let measure = exact::number(m);
+    if measure == 0 {
+        return at;
+    }
+    at + rows::capped(measure - 1, 31)
+}
+
+// What an edit stores, from its numbers and the record seen where the edit that it names would stand.
+pub fn decide_edit<'a>(
+    h: Head,
+    lower: &'a [u32; 64],
+    gap: &'a [i32; 64],
+    upper: &'a [u32; 64],
+    firm: &'a [bool; 64],
+    links: &'a Links,
+    values: &'a [i32; 256],
+    seen: EditRecord,
+    s: i32,
+    client: i32,
+    after: i32,
+    m: i32,
+    kind: i32,
+    constant: i32,
+    sound: bool,
+) -> Decision
+    ensures { λ r. ⌜ r ≡ editFrom (testedBy sound (now (links .entry))) h (now (lower .entry)) (now (gap .entry)) (now (upper .entry)) (now (firm .entry)) (now (values .entry)) seen s client after m kind constant ⌝ }
+{
+    let at = spot(s, m);
+    let old = values[at];
+    decided(
+        h,
+        lower,
+        gap,
+        upper,
+        firm,
+        links,
+        values,
+        heads::named(h, after),
+        seen,
+        old,
+        exact::number(s),
+        client,
+        after,
+        exact::number(m),
+        exact::number(kind),
+        constant,
+        sound,
     )
 }

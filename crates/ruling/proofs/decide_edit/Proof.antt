@@ -1,24 +1,34 @@
+use lib.IntN.{pos}
+use lib.ListN.{getD}
+use mathlib.Core.Path.{ap, _∙_}
 use mir.Facts.{toZ-ofZ}
-use mathlib.Core.Path.{_≡_, ap, _∙_}
+use Rattle.exact.proofs.Ints.{fits32}
 use Rattle.protocol.specs.Lists.{natural}
+use Rattle.heads.specs.Heads.{namedAt}
 use Rattle.records.specs.Records.{recordOf}
 use Rattle.rules.specs.Rules.{testedBy}
-use Rattle.ruling.specs.Edits.{editRuling, editDecision}
+use Rattle.ruling.specs.Edits.{spotOf, editRuling, editDecision}
 use borrow.Author.Needs.{needs}
 use Rattle.ruling.proofs.decide_edit.Statement.{statement}
 use Rattle.ruling.proofs.decide_edit.Tie as tie
 use Rattle.ruling.proofs.decide_edit.Reads as reads
 use Rattle.ruling.proofs.decide_edit.Lts as lts
 use Rattle.exact.proofs.number.Reads as number-reads
-use Rattle.records.proofs.found.Reads as found-reads
-use Rattle.ruling.proofs.edit_decision.Reads as edit-decision-reads
-use Rattle.ruling.proofs.edit_ruling.Reads as edit-ruling-reads
+use Rattle.heads.proofs.named.Reads as named-reads
+use Rattle.ruling.proofs.decided.Reads as decided-reads
+use Rattle.ruling.proofs.spot.Reads as spot-reads
 
-found-requires : tie.Need-found-requires
-found-requires c κs = search needs
+spot-requires : tie.Need-spot-requires
+spot-requires c κs = search needs
 
-edit-ruling-requires : tie.Need-edit-ruling-requires
-edit-ruling-requires c κs = search needs
+mul-old : tie.Need-mul-old
+mul-old c = search needs
+
+element-copy-out-old : tie.Need-element-copy-out-old
+element-copy-out-old c = search needs
+
+named-requires : tie.Need-named-requires
+named-requires c κs = search needs
 
 number-requires : tie.Need-number-requires
 number-requires c κs = search needs
@@ -26,32 +36,40 @@ number-requires c κs = search needs
 number-requires-2 : tie.Need-number-requires-2
 number-requires-2 c κs = search needs
 
-edit-decision-requires : tie.Need-edit-decision-requires
-edit-decision-requires c κs = search needs
+number-requires-3 : tie.Need-number-requires-3
+number-requires-3 c κs = search needs
+
+decided-requires : tie.Need-decided-requires
+decided-requires c κs = search needs
 
 returns : tie.Need-returns
 returns c =
-    let s = (c .before .before .before .before .before) in
+    let s = (c .before .before .before .before .before .before .before .before) in
     let a = s .args in
-    let named = (c .before .before .before .before .found .ensures) in
+    let to-s = toZ-ofZ (s .fits .s) in
+    let to-m = toZ-ofZ (s .fits .m) in
     let client = toZ-ofZ (s .fits .client) in
     let after = toZ-ofZ (s .fits .after) in
     let constant = toZ-ofZ (s .fits .constant) in
-    let old = toZ-ofZ (s .fits .old) in
-    let ruling : (c .before .before .before .edit-ruling .result) ≡ editRuling (testedBy (a .sound) (a .links .now)) (a .h) (a .lower .now) (a .gap .now) (a .upper .now) (a .firm .now) (a .values .now) (recordOf (a .i) (a .seen)) (a .s) (a .client) (a .after) (a .m) (a .kind) (a .constant) =
-    (c .before .before .before .edit-ruling .ensures) ∙ (λ i. editRuling (testedBy (a .sound) (a .links .now)) (a .h) (a .lower .now) (a .gap .now) (a .upper .now) (a .firm .now) (a .values .now) (named i) (a .s) (client i) (after i) (a .m) (a .kind) (constant i))
-    in
-    let by = (c .before .before .number .ensures) ∙ ap natural client in
-    let on = (c .before .number2 .ensures) ∙ ap natural after in
-    (c .edit-decision .ensures) ∙ (λ i. editDecision (a .h) (ruling i) (old i) (a .s) (by i) (on i) (a .m))
+    let i = (c .before .before .before .before .named .ensures .0) ∙ ap (namedAt (a .h)) after in
+    let side = (c .before .before .before .number .ensures) ∙ ap natural to-s in
+    let measure = (c .before .before .number2 .ensures) ∙ ap natural to-m in
+    let kind = (c .before .number3 .ensures) ∙ ap natural (toZ-ofZ (s .fits .kind)) in
+    let spot = (c .before .before .before .before .before .before .before .spot .ensures .0) ∙ (λ j. spotOf (natural (to-s j)) (natural (to-m j))) in
+    let old = toZ-ofZ (fits32 (getD (a .values .now) (c .before .before .before .before .before .before .before .spot .result) (pos 0)) (c .before .before .before .before .before .before .old .given)) ∙ ap (λ j. getD (a .values .now) j (pos 0)) spot in
+    (c .decided .ensures)
+    ∙ (λ j. editDecision (a .h) (editRuling (testedBy (a .sound) (a .links .now)) (a .h) (a .lower .now) (a .gap .now) (a .upper .now) (a .firm .now) (a .values .now) (recordOf (i j) (a .seen)) (side j) (client j) (after j) (measure j) (kind j) (constant j)) (old j) (side j) (natural (client j)) (natural (after j)) (measure j))
 
 pub decide-edit-spec : {M : Type 1} → statement M
 decide-edit-spec =
     tie.close
     (tie.spec
-    found-requires
-    edit-ruling-requires
+    spot-requires
+    mul-old
+    element-copy-out-old
+    named-requires
     number-requires
     number-requires-2
-    edit-decision-requires
+    number-requires-3
+    decided-requires
     returns)
