@@ -24,58 +24,55 @@ use Rattle.rules.proofs.Links.{tested-linked}
 use Rattle.records.specs.declared.EditRecord.{EditRecord}
 use Rattle.heads.specs.declared.Head.{Head}
 use Rattle.state.specs.declared.State.{State}
-use Rattle.heads.specs.Heads.{modeOf, sidesIn, keptIn, endIn, positionOf, placeOf, unsetIn}
-use Rattle.records.specs.Records.{keptAt, keptOf, noRecord, recordOf}
+use Rattle.heads.specs.Heads.{modeOf, sidesIn, keptIn, endIn, placeOf, seatOf, unsetIn}
+use Rattle.records.specs.Records.{keptAt, keptOf, noRecord}
 use Rattle.state.specs.View.{view, rulesOf}
 use Rattle.state.specs.Parts.{namedIn}
 use Rattle.state.specs.Meets.{answerOf, SameIfRefused, Meets}
-use Rattle.state.proofs.Views.{Sized, plan-same, flags-unset, lookup-named, seat-found, named-found}
+use Rattle.state.proofs.Views.{Sized, plan-same, flags-unset, lookup-named}
 use Rattle.records.proofs.Logs.{Placed, placed, log-modify}
 use Rattle.settling.specs.declared.Outcome.the-variants.{Settled}
 use Rattle.settling.specs.declared.Decision.{Decision}
-use Rattle.settling.specs.Replays.{replayChecks, draftIn, effectiveIn, draftOutcome, settledBy, replayOutcome, settledRecord, replayDecision, pointOf, slotIn, replayBy, replayIn, stored}
+use Rattle.settling.specs.Replays.{replayChecks, draftIn, effectiveIn, draftOutcome, settledBy, replayOutcome, settledRecord, replayDecision, pointOf, standingAt, earlierAt, standingIn, replayFrom, replayBy, replayIn, stored}
 
 -- what the test of the rules finds counts only where the plan is joining or closing: two tests that then find the same make the same decision
-decision-same : (test test′ : RuleTest) (p : State) (n : ℕ)
-    → (let e = namedIn p n in let ws = made (e .measure) (viewChange (e .change)) (draftIn (p .head) (p .draft)) in
+decision-same : (test test′ : RuleTest) (p : State) (n : ℤ)
+    → (let e = namedIn p (natural n) in let ws = made (e .measure) (viewChange (e .change)) (draftIn (p .head) (p .draft)) in
     T (active (modeOf (p .head .mode))) → test (e .measure) (p .lower) (p .gap) (p .upper) (min (p .head .rules) 64) ws ≡ test′ (e .measure) (p .lower) (p .gap) (p .upper) (min (p .head .rules) 64) ws)
     → replayBy test p n ≡ replayBy test′ p n
 unfolding replayOutcome draftOutcome effectiveIn
 decision-same test test′ p n h = cases (active (modeOf (p .head .mode)))
     (λ t.
-    let e = namedIn p n in
+    let e = namedIn p (natural n) in
     let vs = draftIn (p .head) (p .draft) in
     let old = getD (p .draft) (pointOf (e .measure)) (pos 0) in
     ap (λ y.
     let b = fits (e .measure) (viewChange (e .change)) vs && y in
     replayDecision
     (settledBy (first (replayChecks (modeOf (p .head .mode)) (unsetIn (p .arrived) (sidesIn (p .head))) (keptAt 0 e) (keptAt 0 (namedIn p (e .earlier))))) (Settled b (cond (b && oneTo (min (p .head .drafted) 32) (e .measure)) (applied (viewChange (e .change)) (value vs (e .measure))) old)))
-    (getD (p .edits) (slotIn p n) noRecord) old (count isSettled (keptOf (p .head) (p .edits)) + 1))
+    (standingIn p n) old (count isSettled (keptOf (p .head) (p .edits)) + 1))
     (h (is-yes t)))
     (λ t. rw t)
 
--- from what each step of a replay gave, in the code's order, with the rules' own links, to the decision in the state and the places of its stores
-pub replay-decided : (sound : Bool) (p : State) (n : ℤ) {n′ old : ℤ} {number i slot i′ seat missing settled point : ℕ} {links : List ℕ} {e : EditRecord} {d : Decision}
-    → n′ ≡ n → number ≡ natural n′ → i ≡ positionOf (endIn (p .head)) (keptIn (p .head)) number → slot ≡ placeOf i → e ≡ recordOf i (getD (p .edits) slot noRecord)
-    → i′ ≡ positionOf (endIn (p .head)) (keptIn (p .head)) (e .earlier) → seat ≡ placeOf i′
-    → missing ≡ unsetIn (p .arrived) (sidesIn (p .head)) → settled ≡ count isSettled (keptOf (p .head) (p .edits)) → point ≡ pointOf (e .measure) → old ≡ getD (p .draft) point (pos 0)
-    → d ≡ replayDecision (replayOutcome (testedBy sound links) (p .head) (p .lower) (p .gap) (p .upper) (p .draft) missing (recordOf i (getD (p .edits) slot noRecord)) (recordOf i′ (getD (p .edits) seat noRecord)) old) (getD (p .edits) slot noRecord) old (settled + 1)
+-- the decision that the code makes, with the rules' own links, is the one in the state
+pub replay-decided : (sound : Bool) (p : State) (n : ℤ) {slot seat place : ℕ} {links : List ℕ} {d : Decision}
+    → slot ≡ seatOf (p .head) n → seat ≡ placeOf (earlierAt (p .head) n (getD (p .edits) slot noRecord)) → place ≡ count isSettled (keptOf (p .head) (p .edits)) + 1
+    → d ≡ replayFrom (testedBy sound links) (p .head) (p .lower) (p .gap) (p .upper) (p .draft) (p .arrived) n (getD (p .edits) slot noRecord) (getD (p .edits) seat noRecord) place
     → LinkedIf sound links (p .lower) (p .upper) (min (p .head .rules) 64)
-    → (d ≡ replayIn sound p (natural n)) × (point ≡ pointOf (namedIn p (natural n) .measure)) × (slot ≡ slotIn p (natural n))
-replay-decided sound p n {links = links} to-n number-is position-is slot-is e-is position-is′ seat-is missing-is settled-is point-is old-is d-is linked =
-    let number = number-is ∙ ap natural to-n in
-    let slot = seat-found p number position-is slot-is in
-    let found = named-found p number position-is slot-is refl in
-    let e = e-is ∙ found in
-    let earlier = named-found p (ap (λ r. r .earlier) e) position-is′ seat-is refl in
-    let point = point-is ∙ ap (λ r. pointOf (r .measure)) e in
-    let old = old-is ∙ ap (λ j. getD (p .draft) j (pos 0)) point in
-    let own = decision-same (testedBy sound links) (testedIn sound) p (natural n) (λ t. tested-linked sound links _ (p .lower) (p .gap) (p .upper) _ _ linked) in
-    (d-is ∙ (λ j. replayDecision (replayOutcome (testedBy sound links) (p .head) (p .lower) (p .gap) (p .upper) (p .draft) (missing-is j) (found j) (earlier j) (old j)) (getD (p .edits) (slot j) noRecord) (old j) (settled-is j + 1)) ∙ own, point, slot)
+    → d ≡ replayIn sound p n
+replay-decided sound p n {links = links} slot-is seat-is place-is d-is linked =
+    let standing = ap (λ j. getD (p .edits) j noRecord) slot-is in
+    let seen = ap (λ j. getD (p .edits) j noRecord) (seat-is ∙ ap (λ r. placeOf (earlierAt (p .head) n r)) standing) in
+    d-is ∙ (λ j. replayFrom (testedBy sound links) (p .head) (p .lower) (p .gap) (p .upper) (p .draft) (p .arrived) n (standing j) (seen j) (place-is j))
+    ∙ decision-same (testedBy sound links) (testedIn sound) p n (λ t. tested-linked sound links _ (p .lower) (p .gap) (p .upper) _ _ linked)
+
+-- and its measure's place in the draft is the edit's
+pub point-decided : (p : State) (n : ℤ) {slot point : ℕ} → slot ≡ seatOf (p .head) n → point ≡ pointOf (standingAt (p .head) n (getD (p .edits) slot noRecord) .measure) → point ≡ pointOf (namedIn p (natural n) .measure)
+point-decided p n slot-is point-is = point-is ∙ ap (λ j. pointOf (standingAt (p .head) n (getD (p .edits) j noRecord) .measure)) slot-is
 
 -- where all rules held on the draft, it is enough to test those that name the measure
-pub replay-sound : (p : State) (n : ℕ) → (T (active (modeOf (p .head .mode))) → holds (rulesOf p) (draftIn (p .head) (p .draft)) ≡ true) → replayIn true p n ≡ replayIn false p n
-replay-sound p n h = decision-same (testedIn true) (testedIn false) p n (λ t. tested-sound (p .lower) (p .gap) (p .upper) (p .firm) (min (p .head .rules) 64) (namedIn p n .measure) (viewChange (namedIn p n .change)) _ (h t))
+pub replay-sound : (p : State) (n : ℤ) → (T (active (modeOf (p .head .mode))) → holds (rulesOf p) (draftIn (p .head) (p .draft)) ≡ true) → replayIn true p n ≡ replayIn false p n
+replay-sound p n h = decision-same (testedIn true) (testedIn false) p n (λ t. tested-sound (p .lower) (p .gap) (p .upper) (p .firm) (min (p .head .rules) 64) (namedIn p (natural n) .measure) (viewChange (namedIn p (natural n) .change)) _ (h t))
 
 module _ (p : State) (z : Sized p) (n : ℤ) where
   abbrev h : Head
@@ -141,7 +138,7 @@ module _ (p : State) (z : Sized p) (n : ℤ) where
       (λ u. rw u draft-kept)
 
   abbrev standing : EditRecord
-  standing = getD (p .edits) (slotIn p (natural n)) noRecord
+  standing = getD (p .edits) (seatOf h n) noRecord
 
   abbrev place : ℕ
   place = count isSettled (keptOf h (p .edits)) + 1
@@ -151,14 +148,14 @@ module _ (p : State) (z : Sized p) (n : ℤ) where
   settled-as true j m r = refl
   settled-as false j m r = refl
 
-  kept-next : Pass Checks → keptOf h (set (p .edits) (slotIn p (natural n)) (settledRecord standing b place)) ≡ update (natural n) (settled b (nextPlace (keptOf h (p .edits)))) (keptOf h (p .edits))
+  kept-next : Pass Checks → keptOf h (set (p .edits) (seatOf h n) (settledRecord standing b place)) ≡ update (natural n) (settled b (nextPlace (keptOf h (p .edits)))) (keptOf h (p .edits))
   kept-next f = by (placed (endIn h) (keptIn h) (natural n) (p .edits))
     where
-      by : Placed (endIn h) (keptIn h) (natural n) (p .edits) → keptOf h (set (p .edits) (slotIn p (natural n)) (settledRecord standing b place)) ≡ update (natural n) (settled b (nextPlace (keptOf h (p .edits)))) (keptOf h (p .edits))
+      by : Placed (endIn h) (keptIn h) (natural n) (p .edits) → keptOf h (set (p .edits) (seatOf h n) (settledRecord standing b place)) ≡ update (natural n) (settled b (nextPlace (keptOf h (p .edits)))) (keptOf h (p .edits))
       by (inl q) = absurd (rw (q .0) at (f .1 .1 .0))
       by (inr q) =
           let j = q .0 in
-          let at : slotIn p (natural n) ≡ j = ap placeOf (q .2) ∙ (let i = q .1 in omega arith) in
+          let at : seatOf h n ≡ j = ap placeOf (q .2) ∙ (let i = q .1 in omega arith) in
           let l = z .edits in
           let i = q .1 in
           (λ t. keptOf h (set (p .edits) (at t) (settledRecord (getD (p .edits) (at t) noRecord) b (add-one (count isSettled (keptOf h (p .edits))) t))))
@@ -169,7 +166,7 @@ module _ (p : State) (z : Sized p) (n : ℤ) where
   decided v = replayDecision (settledBy v (draftOutcome (testedIn false) h (p .lower) (p .gap) (p .upper) (p .draft) (e .measure) (e .change) old)) standing old place
 
   abbrev next : Verdict → State
-  next v = stored p (pointOf (e .measure)) (slotIn p (natural n)) (decided v)
+  next v = stored p (pointOf (e .measure)) (seatOf h n) (decided v)
 
   given : (w : Bool) → _≡_ {A = List ℤ} (pos (cond w 3 4) ∷ []) (pos (model.fateNumber (outcome w)) ∷ [])
   given true = refl
@@ -179,7 +176,7 @@ module _ (p : State) (z : Sized p) (n : ℤ) where
   by : (v : Verdict) → (Fine v → Pass Checks) → (answerOf (decided v .answer) ≡ stepBy v call (view p) .answer) × (view (next v) ≡ stepBy v call (view p) .plan) × SameIfRefused (decided v .answer) p (next v)
   unfolding gives after draftOutcome
   by (refused j) f =
-      let same : next (refused j) ≡ p = rw (set-getD (p .draft) (pointOf (e .measure)) (pos 0), set-getD (p .edits) (slotIn p (natural n)) noRecord) in
+      let same : next (refused j) ≡ p = rw (set-getD (p .draft) (pointOf (e .measure)) (pos 0), set-getD (p .edits) (seatOf h n) noRecord) in
       (refl, ap view same, same)
   by fine f =
       let g = f tt in
@@ -192,6 +189,6 @@ module _ (p : State) (z : Sized p) (n : ℤ) where
         tt,
       )
 
-  pub replay-meets : Meets call p (record { state = stored p (pointOf (e .measure)) (slotIn p (natural n)) (replayIn false p (natural n)); answer = replayIn false p (natural n) .answer })
+  pub replay-meets : Meets call p (record { state = stored p (pointOf (e .measure)) (seatOf h n) (replayIn false p n); answer = replayIn false p n .answer })
   unfolding step replayOutcome
   replay-meets = let r = by (first Checks) (passed Checks) in record { answer = rw checks-same (r .0); plan = rw checks-same (r .1); same = r .2 }

@@ -18,9 +18,8 @@ use Rattle.records.specs.declared.Fate.the-variants.{Accepted, Revoked}
 use Rattle.heads.specs.declared.Head.{Head}
 use Rattle.state.specs.declared.State.{State}
 use Rattle.state.specs.declared.Answer.the-variants.{Refused, Number}
-use Rattle.heads.specs.Heads.{modeOf, sidesIn, endIn, keptIn, positionOf, placeOf, unsetIn}
-use Rattle.records.specs.Records.{keptAt, keptOf, noRecord}
-use Rattle.state.specs.Parts.{namedIn}
+use Rattle.heads.specs.Heads.{modeOf, sidesIn, endIn, keptIn, positionOf, placeOf, namedAt, seatOf, unsetIn}
+use Rattle.records.specs.Records.{keptAt, keptOf, noRecord, recordOf}
 use Rattle.settling.specs.declared.Outcome.{Outcome}
 use Rattle.settling.specs.declared.Outcome.the-variants.{Refused as Denied, Settled}
 use Rattle.settling.specs.declared.Decision.{Decision}
@@ -72,19 +71,31 @@ replayDecision (Settled b x) standing old place = record { amount = x; entry = s
 abbrev pub pointOf : ℕ → ℕ
 pointOf m = min (m - 1) 31
 
--- where the edit numbered n stands
-abbrev pub slotIn : State → ℕ → ℕ
-slotIn p n = placeOf (positionOf (endIn (p .head)) (keptIn (p .head)) n)
+-- the edit numbered n, from the record seen where it would stand, and the place of the one that it names as earlier
+abbrev pub standingAt : Head → ℤ → EditRecord → EditRecord
+standingAt h n standing = recordOf (namedAt h n) standing
 
--- the decision in a state, by a test of the rules; and by the one that needs no links, where `sound` says that all rules held before
-abbrev pub replayBy : RuleTest → State → ℕ → Decision
+abbrev pub earlierAt : Head → ℤ → EditRecord → ℕ
+earlierAt h n standing = positionOf (endIn h) (keptIn h) (standingAt h n standing .earlier)
+
+-- the decision from a call's number, by a test of the rules, with the records seen where that edit and its earlier one would stand
+abbrev pub replayFrom : RuleTest → Head → List ℕ → List ℤ → List ℕ → List ℤ → List Bool → ℤ → EditRecord → EditRecord → ℕ → Decision
+replayFrom test h lower gap upper draft arrived n standing seen place =
+    let e = standingAt h n standing in
+    let old = getD draft (pointOf (e .measure)) (pos 0) in
+    replayDecision (replayOutcome test h lower gap upper draft (unsetIn arrived (sidesIn h)) e (recordOf (earlierAt h n standing) seen) old) standing old place
+
+-- the record where the edit numbered n would stand in a state
+abbrev pub standingIn : State → ℤ → EditRecord
+standingIn p n = getD (p .edits) (seatOf (p .head) n) noRecord
+
+-- the decision in a state; and by the test that needs no links, where `sound` says that all rules held before
+abbrev pub replayBy : RuleTest → State → ℤ → Decision
 replayBy test p n =
-    let e = namedIn p n in
-    replayDecision
-    (replayOutcome test (p .head) (p .lower) (p .gap) (p .upper) (p .draft) (unsetIn (p .arrived) (sidesIn (p .head))) e (namedIn p (e .earlier)) (getD (p .draft) (pointOf (e .measure)) (pos 0)))
-    (getD (p .edits) (slotIn p n) noRecord) (getD (p .draft) (pointOf (e .measure)) (pos 0)) (count isSettled (keptOf (p .head) (p .edits)) + 1)
+    replayFrom test (p .head) (p .lower) (p .gap) (p .upper) (p .draft) (p .arrived) n (standingIn p n) (getD (p .edits) (placeOf (earlierAt (p .head) n (standingIn p n))) noRecord)
+    (count isSettled (keptOf (p .head) (p .edits)) + 1)
 
-abbrev pub replayIn : Bool → State → ℕ → Decision
+abbrev pub replayIn : Bool → State → ℤ → Decision
 replayIn sound = replayBy (testedIn sound)
 
 -- a decision carried out

@@ -1,9 +1,11 @@
 // What a replay decides: its checks, the trial on the draft, and what it stores. Read only, on what is lent to it.
 ghost use mathlib.Core.Path.{_≡_};
+ghost use Prim.Native.Nat.{_+_, _<_, min};
 ghost use Rattle.protocol.specs.Plan.{isWaiting};
 ghost use Rattle.rules.specs.Rules.{testedBy};
+ghost use Rattle.heads.specs.Heads.{placeOf};
 ghost use Rattle.records.specs.Records.{keptAt, recordOf};
-ghost use Rattle.settling.specs.Replays.{draftOutcome, replayOutcome, settledFate, settledRecord, replayDecision};
+ghost use Rattle.settling.specs.Replays.{draftOutcome, replayOutcome, settledFate, settledRecord, replayDecision, pointOf, standingAt, earlierAt, replayFrom};
 use change::Change;
 use heads::Head;
 use records::EditRecord;
@@ -169,7 +171,7 @@ fn replay_decision(outcome: Outcome, standing: EditRecord, old: i32, place: u32)
 
 // What a replay stores, from the edit that stands at a place from 1, the one seen at the place that it names as earlier, and the value that
 // stands at its place in the draft; place is the next in the order of settling.
-pub fn decide_replay<'a>(
+fn decided<'a>(
     h: Head,
     lower: &'a [u32; 64],
     gap: &'a [i32; 64],
@@ -201,4 +203,69 @@ pub fn decide_replay<'a>(
         sound,
     );
     replay_decision(outcome, standing, old, place)
+}
+
+// Where a measure stands in the draft.
+fn point(m: u32) -> usize
+    ensures { λ r. ⌜ (r ≡ pointOf m) × (r < 32) ⌝ }
+{
+    if m == 0 {
+        return 0;
+    }
+    rows::capped(m - 1, 31)
+}
+
+// Where the measure of the edit numbered n stands in the draft, from the record seen where that edit would stand.
+pub fn point_of(h: Head, n: i32, standing: EditRecord) -> usize
+    ensures { λ r. ⌜ (r ≡ pointOf (standingAt h n standing .measure)) × (r < 32) ⌝ }
+{
+    let e = records::found(heads::named(h, n), standing);
+    point(e.measure)
+}
+
+// Where the edit would stand that it names as earlier.
+pub fn earlier_seat(h: Head, n: i32, standing: EditRecord) -> usize
+    ensures { λ r. ⌜ (r ≡ placeOf (earlierAt h n standing)) × (r < 256) ⌝ }
+{
+    let e = records::found(heads::named(h, n), standing);
+    heads::place(heads::position(h, e.earlier))
+}
+
+// What a replay stores, from its number, the records seen where that edit and its earlier one would stand, and how many edits are settled.
+pub fn decide_replay<'a>(
+    h: Head,
+    lower: &'a [u32; 64],
+    gap: &'a [i32; 64],
+    upper: &'a [u32; 64],
+    links: &'a Links,
+    draft: &'a [i32; 32],
+    arrived: &'a [bool; 8],
+    n: i32,
+    standing: EditRecord,
+    seen: EditRecord,
+    settled: u32,
+    sound: bool,
+) -> Decision
+    ensures { λ r. ⌜ r ≡ replayFrom (testedBy sound (now (links .entry))) h (now (lower .entry)) (now (gap .entry)) (now (upper .entry)) (now (draft .entry)) (now (arrived .entry)) n standing seen (min settled 256 + 1) ⌝ }
+{
+    let i = heads::named(h, n);
+    let e = records::found(i, standing);
+    let at = point(e.measure);
+    let old = draft[at];
+    decided(
+        h,
+        lower,
+        gap,
+        upper,
+        links,
+        draft,
+        heads::unset(arrived, h),
+        i,
+        standing,
+        heads::position(h, e.earlier),
+        seen,
+        old,
+        rows::capped(settled, 256) as u32 + 1,
+        sound,
+    )
 }

@@ -107,17 +107,6 @@ flags-unset p flag flags h =
 pub lookup-named : (p : State) (n : ℕ) → lookup n (view p .content .kept) ≡ keptAt (cond (eqb (positionOf (endIn (p .head)) (keptIn (p .head)) n) 0) 0 n) (namedIn p n)
 lookup-named p n = lookup-record (endIn (p .head)) (keptIn (p .head)) n (p .edits) (omega arith)
 
--- an edit that is found step by step, by its number's place and its seat, is the one that the number names
-module _ (p : State) {number n i seat : ℕ} (e : number ≡ n) (f : i ≡ positionOf (endIn (p .head)) (keptIn (p .head)) number) (g : seat ≡ placeOf i) where
-  pub position-found : i ≡ positionOf (endIn (p .head)) (keptIn (p .head)) n
-  position-found = f ∙ ap (positionOf (endIn (p .head)) (keptIn (p .head))) e
-
-  pub seat-found : seat ≡ placeOf (positionOf (endIn (p .head)) (keptIn (p .head)) n)
-  seat-found = g ∙ ap placeOf position-found
-
-  pub named-found : {r : EditRecord} → r ≡ recordOf i (getD (p .edits) seat noRecord) → r ≡ namedIn p n
-  named-found h = h ∙ ap₂ (λ a b. recordOf a (getD (p .edits) b noRecord)) position-found seat-found
-
 pub row-length : (vs : List ℤ) (at n : ℕ) → length (row vs at n) ≡ n
 row-length vs at n = length-span at n (λ i. getD vs i (pos 0))
 

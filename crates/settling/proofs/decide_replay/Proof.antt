@@ -1,47 +1,86 @@
-use mathlib.Core.Path.{_≡_, _∙_}
+use Prim.Native.Nat.{_+_}
+use lib.IntN.{pos}
+use lib.ListN.{getD}
+use mathlib.Core.Path.{_≡_, ap, _∙_}
 use mir.Facts.{toZ-ofZ}
+use Rattle.exact.proofs.Ints.{fits32}
+use Rattle.heads.specs.Heads.{endIn, keptIn, positionOf, namedAt}
 use Rattle.records.specs.Records.{recordOf}
 use Rattle.rules.specs.Rules.{testedBy}
-use Rattle.settling.specs.Replays.{replayOutcome, replayDecision}
+use Rattle.settling.specs.Replays.{pointOf, replayOutcome, replayDecision}
 use borrow.Author.Needs.{needs}
 use Rattle.settling.proofs.decide_replay.Statement.{statement}
 use Rattle.settling.proofs.decide_replay.Tie as tie
 use Rattle.settling.proofs.decide_replay.Reads as reads
 use Rattle.settling.proofs.decide_replay.Lts as lts
+use Rattle.heads.proofs.named.Reads as named-reads
+use Rattle.heads.proofs.position.Reads as position-reads
+use Rattle.heads.proofs.unset.Reads as unset-reads
 use Rattle.records.proofs.found.Reads as found-reads
-use Rattle.settling.proofs.replay_decision.Reads as replay-decision-reads
-use Rattle.settling.proofs.replay_outcome.Reads as replay-outcome-reads
+use Rattle.rows.proofs.capped.Reads as capped-reads
+use Rattle.settling.proofs.decided.Reads as decided-reads
+use Rattle.settling.proofs.point.Reads as point-reads
+
+named-requires : tie.Need-named-requires
+named-requires c κs = search needs
 
 found-requires : tie.Need-found-requires
 found-requires c κs = search needs
 
-found-requires-2 : tie.Need-found-requires-2
-found-requires-2 c κs = search needs
+point-requires : tie.Need-point-requires
+point-requires c κs = search needs
 
-replay-outcome-requires : tie.Need-replay-outcome-requires
-replay-outcome-requires c κs = search needs
+mul-old : tie.Need-mul-old
+mul-old c = search needs
 
-replay-decision-requires : tie.Need-replay-decision-requires
-replay-decision-requires c κs = search needs
+element-copy-out-old : tie.Need-element-copy-out-old
+element-copy-out-old c = search needs
+
+unset-requires : tie.Need-unset-requires
+unset-requires c κs = search needs
+
+position-requires : tie.Need-position-requires
+position-requires c κs = search needs
+
+capped-requires : tie.Need-capped-requires
+capped-requires c κs = search needs
+
+cast-decided : tie.Need-cast-decided
+cast-decided c = search needs
+
+add-decided : tie.Need-add-decided
+add-decided c = search needs
+
+decided-requires : tie.Need-decided-requires
+decided-requires c κs = search needs
 
 returns : tie.Need-returns
 returns c =
-    let s = (c .before .before .before .before) in
+    let s = (c .before .before .before .before .before .before .before .before .before) in
     let a = s .args in
-    let e = (c .before .before .before .found .ensures) in
-    let earlier = (c .before .before .found2 .ensures) in
-    let old = toZ-ofZ (s .fits .old) in
-    let outcome : (c .before .replay-outcome .result) ≡ replayOutcome (testedBy (a .sound) (a .links .now)) (a .h) (a .lower .now) (a .gap .now) (a .upper .now) (a .draft .now) (a .missing) (recordOf (a .i) (a .standing)) (recordOf (a .j) (a .seen)) (a .old) =
-    (c .before .replay-outcome .ensures) ∙ (λ i. replayOutcome (testedBy (a .sound) (a .links .now)) (a .h) (a .lower .now) (a .gap .now) (a .upper .now) (a .draft .now) (a .missing) (e i) (earlier i) (old i))
-    in
-    (c .replay-decision .ensures) ∙ (λ i. replayDecision (outcome i) (a .standing) (old i) (a .place))
+    let i = (c .before .before .before .before .before .before .before .before .named .ensures .0) ∙ ap (namedAt (a .h)) (toZ-ofZ (s .fits .n)) in
+    let e = (c .before .before .before .before .before .before .before .found .ensures) ∙ ap (λ j. recordOf j (a .standing)) i in
+    let point = (c .before .before .before .before .before .before .point .ensures .0) ∙ ap (λ r. pointOf (r .measure)) e in
+    let old = toZ-ofZ (fits32 (getD (a .draft .now) ((c .before .before .before .before .before .before .point .result)) (pos 0)) ((c .before .before .before .before .before .old .given))) ∙ ap (λ j. getD (a .draft .now) j (pos 0)) point in
+    let earlier = (c .before .before .position .ensures .0) ∙ ap (λ r. positionOf (endIn (a .h)) (keptIn (a .h)) (r .earlier)) e in
+    let missing = (c .before .before .before .unset .ensures .0) in
+    let place = ap (λ j. j + 1) ((c .before .capped .ensures)) in
+    (c .decided .ensures)
+    ∙ (λ j. replayDecision (replayOutcome (testedBy (a .sound) (a .links .now)) (a .h) (a .lower .now) (a .gap .now) (a .upper .now) (a .draft .now) (missing j) (recordOf (i j) (a .standing)) (recordOf (earlier j) (a .seen)) (old j)) (a .standing) (old j) (place j))
 
 pub decide-replay-spec : {M : Type 1} → statement M
 decide-replay-spec =
     tie.close
     (tie.spec
+    named-requires
     found-requires
-    found-requires-2
-    replay-outcome-requires
-    replay-decision-requires
+    point-requires
+    mul-old
+    element-copy-out-old
+    unset-requires
+    position-requires
+    capped-requires
+    cast-decided
+    add-decided
+    decided-requires
     returns)
