@@ -19,7 +19,7 @@ use Rattle.state.specs.declared.Answer.{Answer}
 use Rattle.state.specs.declared.Answer.the-variants.{Refused, Done, Number, Pair}
 use Rattle.state.specs.View.{view}
 use Rattle.records.specs.Records.{keptAt, keptOf, noRecord}
-use Rattle.heads.specs.Heads.{modeOf, endIn, keptIn, positionOf, placeOf}
+use Rattle.heads.specs.Heads.{modeOf, endIn, keptIn, namedAt, seatOf}
 use Rattle.state.specs.Meets.{answerOf}
 use Rattle.state.proofs.Meeting.{fine-pass}
 use Rattle.figures.specs.Reads.{fateAnswer, showChecks, leftNumber}
@@ -48,11 +48,8 @@ tallies-right p t h l e =
     record { long = l; counted = h; left = λ a. e ∙ ap (leftNumber (p .head) (p .arrived) (p .confirmed) (t .unsent)) rest ∙ left-by p (t .unsent) (h .unsent) ∙ rw (yes-is (active (modeOf (p .head .mode))) a) }
 
 module _ (p : State) (t : Tallies) (h : Tallied t (view p)) where
-  abbrev pub placeIn : ℤ → ℕ
-  placeIn a = positionOf (endIn (p .head)) (keptIn (p .head)) (natural a)
-
   abbrev pub readingIn : ℕ → ℤ → Reading
-  readingIn op a = readingOf op a (p .head) (placeIn a) (getD (p .edits) (placeOf (placeIn a)) noRecord) (t .left)
+  readingIn op a = readingOf op a (p .head) (getD (p .edits) (seatOf (p .head) a) noRecord) (t .left)
 
   -- what is wanted of a reading
   Right : Reading → Stepped → Type 0
@@ -68,9 +65,9 @@ module _ (p : State) (t : Tallies) (h : Tallied t (view p)) where
           rw (show-checks p a measureLimit ∙ e) (ap ok (sym (shown-row p a (yes-is _ (g .1 .0)))), refl)
       by (refused k) e = rw (show-checks p a measureLimit ∙ e) (refl, refl)
 
-  fate-right : (a : ℤ) → Right (alone (fateAnswer (placeIn a) (getD (p .edits) (placeOf (placeIn a)) noRecord))) (step (fate-of a) (view p))
+  fate-right : (a : ℤ) → Right (alone (fateAnswer (namedAt (p .head) a) (getD (p .edits) (seatOf (p .head) a) noRecord))) (step (fate-of a) (view p))
   unfolding step checks further gives after Right
-  fate-right a = (alone-row (fateAnswer (placeIn a) (getD (p .edits) (placeOf (placeIn a)) noRecord)) ∙ fate-is p a, refl)
+  fate-right a = (alone-row (fateAnswer (namedAt (p .head) a) (getD (p .edits) (seatOf (p .head) a) noRecord)) ∙ fate-is p a, refl)
 
   left-right : (a : ℤ) → Right (readingIn 14 a) (step left (view p))
   unfolding step checks further gives after Right
