@@ -237,10 +237,10 @@ turned {done = done} {l = l} {p = p} k h = cases done (λ e. k .made e) (λ e. l
 same-rules : {p q : State} → q .lower ≡ p .lower → q .upper ≡ p .upper → q .head .rules ≡ p .head .rules → SameRules p q
 same-rules a b e = record { lower = a; upper = b; count = ap (λ n. min n 64) e }
 
-pub edit-rules : (p : State) (spot slot : ℕ) (sound : Bool) (s : ℕ) (client n : ℤ) (m kind : ℕ) (k : ℤ) (d : Decision) → d .head ≡ editIn sound p s client n m kind k .head → SameRules p (stored p spot slot d)
-edit-rules p spot slot sound s client n m kind k d e = same-rules refl refl (ap (λ h. h .rules) e ∙ by (editRuling (testedIn sound) (p .head) (p .lower) (p .gap) (p .upper) (p .firm) (p .values) (namedIn p (natural n)) s client n m kind k))
+pub edit-rules : (p : State) (spot slot : ℕ) (sound : Bool) (s client n m kind k : ℤ) (d : Decision) → d .head ≡ editIn sound p s client n m kind k .head → SameRules p (stored p spot slot d)
+edit-rules p spot slot sound s client n m kind k d e = same-rules refl refl (ap (λ h. h .rules) e ∙ by (editRuling (testedIn sound) (p .head) (p .lower) (p .gap) (p .upper) (p .firm) (p .values) (namedIn p (natural n)) (natural s) client n (natural m) (natural kind) k))
   where
-    by : (r : Ruling) → editDecision (p .head) r (getD (p .values) (spotOf s m) (pos 0)) s (natural client) (natural n) m .head .rules ≡ p .head .rules
+    by : (r : Ruling) → editDecision (p .head) r (getD (p .values) (spotOf (natural s) (natural m)) (pos 0)) (natural s) (natural client) (natural n) (natural m) .head .rules ≡ p .head .rules
     by (Denied j) = refl
     by (Granted c x) = refl
 
@@ -278,11 +278,11 @@ module _ (p : State) where
       let n = sides-length p in
       yes-is _ (subst (λ x. T (holds (rulesOf p) (x .values))) (side-at p s (r .0) (r .1)) (all-nth (λ x. holds (rulesOf p) (x .values)) absentSide (view p .content .sides) s (h .sides drawn) (r .0) (omega (arith, r .1, n))))
 
-  pub edit-held : (sound : Bool) → Sound sound p → (s : ℕ) (client n : ℤ) (m kind : ℕ) (k : ℤ) → editIn sound p s client n m kind k ≡ editIn false p s client n m kind k
-  edit-held true h s client n m kind k = edit-sound p s client n m kind k (side-holds (h refl) s)
+  pub edit-held : (sound : Bool) → Sound sound p → (s client n m kind k : ℤ) → editIn sound p s client n m kind k ≡ editIn false p s client n m kind k
+  edit-held true h s client n m kind k = edit-sound p s client n m kind k (side-holds (h refl) (natural s))
   edit-held false h s client n m kind k = refl
 
-  pub replay-held : (sound : Bool) → Sound sound p → (n : ℕ) → replayIn sound p n ≡ replayIn false p n
+  pub replay-held : (sound : Bool) → Sound sound p → (n : ℤ) → replayIn sound p n ≡ replayIn false p n
   replay-held true h n = replay-sound p n (λ a. yes-is _ (h refl .draft a))
   replay-held false h n = refl
 
@@ -346,7 +346,7 @@ module _ (c : Call) {p q : State} {a : Answer} {vs : List ℤ} (m : Made (some c
       (λ n. rw n (subst (Tallied t) (sym (if-refused n)) h))
 
 -- an edit that is kept is one that was accepted while the plan was not whole
-module _ (p : State) (s client n m kind k : ℤ) {q : State} (d : Decision) (e : d ≡ editIn false p (natural s) client n (natural m) (natural kind) k) (made : Made (some (edit s client n m kind k)) p q (d .answer) []) where
+module _ (p : State) (s client n m kind k : ℤ) {q : State} (d : Decision) (e : d ≡ editIn false p s client n m kind k) (made : Made (some (edit s client n m kind k)) p q (d .answer) []) where
   flag-is : isAccepted (d .answer) ≡ true → getD (p .arrived) (indexOf (natural s)) false ≡ sideAt (view p .content) (natural s) .arrived
   unfolding checks further
   flag-is y =

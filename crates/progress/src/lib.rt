@@ -89,10 +89,9 @@ fn go(
         let mut width: usize = 0;
         if 11 < op {
             // show, fate, left
-            let named = heads::position(h, side);
-            let seat = heads::place(named);
+            let seat = heads::seat(h, a);
             let seen = p.edits[seat];
-            let r = reads::read(op, a, h, named, seen, t.left);
+            let r = reads::read(op, a, h, seen, t.left);
             let given = r.answer;
             answer = given;
             first = r.from;
@@ -101,13 +100,10 @@ fn go(
         if op == 5 {
             // edit
             let h = p.head;
-            let named = heads::position(h, exact::number(line.c));
-            let seat = heads::place(named);
+            let seat = heads::seat(h, line.c);
             let seen = p.edits[seat];
-            let measure = exact::number(line.d);
-            let spot = edit::spot(side, measure);
+            let spot = ruling::spot(a, line.d);
             let slot = rows::capped(h.kept, 255);
-            let old = p.values[spot];
             let d = ruling::decide_edit(
                 h,
                 &p.lower,
@@ -116,14 +112,12 @@ fn go(
                 &p.firm,
                 &links,
                 &p.values,
-                named,
                 seen,
-                old,
-                side,
+                a,
                 line.b,
                 line.c,
-                measure,
-                exact::number(line.e),
+                line.d,
+                line.e,
                 line.f,
                 sound,
             );
@@ -145,17 +139,11 @@ fn go(
         if op == 8 {
             // replay
             let h = p.head;
-            let named = heads::position(h, side);
-            let slot = heads::place(named);
+            let slot = heads::seat(h, a);
             let standing = p.edits[slot];
-            let e = records::found(named, standing);
-            let next = heads::position(h, e.earlier);
-            let seat = heads::place(next);
+            let seat = settling::earlier_seat(h, a, standing);
             let seen = p.edits[seat];
-            let missing = heads::unset(&p.arrived, h);
-            let place = rows::capped(t.settled, 256) as u32 + 1;
-            let point = replay::point(e.measure);
-            let old = p.draft[point];
+            let point = settling::point_of(h, a, standing);
             let d = settling::decide_replay(
                 h,
                 &p.lower,
@@ -163,13 +151,11 @@ fn go(
                 &p.upper,
                 &links,
                 &p.draft,
-                missing,
-                named,
+                &p.arrived,
+                a,
                 standing,
-                next,
                 seen,
-                old,
-                place,
+                t.settled,
                 sound,
             );
             let amount = d.amount;

@@ -28,9 +28,8 @@ use Rattle.state.specs.declared.Answered.{Answered}
 use Rattle.state.proofs.State as the-state
 use Rattle.state.proofs.Answered as the-answered
 use Rattle.state.specs.View.{view}
-use Rattle.heads.specs.Heads.{modeOf, endIn, keptIn, sidesIn, indexOf}
+use Rattle.heads.specs.Heads.{modeOf, sidesIn, indexOf, placeOf, seatOf}
 use Rattle.records.specs.Records.{keptOf, noRecord}
-use Rattle.heads.specs.Heads.{positionOf, placeOf}
 use Rattle.state.specs.Meets.{answerOf}
 use Rattle.format.specs.Sheets.{text, turn, stepOf, inFront}
 use Rattle.writer.specs.Writes.{withRow, lineOf}
@@ -41,12 +40,12 @@ use Rattle.reconcile.proofs.Moves.{Named}
 use Rattle.turns.proofs.Sends.{send-few}
 use Rattle.dispatch.specs.Rare.{moveCall, Counts}
 use Rattle.ruling.specs.declared.Decision.{Decision}
-use Rattle.ruling.specs.Edits.{spotOf, slotOf, editIn, stored}
-use Rattle.rules.specs.Rules.{Linked}
+use Rattle.ruling.specs.Edits.{spotOf, slotOf, editFrom, editIn, stored}
+use Rattle.rules.specs.Rules.{Linked, testedBy}
 use Rattle.edit.proofs.Edits.{edit-decided, edit-meets}
 use Rattle.settling.specs.Replays as replaying
 use Rattle.settling.specs.declared.Decision as replaying-decision
-use Rattle.replay.proofs.Replays.{replay-decided, replay-meets}
+use Rattle.replay.proofs.Replays.{replay-decided, point-decided, replay-meets}
 use Rattle.reads.specs.Readings.{readingOf}
 use Rattle.reads.proofs.Right.{readingIn, reading-right, reading-bounds}
 use Rattle.reader.specs.Cut.{upTo}
@@ -65,22 +64,20 @@ use Rattle.progress.proofs.go.Reads as reads
 use Rattle.progress.proofs.go.Lts as lts
 use Rattle.dispatch.proofs.draw_up.Reads as draw-up-reads
 use Rattle.dispatch.proofs.move_frame.Reads as move-frame-reads
-use Rattle.edit.proofs.spot.Reads as spot-reads
 use Rattle.exact.proofs.number.Reads as number-reads
 use Rattle.heads.proofs.index.Reads as index-reads
-use Rattle.heads.proofs.place.Reads as place-reads
-use Rattle.heads.proofs.position.Reads as position-reads
-use Rattle.heads.proofs.unset.Reads as unset-reads
 use Rattle.progress.proofs.draws.Reads as draws-reads
 use Rattle.progress.proofs.last.Reads as last-reads
 use Rattle.progress.proofs.moves.Reads as moves-reads
 use Rattle.reader.proofs.read_line.Reads as read-line-reads
 use Rattle.reads.proofs.read.Reads as read-reads
-use Rattle.records.proofs.found.Reads as found-reads
-use Rattle.replay.proofs.point.Reads as point-reads
 use Rattle.rows.proofs.capped.Reads as capped-reads
 use Rattle.rules.proofs.indexed.Reads as indexed-reads
+use Rattle.heads.proofs.seat.Reads as seat-reads
 use Rattle.ruling.proofs.decide_edit.Reads as decide-edit-reads
+use Rattle.ruling.proofs.spot.Reads as spot-reads
+use Rattle.settling.proofs.earlier_seat.Reads as earlier-seat-reads
+use Rattle.settling.proofs.point_of.Reads as point-of-reads
 use Rattle.settling.proofs.decide_replay.Reads as decide-replay-reads
 use Rattle.records.proofs.satisfies.Reads as satisfies-reads
 use Rattle.tally.proofs.after_kept.Reads as after-kept-reads
@@ -197,136 +194,153 @@ unsent-is p t h s e o = let r = range (sidesIn (p .head)) s o in ap (λ j. getD 
 
 -- ---- a call that only reads
 
-read-is : (c : tie.After-read Inv-loop2 μ-loop2 Inv-loop μ-loop) → (c .read .result) ≡ readingIn (c .before .before .before .before .before .before .before .before .before .before .before .before .loop .p) (c .before .before .before .before .before .before .before .before .before .before .before .before .loop .t) (on-line (c .before .before .before .before .before .before .before .before .before .before .before) .1 .tallied) (c .before .before .before .before .before .before .before .before .before .read-line .result .op) (c .before .before .before .before .before .before .before .before .before .read-line .result .a)
+read-is : (c : tie.After-read Inv-loop2 μ-loop2 Inv-loop μ-loop) → (c .read .result) ≡ readingIn (c .before .before .before .before .before .before .before .before .before .before .before .loop .p) (c .before .before .before .before .before .before .before .before .before .before .before .loop .t) (on-line (c .before .before .before .before .before .before .before .before .before .before) .1 .tallied) (c .before .before .before .before .before .before .before .before .read-line .result .op) (c .before .before .before .before .before .before .before .before .read-line .result .a)
 read-is c =
-    let p = (c .before .before .before .before .before .before .before .before .before .before .before .before .loop .p) in
-    let l = (c .before .before .before .before .before .before .before .before .before .read-line .result) in
-    let a = toZ-ofZ (fits32 (l .a) (c .before .before .before .before .before .before .before .struct-told .given .1 .0 .1)) in
-    let position = (c .before .before .before .position .ensures .0) ∙ ap (positionOf (endIn (p .head)) (keptIn (p .head))) ((c .before .before .before .before .before .before .number .ensures) ∙ ap natural a) in
-    let seat = (c .before .before .place .ensures .0) ∙ ap placeOf position in
-    (c .read .ensures) ∙ (λ j. readingOf (l .op) (a j) (p .head) (position j) (getD (p .edits) (seat j) noRecord) (c .before .before .before .before .before .before .before .before .before .before .before .before .loop .t .left))
+    let p = (c .before .before .before .before .before .before .before .before .before .before .before .loop .p) in
+    let l = (c .before .before .before .before .before .before .before .before .read-line .result) in
+    let a = toZ-ofZ (fits32 (l .a) (c .before .before .before .before .before .before .struct-told .given .1 .0 .1)) in
+    let seat = (c .before .before .seat .ensures .0) ∙ ap (seatOf (p .head)) a in
+    (c .read .ensures) ∙ (λ j. readingOf (l .op) (a j) (p .head) (getD (p .edits) (seat j) noRecord) (c .before .before .before .before .before .before .before .before .before .before .before .loop .t .left))
 
-read-arm : (c : tie.After-read Inv-loop2 μ-loop2 Inv-loop μ-loop) → let p = (c .before .before .before .before .before .before .before .before .before .before .before .before .loop .p) in let r = (c .read .result) in (Made (lineIn (c .before .before .before .before .before .before .before .before .before .read-line .result)) p p (r .answer) (row (p .values) (r .from) (r .width))) × (r .from ≤ 224) × (r .width ≤ 32)
+read-arm : (c : tie.After-read Inv-loop2 μ-loop2 Inv-loop μ-loop) → let p = (c .before .before .before .before .before .before .before .before .before .before .before .loop .p) in let r = (c .read .result) in (Made (lineIn (c .before .before .before .before .before .before .before .before .read-line .result)) p p (r .answer) (row (p .values) (r .from) (r .width))) × (r .from ≤ 224) × (r .width ≤ 32)
 read-arm c =
-    let p = (c .before .before .before .before .before .before .before .before .before .before .before .before .loop .p) in
-    let t = (c .before .before .before .before .before .before .before .before .before .before .before .before .loop .t) in
-    let l = (c .before .before .before .before .before .before .before .before .before .read-line .result) in
-    let k = on-line (c .before .before .before .before .before .before .before .before .before .before .before) .1 .tallied in
+    let p = (c .before .before .before .before .before .before .before .before .before .before .before .loop .p) in
+    let t = (c .before .before .before .before .before .before .before .before .before .before .before .loop .t) in
+    let l = (c .before .before .before .before .before .before .before .before .read-line .result) in
+    let k = on-line (c .before .before .before .before .before .before .before .before .before .before) .1 .tallied in
     let g = reading-right p t k (l .op) (l .a) in
     let b = reading-bounds p t k (l .op) (l .a) in
-    rw (read-is c, line-reads l (c .before .before .before .before .if1 .taken)) (record { answer = g .0; plan = sym (g .1) }, b .0, b .1)
+    rw (read-is c, line-reads l (c .before .before .before .if1 .taken)) (record { answer = g .0; plan = sym (g .1) }, b .0, b .1)
 
 idle : (c : tie.After-h Inv-loop2 μ-loop2 Inv-loop μ-loop) → Turned (isDraw (c .before .before .before .before .read-line .result .op)) false (lineIn (c .before .before .before .before .read-line .result)) (c .before .before .before .before .before .before .before .loop .p) (c .before .before .before .before .before .before .before .loop .p) (c .before .before .before .before .before .before .before .loop .t) (c .before .before .before .before .before .before .before .loop .t) (Refused 51) 0 0
 idle c = let g = on-line (c .before .before .before .before .before .before) .1 in untouched _ _ _ _ (g .sized) (g .tallied)
 
-read-turned : (c : tie.After-read Inv-loop2 μ-loop2 Inv-loop μ-loop) {a : Answer} {f w : ℕ} → let r = (c .read .result) in a ≡ r .answer → f ≡ r .from → w ≡ r .width → Turned (isDraw (c .before .before .before .before .before .before .before .before .before .read-line .result .op)) (doneReads (c .before .before .before .before .before .before .before .before .before .read-line .result .op)) (lineIn (c .before .before .before .before .before .before .before .before .before .read-line .result)) (c .before .before .before .before .before .before .before .before .before .before .before .before .loop .p) (c .before .before .before .before .before .before .before .before .before .before .before .before .loop .p) (c .before .before .before .before .before .before .before .before .before .before .before .before .loop .t) (c .before .before .before .before .before .before .before .before .before .before .before .before .loop .t) a f w
-read-turned c e g h = let m = read-arm c in read-out (idle (c .before .before .before .before .before)) (lt-ltb 11 _ (c .before .before .before .before .if1 .taken)) refl e g h (m .0) (m .1) (m .2)
+read-turned : (c : tie.After-read Inv-loop2 μ-loop2 Inv-loop μ-loop) {a : Answer} {f w : ℕ} → let r = (c .read .result) in a ≡ r .answer → f ≡ r .from → w ≡ r .width → Turned (isDraw (c .before .before .before .before .before .before .before .before .read-line .result .op)) (doneReads (c .before .before .before .before .before .before .before .before .read-line .result .op)) (lineIn (c .before .before .before .before .before .before .before .before .read-line .result)) (c .before .before .before .before .before .before .before .before .before .before .before .loop .p) (c .before .before .before .before .before .before .before .before .before .before .before .loop .p) (c .before .before .before .before .before .before .before .before .before .before .before .loop .t) (c .before .before .before .before .before .before .before .before .before .before .before .loop .t) a f w
+read-turned c e g h = let m = read-arm c in read-out (idle (c .before .before .before .before)) (lt-ltb 11 _ (c .before .before .before .if1 .taken)) refl e g h (m .0) (m .1) (m .2)
 
 turned1 : (c : tie.Joined1 Inv-loop2 μ-loop2 Inv-loop μ-loop) → Turned (isDraw (c .before .before .before .before .before .read-line .result .op)) (doneReads (c .before .before .before .before .before .read-line .result .op)) (lineIn (c .before .before .before .before .before .read-line .result)) (c .before .before .before .before .before .before .before .before .loop .p) (c .before .before .before .before .before .before .before .before .loop .p) (c .before .before .before .before .before .before .before .before .loop .t) (c .before .before .before .before .before .before .before .before .loop .t) (c .if1 .answer) (c .if1 .first) (c .if1 .width)
 turned1 c =
     on (c .if1 .came)
-    (λ w. read-turned (record { before = record { before = record { before = record { before = record { before = (c .before); if1 = w .0 }; position = w .1 }; place = w .2 }; seen = w .3 }; read = w .4 }) (w .5) (w .6) (w .7))
+    (λ w. read-turned (record { before = record { before = record { before = record { before = (c .before); if1 = w .0 }; seat = w .1 }; seen = w .2 }; read = w .3 }) (w .4) (w .5) (w .6))
     (λ w. passed-by (idle (c .before)) (le-ltb 11 _ (w .0 .left)) refl refl (w .1) (w .2) (w .3))
 
 -- ---- an edit
 
 -- what was decided is the edit's decision in this state, and the places are those of its stores
-edit-is : (c : tie.After-entry Inv-loop2 μ-loop2 Inv-loop μ-loop) → let p = (c .before .before .before .before .before .before .before .before .before .before .before .before .before .before .before .before .before .before .before .before .before .before .before .before .before .before .before .before .before .before .before .before .before .before .before .before .before .loop .p) in let l = (c .before .before .before .before .before .before .before .before .before .before .before .before .before .before .before .before .before .before .before .before .before .before .before .before .before .before .before .before .before .before .before .before .before .before .read-line .result) in
-    ((c .before .before .before .decide-edit .result) ≡ editIn false p (natural (l .a)) (l .b) (l .c) (natural (l .d)) (natural (l .e)) (l .f)) × ((c .before .before .before .before .before .before .before .before .before .before .before .before .before .before .before .before .before .before .before .spot .result) ≡ spotOf (natural (l .a)) (natural (l .d))) × ((c .before .before .before .before .before .before .before .before .before .before .before .before .before .before .before .before .before .before .capped .result) ≡ slotOf (p .head))
+edit-is : (c : tie.After-entry Inv-loop2 μ-loop2 Inv-loop μ-loop) → let p = (c .before .before .before .before .before .before .before .before .before .before .before .before .before .before .before .before .before .before .before .before .before .before .before .before .before .before .before .before .before .before .before .before .loop .p) in let l = (c .before .before .before .before .before .before .before .before .before .before .before .before .before .before .before .before .before .before .before .before .before .before .before .before .before .before .before .before .before .read-line .result) in
+    ((c .before .before .before .decide-edit .result) ≡ editIn false p (l .a) (l .b) (l .c) (l .d) (l .e) (l .f)) × ((c .before .before .before .before .before .before .before .before .before .before .before .before .before .before .before .before .before .spot .result) ≡ spotOf (natural (l .a)) (natural (l .d))) × ((c .before .before .before .before .before .before .before .before .before .before .before .before .before .before .before .before .capped .result) ≡ slotOf (p .head))
 edit-is c =
-    let p = (c .before .before .before .before .before .before .before .before .before .before .before .before .before .before .before .before .before .before .before .before .before .before .before .before .before .before .before .before .before .before .before .before .before .before .before .before .before .loop .p) in
-    let l = (c .before .before .before .before .before .before .before .before .before .before .before .before .before .before .before .before .before .before .before .before .before .before .before .before .before .before .before .before .before .before .before .before .before .before .read-line .result) in
-    let t = (c .before .before .before .before .before .before .before .before .before .before .before .before .before .before .before .before .before .before .before .before .before .before .before .before .before .before .before .before .before .before .before .before .struct-told .given) in
-    let g = edit-decided (c .before .before .before .before .before .before .before .before .before .before .before .before .before .before .before .before .before .before .before .before .before .before .before .before .before .before .before .before .before .before .before .before .before .before .before .before .before .before .before .before .before .before .before .before .before .args .sound) p (l .a) (l .b) (l .c) (l .d) (l .e) (l .f) (toZ-ofZ (fits32 (l .a) (t .1 .0 .1))) (toZ-ofZ (fits32 (l .b) (t .1 .1 .0 .1))) (toZ-ofZ (fits32 (l .c) (t .1 .1 .1 .0 .1))) (toZ-ofZ (fits32 (l .d) (t .1 .1 .1 .1 .0 .1))) (toZ-ofZ (fits32 (l .e) (t .1 .1 .1 .1 .1 .0 .1))) (toZ-ofZ (fits32 (l .f) (t .1 .1 .1 .1 .1 .1 .0 .1)))
-    (c .before .before .before .before .before .before .before .before .before .before .before .before .before .before .before .before .before .before .before .before .before .before .before .before .before .number2 .ensures) (c .before .before .before .before .before .before .before .before .before .before .before .before .before .before .before .before .before .before .before .before .before .before .before .before .position2 .ensures .0) (c .before .before .before .before .before .before .before .before .before .before .before .before .before .before .before .before .before .before .before .before .before .before .before .place2 .ensures .0) (c .before .before .before .before .before .before .before .before .before .before .before .before .before .before .before .before .before .before .before .before .before .before .before .before .before .before .before .before .before .before .before .number .ensures) (c .before .before .before .before .before .before .before .before .before .before .before .before .before .before .before .before .before .before .before .before .number3 .ensures) (c .before .before .before .before .before .before .before .before .before .before .before .before .before .before .before .before .before .before .before .spot .ensures .0) (c .before .before .before .before .before .before .before .before .before .before .before .before .before .before .before .before .before .before .capped .ensures)
-    (toZ-ofZ (fits32 (getD (p .values) (c .before .before .before .before .before .before .before .before .before .before .before .before .before .before .before .before .before .before .before .spot .result) (pos 0)) (c .before .before .before .before .before .before .before .before .before .before .before .before .before .before .before .before .before .old .given))) (c .before .before .before .before .before .before .before .number4 .ensures) (c .before .before .before .decide-edit .ensures) (λ e. (c .before .before .before .before .before .before .before .before .before .before .before .before .before .before .before .before .before .before .before .before .before .before .before .before .before .before .before .before .before .before .before .before .before .before .before .before .before .loop .inv .linked)) in
-    (g .0 ∙ edit-held p (c .before .before .before .before .before .before .before .before .before .before .before .before .before .before .before .before .before .before .before .before .before .before .before .before .before .before .before .before .before .before .before .before .before .before .before .before .before .before .before .before .before .before .before .before .before .args .sound) (on-line (c .before .before .before .before .before .before .before .before .before .before .before .before .before .before .before .before .before .before .before .before .before .before .before .before .before .before .before .before .before .before .before .before .before .before .before .before) .0) (natural (l .a)) (l .b) (l .c) (natural (l .d)) (natural (l .e)) (l .f), g .1, g .2)
+    let p = (c .before .before .before .before .before .before .before .before .before .before .before .before .before .before .before .before .before .before .before .before .before .before .before .before .before .before .before .before .before .before .before .before .loop .p) in
+    let l = (c .before .before .before .before .before .before .before .before .before .before .before .before .before .before .before .before .before .before .before .before .before .before .before .before .before .before .before .before .before .read-line .result) in
+    let sound = (c .before .before .before .before .before .before .before .before .before .before .before .before .before .before .before .before .before .before .before .before .before .before .before .before .before .before .before .before .before .before .before .before .before .before .before .before .before .before .before .before .args .sound) in
+    let t = (c .before .before .before .before .before .before .before .before .before .before .before .before .before .before .before .before .before .before .before .before .before .before .before .before .before .before .before .struct-told .given) in
+    let to-s = toZ-ofZ (fits32 (l .a) (t .1 .0 .1)) in
+    let to-client = toZ-ofZ (fits32 (l .b) (t .1 .1 .0 .1)) in
+    let to-n = toZ-ofZ (fits32 (l .c) (t .1 .1 .1 .0 .1)) in
+    let to-m = toZ-ofZ (fits32 (l .d) (t .1 .1 .1 .1 .0 .1)) in
+    let to-kind = toZ-ofZ (fits32 (l .e) (t .1 .1 .1 .1 .1 .0 .1)) in
+    let to-k = toZ-ofZ (fits32 (l .f) (t .1 .1 .1 .1 .1 .1 .0 .1)) in
+    let d = edit-decided sound p (l .a) (l .b) (l .c) (l .d) (l .e) (l .f) ((c .before .before .before .before .before .before .before .before .before .before .before .before .before .before .before .before .before .before .before .before .seat2 .ensures .0) ∙ ap (seatOf (p .head)) to-n)
+    ((c .before .before .before .decide-edit .ensures) ∙ (λ j. editFrom (testedBy sound (c .before .before .before .before .before .before .before .before .before .before .before .before .before .before .before .before .before .before .before .before .before .before .before .before .before .before .before .before .before .before .before .before .loop .links)) (p .head) (p .lower) (p .gap) (p .upper) (p .firm) (p .values) (getD (p .edits) (c .before .before .before .before .before .before .before .before .before .before .before .before .before .before .before .before .before .before .before .before .seat2 .result) noRecord) (to-s j) (to-client j) (to-n j) (to-m j) (to-kind j) (to-k j)))
+    (λ e. (c .before .before .before .before .before .before .before .before .before .before .before .before .before .before .before .before .before .before .before .before .before .before .before .before .before .before .before .before .before .before .before .before .loop .inv .linked)) in
+    (d ∙ edit-held p sound (on-line (c .before .before .before .before .before .before .before .before .before .before .before .before .before .before .before .before .before .before .before .before .before .before .before .before .before .before .before .before .before .before .before) .0) (l .a) (l .b) (l .c) (l .d) (l .e) (l .f), (c .before .before .before .before .before .before .before .before .before .before .before .before .before .before .before .before .before .spot .ensures .0) ∙ (λ j. spotOf (natural (to-s j)) (natural (to-m j))), (c .before .before .before .before .before .before .before .before .before .before .before .before .before .before .before .before .capped .ensures))
 
 -- the decision as it is stored
 abbrev decided : Decision → Decision
 decided d = record { head = d .head; value = toZ w32 (ofZ w32 (d .value)); kept = d .kept; entry = d .entry; answer = d .answer }
 
-edit-arm : (c : tie.After-entry Inv-loop2 μ-loop2 Inv-loop μ-loop) → let p = (c .before .before .before .before .before .before .before .before .before .before .before .before .before .before .before .before .before .before .before .before .before .before .before .before .before .before .before .before .before .before .before .before .before .before .before .before .before .loop .p) in let l = (c .before .before .before .before .before .before .before .before .before .before .before .before .before .before .before .before .before .before .before .before .before .before .before .before .before .before .before .before .before .before .before .before .before .before .read-line .result) in let q = stored p (c .before .before .before .before .before .before .before .before .before .before .before .before .before .before .before .before .before .before .before .spot .result) (c .before .before .before .before .before .before .before .before .before .before .before .before .before .before .before .before .before .before .capped .result) (decided (c .before .before .before .decide-edit .result)) in
+edit-arm : (c : tie.After-entry Inv-loop2 μ-loop2 Inv-loop μ-loop) → let p = (c .before .before .before .before .before .before .before .before .before .before .before .before .before .before .before .before .before .before .before .before .before .before .before .before .before .before .before .before .before .before .before .before .loop .p) in let l = (c .before .before .before .before .before .before .before .before .before .before .before .before .before .before .before .before .before .before .before .before .before .before .before .before .before .before .before .before .before .read-line .result) in let q = stored p (c .before .before .before .before .before .before .before .before .before .before .before .before .before .before .before .before .before .spot .result) (c .before .before .before .before .before .before .before .before .before .before .before .before .before .before .before .before .capped .result) (decided (c .before .before .before .decide-edit .result)) in
     Made (some (edit (l .a) (l .b) (l .c) (l .d) (l .e) (l .f))) p q (c .before .before .before .decide-edit .result .answer) [] × Sized q
 edit-arm c =
-    let p = (c .before .before .before .before .before .before .before .before .before .before .before .before .before .before .before .before .before .before .before .before .before .before .before .before .before .before .before .before .before .before .before .before .before .before .before .before .before .loop .p) in
-    let l = (c .before .before .before .before .before .before .before .before .before .before .before .before .before .before .before .before .before .before .before .before .before .before .before .before .before .before .before .before .before .before .before .before .before .before .read-line .result) in
+    let p = (c .before .before .before .before .before .before .before .before .before .before .before .before .before .before .before .before .before .before .before .before .before .before .before .before .before .before .before .before .before .before .before .before .loop .p) in
+    let l = (c .before .before .before .before .before .before .before .before .before .before .before .before .before .before .before .before .before .before .before .before .before .before .before .before .before .before .before .before .before .read-line .result) in
     let d = (c .before .before .before .decide-edit .result) in
     let g = edit-is c in
-    let z = (on-line (c .before .before .before .before .before .before .before .before .before .before .before .before .before .before .before .before .before .before .before .before .before .before .before .before .before .before .before .before .before .before .before .before .before .before .before .before) .1 .sized) in
-    let value = toZ-ofZ (fits32 (d .value) (c .before .struct-told8 .given .1 .0 .1)) in
-    (meets-made _ p _ (rw (value, g .1, g .2, g .0) (edit-meets p z (l .a) (l .b) (l .c) (l .d) (l .e) (l .f))), edit-sized p (c .before .before .before .before .before .before .before .before .before .before .before .before .before .before .before .before .before .before .before .spot .result) (c .before .before .before .before .before .before .before .before .before .before .before .before .before .before .before .before .before .before .capped .result) (decided (c .before .before .before .decide-edit .result)) z)
+    let z = (on-line (c .before .before .before .before .before .before .before .before .before .before .before .before .before .before .before .before .before .before .before .before .before .before .before .before .before .before .before .before .before .before .before) .1 .sized) in
+    let value = toZ-ofZ (fits32 (d .value) (c .before .struct-told9 .given .1 .0 .1)) in
+    (meets-made _ p _ (rw (value, g .1, g .2, g .0) (edit-meets p z (l .a) (l .b) (l .c) (l .d) (l .e) (l .f))), edit-sized p (c .before .before .before .before .before .before .before .before .before .before .before .before .before .before .before .before .before .spot .result) (c .before .before .before .before .before .before .before .before .before .before .before .before .before .before .before .before .capped .result) (decided (c .before .before .before .decide-edit .result)) z)
 
-edit-tallied : (c : tie.After-entry Inv-loop2 μ-loop2 Inv-loop μ-loop) → let p = (c .before .before .before .before .before .before .before .before .before .before .before .before .before .before .before .before .before .before .before .before .before .before .before .before .before .before .before .before .before .before .before .before .before .before .before .before .before .loop .p) in let l = (c .before .before .before .before .before .before .before .before .before .before .before .before .before .before .before .before .before .before .before .before .before .before .before .before .before .before .before .before .before .before .before .before .before .before .read-line .result) in let d = (c .before .before .before .decide-edit .result) in
-    Tallied (cond (d .kept) (oneUnsent (natural (l .a)) (getD (p .arrived) (indexOf (natural (l .a))) false) (c .before .before .before .before .before .before .before .before .before .before .before .before .before .before .before .before .before .before .before .before .before .before .before .before .before .before .before .before .before .before .before .before .before .before .before .before .before .loop .t)) (c .before .before .before .before .before .before .before .before .before .before .before .before .before .before .before .before .before .before .before .before .before .before .before .before .before .before .before .before .before .before .before .before .before .before .before .before .before .loop .t)) (view (stored p (c .before .before .before .before .before .before .before .before .before .before .before .before .before .before .before .before .before .before .before .spot .result) (c .before .before .before .before .before .before .before .before .before .before .before .before .before .before .before .before .before .before .capped .result) (decided (c .before .before .before .decide-edit .result))))
+edit-tallied : (c : tie.After-entry Inv-loop2 μ-loop2 Inv-loop μ-loop) → let p = (c .before .before .before .before .before .before .before .before .before .before .before .before .before .before .before .before .before .before .before .before .before .before .before .before .before .before .before .before .before .before .before .before .loop .p) in let l = (c .before .before .before .before .before .before .before .before .before .before .before .before .before .before .before .before .before .before .before .before .before .before .before .before .before .before .before .before .before .read-line .result) in let d = (c .before .before .before .decide-edit .result) in
+    Tallied (cond (d .kept) (oneUnsent (natural (l .a)) (getD (p .arrived) (indexOf (natural (l .a))) false) (c .before .before .before .before .before .before .before .before .before .before .before .before .before .before .before .before .before .before .before .before .before .before .before .before .before .before .before .before .before .before .before .before .loop .t)) (c .before .before .before .before .before .before .before .before .before .before .before .before .before .before .before .before .before .before .before .before .before .before .before .before .before .before .before .before .before .before .before .before .loop .t)) (view (stored p (c .before .before .before .before .before .before .before .before .before .before .before .before .before .before .before .before .before .spot .result) (c .before .before .before .before .before .before .before .before .before .before .before .before .before .before .before .before .capped .result) (decided (c .before .before .before .decide-edit .result))))
 edit-tallied c =
-    let p = (c .before .before .before .before .before .before .before .before .before .before .before .before .before .before .before .before .before .before .before .before .before .before .before .before .before .before .before .before .before .before .before .before .before .before .before .before .before .loop .p) in
-    let l = (c .before .before .before .before .before .before .before .before .before .before .before .before .before .before .before .before .before .before .before .before .before .before .before .before .before .before .before .before .before .before .before .before .before .before .read-line .result) in
+    let p = (c .before .before .before .before .before .before .before .before .before .before .before .before .before .before .before .before .before .before .before .before .before .before .before .before .before .before .before .before .before .before .before .before .loop .p) in
+    let l = (c .before .before .before .before .before .before .before .before .before .before .before .before .before .before .before .before .before .before .before .before .before .before .before .before .before .before .before .before .before .read-line .result) in
     let m = edit-arm c .0 in
-    subst (λ u. Tallied u (view (stored p (c .before .before .before .before .before .before .before .before .before .before .before .before .before .before .before .before .before .before .before .spot .result) (c .before .before .before .before .before .before .before .before .before .before .before .before .before .before .before .before .before .before .capped .result) (decided (c .before .before .before .decide-edit .result))))) (sym (edit-counts p (l .a) (l .b) (l .c) (l .d) (l .e) (l .f) (c .before .before .before .decide-edit .result) (edit-is c .0) m (c .before .before .before .before .before .before .before .before .before .before .before .before .before .before .before .before .before .before .before .before .before .before .before .before .before .before .before .before .before .before .before .before .before .before .before .before .before .loop .t))) (tallied-made _ m (c .before .before .before .before .before .before .before .before .before .before .before .before .before .before .before .before .before .before .before .before .before .before .before .before .before .before .before .before .before .before .before .before .before .before .before .before .before .loop .t) (on-line (c .before .before .before .before .before .before .before .before .before .before .before .before .before .before .before .before .before .before .before .before .before .before .before .before .before .before .before .before .before .before .before .before .before .before .before .before) .1 .tallied))
+    subst (λ u. Tallied u (view (stored p (c .before .before .before .before .before .before .before .before .before .before .before .before .before .before .before .before .before .spot .result) (c .before .before .before .before .before .before .before .before .before .before .before .before .before .before .before .before .capped .result) (decided (c .before .before .before .decide-edit .result))))) (sym (edit-counts p (l .a) (l .b) (l .c) (l .d) (l .e) (l .f) (c .before .before .before .decide-edit .result) (edit-is c .0) m (c .before .before .before .before .before .before .before .before .before .before .before .before .before .before .before .before .before .before .before .before .before .before .before .before .before .before .before .before .before .before .before .before .loop .t))) (tallied-made _ m (c .before .before .before .before .before .before .before .before .before .before .before .before .before .before .before .before .before .before .before .before .before .before .before .before .before .before .before .before .before .before .before .before .loop .t) (on-line (c .before .before .before .before .before .before .before .before .before .before .before .before .before .before .before .before .before .before .before .before .before .before .before .before .before .before .before .before .before .before .before) .1 .tallied))
 
-edit-turned : (c : tie.After-entry Inv-loop2 μ-loop2 Inv-loop μ-loop) (b : Bool) {q : State} {u : Tallies} {a : Answer} → let p = (c .before .before .before .before .before .before .before .before .before .before .before .before .before .before .before .before .before .before .before .before .before .before .before .before .before .before .before .before .before .before .before .before .before .before .before .before .before .loop .p) in let l = (c .before .before .before .before .before .before .before .before .before .before .before .before .before .before .before .before .before .before .before .before .before .before .before .before .before .before .before .before .before .before .before .before .before .before .read-line .result) in let d = decided (c .before .before .before .decide-edit .result) in d .kept ≡ b
-    → q ≡ record { head = d .head; base = p .base; draft = p .draft; values = set (p .values) (c .before .before .before .before .before .before .before .before .before .before .before .before .before .before .before .before .before .before .before .spot .result) (d .value); arrived = p .arrived; confirmed = p .confirmed; lower = p .lower; gap = p .gap; upper = p .upper; firm = p .firm; edits = cond b (set (p .edits) (c .before .before .before .before .before .before .before .before .before .before .before .before .before .before .before .before .before .before .capped .result) (d .entry)) (p .edits) }
-    → u ≡ cond b (oneUnsent (natural (l .a)) (getD (p .arrived) (indexOf (natural (l .a))) false) (c .before .before .before .before .before .before .before .before .before .before .before .before .before .before .before .before .before .before .before .before .before .before .before .before .before .before .before .before .before .before .before .before .before .before .before .before .before .loop .t)) (c .before .before .before .before .before .before .before .before .before .before .before .before .before .before .before .before .before .before .before .before .before .before .before .before .before .before .before .before .before .before .before .before .before .before .before .before .before .loop .t)
-    → a ≡ d .answer → Turned (isDraw (l .op)) (doneEdit (l .op)) (lineIn l) p q (c .before .before .before .before .before .before .before .before .before .before .before .before .before .before .before .before .before .before .before .before .before .before .before .before .before .before .before .before .before .before .before .before .before .before .before .before .before .loop .t) u a (c .before .before .before .before .before .before .before .before .before .before .before .before .before .before .before .before .before .before .before .before .before .before .before .before .before .before .before .before .before .if1 .first) (c .before .before .before .before .before .before .before .before .before .before .before .before .before .before .before .before .before .before .before .before .before .before .before .before .before .before .before .before .before .if1 .width)
+edit-turned : (c : tie.After-entry Inv-loop2 μ-loop2 Inv-loop μ-loop) (b : Bool) {q : State} {u : Tallies} {a : Answer} → let p = (c .before .before .before .before .before .before .before .before .before .before .before .before .before .before .before .before .before .before .before .before .before .before .before .before .before .before .before .before .before .before .before .before .loop .p) in let l = (c .before .before .before .before .before .before .before .before .before .before .before .before .before .before .before .before .before .before .before .before .before .before .before .before .before .before .before .before .before .read-line .result) in let d = decided (c .before .before .before .decide-edit .result) in d .kept ≡ b
+    → q ≡ record { head = d .head; base = p .base; draft = p .draft; values = set (p .values) (c .before .before .before .before .before .before .before .before .before .before .before .before .before .before .before .before .before .spot .result) (d .value); arrived = p .arrived; confirmed = p .confirmed; lower = p .lower; gap = p .gap; upper = p .upper; firm = p .firm; edits = cond b (set (p .edits) (c .before .before .before .before .before .before .before .before .before .before .before .before .before .before .before .before .capped .result) (d .entry)) (p .edits) }
+    → u ≡ cond b (oneUnsent (natural (l .a)) (getD (p .arrived) (indexOf (natural (l .a))) false) (c .before .before .before .before .before .before .before .before .before .before .before .before .before .before .before .before .before .before .before .before .before .before .before .before .before .before .before .before .before .before .before .before .loop .t)) (c .before .before .before .before .before .before .before .before .before .before .before .before .before .before .before .before .before .before .before .before .before .before .before .before .before .before .before .before .before .before .before .before .loop .t)
+    → a ≡ d .answer → Turned (isDraw (l .op)) (doneEdit (l .op)) (lineIn l) p q (c .before .before .before .before .before .before .before .before .before .before .before .before .before .before .before .before .before .before .before .before .before .before .before .before .before .before .before .before .before .before .before .before .loop .t) u a (c .before .before .before .before .before .before .before .before .before .before .before .before .before .before .before .before .before .before .before .before .before .before .before .before .if1 .first) (c .before .before .before .before .before .before .before .before .before .before .before .before .before .before .before .before .before .before .before .before .before .before .before .before .if1 .width)
 edit-turned c b k e v g =
-    let p = (c .before .before .before .before .before .before .before .before .before .before .before .before .before .before .before .before .before .before .before .before .before .before .before .before .before .before .before .before .before .before .before .before .before .before .before .before .before .loop .p) in
-    let l = (c .before .before .before .before .before .before .before .before .before .before .before .before .before .before .before .before .before .before .before .before .before .before .before .before .before .before .before .before .before .before .before .before .before .before .read-line .result) in
+    let p = (c .before .before .before .before .before .before .before .before .before .before .before .before .before .before .before .before .before .before .before .before .before .before .before .before .before .before .before .before .before .before .before .before .loop .p) in
+    let l = (c .before .before .before .before .before .before .before .before .before .before .before .before .before .before .before .before .before .before .before .before .before .before .before .before .before .before .before .before .before .read-line .result) in
     let m = edit-arm c in
-    taken (turned1 (c .before .before .before .before .before .before .before .before .before .before .before .before .before .before .before .before .before .before .before .before .before .before .before .before .before .before .before .before .before)) (eq-eqb _ 5 (c .before .before .before .before .before .before .before .before .before .before .before .before .before .before .before .before .before .before .before .before .before .before .before .before .before .before .before .before .if2 .taken)) (off-edit _ (c .before .before .before .before .before .before .before .before .before .before .before .before .before .before .before .before .before .before .before .before .before .before .before .before .before .before .before .before .if2 .taken))
-    (e ∙ kept-stored p (c .before .before .before .before .before .before .before .before .before .before .before .before .before .before .before .before .before .before .before .spot .result) (c .before .before .before .before .before .before .before .before .before .before .before .before .before .before .before .before .before .before .capped .result) (decided (c .before .before .before .decide-edit .result)) b k)
-    (v ∙ ap (λ x. cond x (oneUnsent (natural (l .a)) (getD (p .arrived) (indexOf (natural (l .a))) false) (c .before .before .before .before .before .before .before .before .before .before .before .before .before .before .before .before .before .before .before .before .before .before .before .before .before .before .before .before .before .before .before .before .before .before .before .before .before .loop .t)) (c .before .before .before .before .before .before .before .before .before .before .before .before .before .before .before .before .before .before .before .before .before .before .before .before .before .before .before .before .before .before .before .before .before .before .before .before .before .loop .t)) (sym k)) g refl refl
-    (rw (line-edit l (c .before .before .before .before .before .before .before .before .before .before .before .before .before .before .before .before .before .before .before .before .before .before .before .before .before .before .before .before .if2 .taken)) (m .0)) (λ x. edit-rules p (c .before .before .before .before .before .before .before .before .before .before .before .before .before .before .before .before .before .before .before .spot .result) (c .before .before .before .before .before .before .before .before .before .before .before .before .before .before .before .before .before .before .capped .result) false (natural (l .a)) (l .b) (l .c) (natural (l .d)) (natural (l .e)) (l .f) (decided (c .before .before .before .decide-edit .result)) (ap (λ y. y .head) (edit-is c .0))) (m .1) (edit-tallied c)
+    taken (turned1 (c .before .before .before .before .before .before .before .before .before .before .before .before .before .before .before .before .before .before .before .before .before .before .before .before)) (eq-eqb _ 5 (c .before .before .before .before .before .before .before .before .before .before .before .before .before .before .before .before .before .before .before .before .before .before .before .if2 .taken)) (off-edit _ (c .before .before .before .before .before .before .before .before .before .before .before .before .before .before .before .before .before .before .before .before .before .before .before .if2 .taken))
+    (e ∙ kept-stored p (c .before .before .before .before .before .before .before .before .before .before .before .before .before .before .before .before .before .spot .result) (c .before .before .before .before .before .before .before .before .before .before .before .before .before .before .before .before .capped .result) (decided (c .before .before .before .decide-edit .result)) b k)
+    (v ∙ ap (λ x. cond x (oneUnsent (natural (l .a)) (getD (p .arrived) (indexOf (natural (l .a))) false) (c .before .before .before .before .before .before .before .before .before .before .before .before .before .before .before .before .before .before .before .before .before .before .before .before .before .before .before .before .before .before .before .before .loop .t)) (c .before .before .before .before .before .before .before .before .before .before .before .before .before .before .before .before .before .before .before .before .before .before .before .before .before .before .before .before .before .before .before .before .loop .t)) (sym k)) g refl refl
+    (rw (line-edit l (c .before .before .before .before .before .before .before .before .before .before .before .before .before .before .before .before .before .before .before .before .before .before .before .if2 .taken)) (m .0)) (λ x. edit-rules p (c .before .before .before .before .before .before .before .before .before .before .before .before .before .before .before .before .before .spot .result) (c .before .before .before .before .before .before .before .before .before .before .before .before .before .before .before .before .capped .result) false (l .a) (l .b) (l .c) (l .d) (l .e) (l .f) (decided (c .before .before .before .decide-edit .result)) (ap (λ y. y .head) (edit-is c .0))) (m .1) (edit-tallied c)
 
 -- the counts with it
-kept-counted : (c : tie.After-after-kept Inv-loop2 μ-loop2 Inv-loop μ-loop) → let l = (c .before .before .before .before .before .before .before .before .before .before .before .before .before .before .before .before .before .before .before .before .before .before .before .before .before .before .before .before .before .before .before .before .before .before .before .before .before .before .read-line .result) in (c .after-kept .result) ≡ oneUnsent (natural (l .a)) (getD (c .before .before .before .before .before .before .before .before .before .before .before .before .before .before .before .before .before .before .before .before .before .before .before .before .before .before .before .before .before .before .before .before .before .before .before .before .before .before .before .before .before .loop .p .arrived) (indexOf (natural (l .a))) false) (c .before .before .before .before .before .before .before .before .before .before .before .before .before .before .before .before .before .before .before .before .before .before .before .before .before .before .before .before .before .before .before .before .before .before .before .before .before .before .before .before .before .loop .t)
+kept-counted : (c : tie.After-after-kept Inv-loop2 μ-loop2 Inv-loop μ-loop) → let l = (c .before .before .before .before .before .before .before .before .before .before .before .before .before .before .before .before .before .before .before .before .before .before .before .before .before .before .before .before .before .before .before .before .before .read-line .result) in (c .after-kept .result) ≡ oneUnsent (natural (l .a)) (getD (c .before .before .before .before .before .before .before .before .before .before .before .before .before .before .before .before .before .before .before .before .before .before .before .before .before .before .before .before .before .before .before .before .before .before .before .before .loop .p .arrived) (indexOf (natural (l .a))) false) (c .before .before .before .before .before .before .before .before .before .before .before .before .before .before .before .before .before .before .before .before .before .before .before .before .before .before .before .before .before .before .before .before .before .before .before .before .loop .t)
 kept-counted c =
-    let l = (c .before .before .before .before .before .before .before .before .before .before .before .before .before .before .before .before .before .before .before .before .before .before .before .before .before .before .before .before .before .before .before .before .before .before .before .before .before .before .read-line .result) in
-    let side = (c .before .before .before .before .before .before .before .before .before .before .before .before .before .before .before .before .before .before .before .before .before .before .before .before .before .before .before .before .before .before .before .before .before .before .before .number .ensures) ∙ ap natural (toZ-ofZ (fits32 (l .a) (c .before .before .before .before .before .before .before .before .before .before .before .before .before .before .before .before .before .before .before .before .before .before .before .before .before .before .before .before .before .before .before .before .before .before .before .before .struct-told .given .1 .0 .1))) in
+    let l = (c .before .before .before .before .before .before .before .before .before .before .before .before .before .before .before .before .before .before .before .before .before .before .before .before .before .before .before .before .before .before .before .before .before .read-line .result) in
+    let side = (c .before .before .before .before .before .before .before .before .before .before .before .before .before .before .before .before .before .before .before .before .before .before .before .before .before .before .before .before .before .before .number .ensures) ∙ ap natural (toZ-ofZ (fits32 (l .a) (c .before .before .before .before .before .before .before .before .before .before .before .before .before .before .before .before .before .before .before .before .before .before .before .before .before .before .before .before .before .before .before .struct-told .given .1 .0 .1))) in
     let place = (c .before .before .index .ensures .0) ∙ ap indexOf side in
-    (c .after-kept .ensures) ∙ (λ j. oneUnsent (side j) (getD (c .before .before .before .before .before .before .before .before .before .before .before .before .before .before .before .before .before .before .before .before .before .before .before .before .before .before .before .before .before .before .before .before .before .before .before .before .before .before .before .before .before .loop .p .arrived) (place j) false) (c .before .before .before .before .before .before .before .before .before .before .before .before .before .before .before .before .before .before .before .before .before .before .before .before .before .before .before .before .before .before .before .before .before .before .before .before .before .before .before .before .before .loop .t))
+    (c .after-kept .ensures) ∙ (λ j. oneUnsent (side j) (getD (c .before .before .before .before .before .before .before .before .before .before .before .before .before .before .before .before .before .before .before .before .before .before .before .before .before .before .before .before .before .before .before .before .before .before .before .before .loop .p .arrived) (place j) false) (c .before .before .before .before .before .before .before .before .before .before .before .before .before .before .before .before .before .before .before .before .before .before .before .before .before .before .before .before .before .before .before .before .before .before .before .before .loop .t))
 
-edit-kept : (c : tie.After-after-kept Inv-loop2 μ-loop2 Inv-loop μ-loop) {q : State} {u : Tallies} {a : Answer} → let p = (c .before .before .before .before .before .before .before .before .before .before .before .before .before .before .before .before .before .before .before .before .before .before .before .before .before .before .before .before .before .before .before .before .before .before .before .before .before .before .before .before .before .loop .p) in let l = (c .before .before .before .before .before .before .before .before .before .before .before .before .before .before .before .before .before .before .before .before .before .before .before .before .before .before .before .before .before .before .before .before .before .before .before .before .before .before .read-line .result) in let d = decided (c .before .before .before .before .before .before .before .decide-edit .result) in
-    q ≡ record { head = d .head; base = p .base; draft = p .draft; values = set (p .values) (c .before .before .before .before .before .before .before .before .before .before .before .before .before .before .before .before .before .before .before .before .before .before .before .spot .result) (d .value); arrived = p .arrived; confirmed = p .confirmed; lower = p .lower; gap = p .gap; upper = p .upper; firm = p .firm; edits = set (p .edits) (c .before .before .before .before .before .before .before .before .before .before .before .before .before .before .before .before .before .before .before .before .before .before .capped .result) (d .entry) }
-    → u ≡ (c .after-kept .result) → a ≡ d .answer → Turned (isDraw (l .op)) (doneEdit (l .op)) (lineIn l) p q (c .before .before .before .before .before .before .before .before .before .before .before .before .before .before .before .before .before .before .before .before .before .before .before .before .before .before .before .before .before .before .before .before .before .before .before .before .before .before .before .before .before .loop .t) u a (c .before .before .before .before .before .before .before .before .before .before .before .before .before .before .before .before .before .before .before .before .before .before .before .before .before .before .before .before .before .before .before .before .before .if1 .first) (c .before .before .before .before .before .before .before .before .before .before .before .before .before .before .before .before .before .before .before .before .before .before .before .before .before .before .before .before .before .before .before .before .before .if1 .width)
+edit-kept : (c : tie.After-after-kept Inv-loop2 μ-loop2 Inv-loop μ-loop) {q : State} {u : Tallies} {a : Answer} → let p = (c .before .before .before .before .before .before .before .before .before .before .before .before .before .before .before .before .before .before .before .before .before .before .before .before .before .before .before .before .before .before .before .before .before .before .before .before .loop .p) in let l = (c .before .before .before .before .before .before .before .before .before .before .before .before .before .before .before .before .before .before .before .before .before .before .before .before .before .before .before .before .before .before .before .before .before .read-line .result) in let d = decided (c .before .before .before .before .before .before .before .decide-edit .result) in
+    q ≡ record { head = d .head; base = p .base; draft = p .draft; values = set (p .values) (c .before .before .before .before .before .before .before .before .before .before .before .before .before .before .before .before .before .before .before .before .before .spot .result) (d .value); arrived = p .arrived; confirmed = p .confirmed; lower = p .lower; gap = p .gap; upper = p .upper; firm = p .firm; edits = set (p .edits) (c .before .before .before .before .before .before .before .before .before .before .before .before .before .before .before .before .before .before .before .before .capped .result) (d .entry) }
+    → u ≡ (c .after-kept .result) → a ≡ d .answer → Turned (isDraw (l .op)) (doneEdit (l .op)) (lineIn l) p q (c .before .before .before .before .before .before .before .before .before .before .before .before .before .before .before .before .before .before .before .before .before .before .before .before .before .before .before .before .before .before .before .before .before .before .before .before .loop .t) u a (c .before .before .before .before .before .before .before .before .before .before .before .before .before .before .before .before .before .before .before .before .before .before .before .before .before .before .before .before .if1 .first) (c .before .before .before .before .before .before .before .before .before .before .before .before .before .before .before .before .before .before .before .before .before .before .before .before .before .before .before .before .if1 .width)
 edit-kept c e v g = edit-turned (c .before .before .before .before) true (c .before .before .before .if3 .taken) e (v ∙ kept-counted c) g
 
 turned2 : (c : tie.Joined2 Inv-loop2 μ-loop2 Inv-loop μ-loop) → Turned (isDraw (c .before .before .before .before .before .before .read-line .result .op)) (doneEdit (c .before .before .before .before .before .before .read-line .result .op)) (lineIn (c .before .before .before .before .before .before .read-line .result)) (c .before .before .before .before .before .before .before .before .before .loop .p) (c .if2 .p) (c .before .before .before .before .before .before .before .before .before .loop .t) (c .if2 .t) (c .if2 .answer) (c .before .if1 .first) (c .before .if1 .width)
 turned2 c =
     on (c .if2 .came)
-    (λ w. edit-kept (record { before = record { before = record { before = record { before = record { before = record { before = record { before = record { before = record { before = record { before = record { before = record { before = record { before = record { before = record { before = record { before = record { before = record { before = record { before = record { before = record { before = record { before = record { before = record { before = record { before = record { before = record { before = record { before = record { before = record { before = record { before = record { before = record { before = (c .before); if2 = w .0 }; h2 = w .1 }; struct-told2 = w .2 }; number2 = w .3 }; position2 = w .4 }; place2 = w .5 }; seen2 = w .6 }; struct-told3 = w .7 }; number3 = w .8 }; spot = w .9 }; capped = w .10 }; old = w .11 }; p2 = w .12 }; decide-edit-arg = w .13 }; decide-edit-arg2 = w .14 }; decide-edit-arg3 = w .15 }; decide-edit-arg4 = w .16 }; links = w .17 }; decide-edit-arg5 = w .18 }; decide-edit-arg6 = w .19 }; struct-told4 = w .20 }; number4 = w .21 }; struct-told5 = w .22 }; struct-told6 = w .23 }; struct-told7 = w .24 }; decide-edit = w .25 }; head = w .26 }; struct-told8 = w .27 }; entry = w .28 }; if3 = w .29 }; index = w .30 }; flag = w .31 }; after-kept = w .32 }) (w .33) (w .34) (w .35))
+    (λ w. edit-kept (record { before = record { before = record { before = record { before = record { before = record { before = record { before = record { before = record { before = record { before = record { before = record { before = record { before = record { before = record { before = record { before = record { before = record { before = record { before = record { before = record { before = record { before = record { before = record { before = record { before = record { before = record { before = record { before = (c .before); if2 = w .0 }; h2 = w .1 }; struct-told2 = w .2 }; seat2 = w .3 }; seen2 = w .4 }; struct-told3 = w .5 }; spot = w .6 }; capped = w .7 }; p2 = w .8 }; decide-edit-arg = w .9 }; decide-edit-arg2 = w .10 }; decide-edit-arg3 = w .11 }; decide-edit-arg4 = w .12 }; links = w .13 }; decide-edit-arg5 = w .14 }; struct-told4 = w .15 }; struct-told5 = w .16 }; struct-told6 = w .17 }; struct-told7 = w .18 }; struct-told8 = w .19 }; decide-edit = w .20 }; head = w .21 }; struct-told9 = w .22 }; entry = w .23 }; if3 = w .24 }; index = w .25 }; flag = w .26 }; after-kept = w .27 }) (w .28) (w .29) (w .30))
     (λ z. on z
-    (λ w. edit-turned (record { before = record { before = record { before = record { before = record { before = record { before = record { before = record { before = record { before = record { before = record { before = record { before = record { before = record { before = record { before = record { before = record { before = record { before = record { before = record { before = record { before = record { before = record { before = record { before = record { before = record { before = record { before = record { before = record { before = (c .before); if2 = w .0 }; h2 = w .1 }; struct-told2 = w .2 }; number2 = w .3 }; position2 = w .4 }; place2 = w .5 }; seen2 = w .6 }; struct-told3 = w .7 }; number3 = w .8 }; spot = w .9 }; capped = w .10 }; old = w .11 }; p2 = w .12 }; decide-edit-arg = w .13 }; decide-edit-arg2 = w .14 }; decide-edit-arg3 = w .15 }; decide-edit-arg4 = w .16 }; links = w .17 }; decide-edit-arg5 = w .18 }; decide-edit-arg6 = w .19 }; struct-told4 = w .20 }; number4 = w .21 }; struct-told5 = w .22 }; struct-told6 = w .23 }; struct-told7 = w .24 }; decide-edit = w .25 }; head = w .26 }; struct-told8 = w .27 }; entry = w .28 }) false ((w .29) .left) (w .30) (w .31) (w .32))
+    (λ w. edit-turned (record { before = record { before = record { before = record { before = record { before = record { before = record { before = record { before = record { before = record { before = record { before = record { before = record { before = record { before = record { before = record { before = record { before = record { before = record { before = record { before = record { before = record { before = record { before = record { before = (c .before); if2 = w .0 }; h2 = w .1 }; struct-told2 = w .2 }; seat2 = w .3 }; seen2 = w .4 }; struct-told3 = w .5 }; spot = w .6 }; capped = w .7 }; p2 = w .8 }; decide-edit-arg = w .9 }; decide-edit-arg2 = w .10 }; decide-edit-arg3 = w .11 }; decide-edit-arg4 = w .12 }; links = w .13 }; decide-edit-arg5 = w .14 }; struct-told4 = w .15 }; struct-told5 = w .16 }; struct-told6 = w .17 }; struct-told7 = w .18 }; struct-told8 = w .19 }; decide-edit = w .20 }; head = w .21 }; struct-told9 = w .22 }; entry = w .23 }) false ((w .24) .left) (w .25) (w .26) (w .27))
     (λ w. passed-by (turned1 (c .before)) (ne-eqb _ 5 (w .0 .left)) (w .1) (w .2) (w .3) refl refl))
 
 -- ---- a replay
 
-replay-arm : (c : tie.After-entry2 Inv-loop2 μ-loop2 Inv-loop μ-loop) → let p = (c .before .before .before .before .before .before .before .before .before .before .before .before .before .before .before .before .before .before .before .before .before .before .before .before .before .if2 .p) in let d = (c .before .before .decide-replay .result) in
-    let q = replaying.stored p (c .before .before .before .before .before .before .before .before .before .before .before .point .result) (c .before .before .before .before .before .before .before .before .before .before .before .before .before .before .before .before .before .before .before .before .before .place3 .result) (record { amount = toZ w32 (ofZ w32 (d .amount)); entry = d .entry; answer = d .answer }) in
-    Made (some (replay (c .before .before .before .before .before .before .before .before .before .before .before .before .before .before .before .before .before .before .before .before .before .before .before .before .before .before .before .before .before .before .before .read-line .result .a))) p q (d .answer) [] × Sized q
-replay-arm c =
-    let p = (c .before .before .before .before .before .before .before .before .before .before .before .before .before .before .before .before .before .before .before .before .before .before .before .before .before .if2 .p) in
-    let l = (c .before .before .before .before .before .before .before .before .before .before .before .before .before .before .before .before .before .before .before .before .before .before .before .before .before .before .before .before .before .before .before .read-line .result) in
-    let d = (c .before .before .decide-replay .result) in
-    let k = turned2 (c .before .before .before .before .before .before .before .before .before .before .before .before .before .before .before .before .before .before .before .before .before .before .before .before .before) in
-    let off = off-replay _ (c .before .before .before .before .before .before .before .before .before .before .before .before .before .before .before .before .before .before .before .before .before .before .before .before .if4 .taken) in
-    let g = replay-decided (c .before .before .before .before .before .before .before .before .before .before .before .before .before .before .before .before .before .before .before .before .before .before .before .before .before .before .before .before .before .before .before .before .before .before .before .before .before .before .before .before .before .before .args .sound) p (l .a) (toZ-ofZ (fits32 (l .a) (c .before .before .before .before .before .before .before .before .before .before .before .before .before .before .before .before .before .before .before .before .before .before .before .before .before .before .before .before .before .struct-told .given .1 .0 .1))) (c .before .before .before .before .before .before .before .before .before .before .before .before .before .before .before .before .before .before .before .before .before .before .before .before .before .before .before .before .number .ensures) (c .before .before .before .before .before .before .before .before .before .before .before .before .before .before .before .before .before .before .before .before .before .before .position3 .ensures .0) (c .before .before .before .before .before .before .before .before .before .before .before .before .before .before .before .before .before .before .before .before .before .place3 .ensures .0) (c .before .before .before .before .before .before .before .before .before .before .before .before .before .before .before .before .before .before .before .found .ensures)
-    (c .before .before .before .before .before .before .before .before .before .before .before .before .before .before .before .before .before .before .position4 .ensures .0) (c .before .before .before .before .before .before .before .before .before .before .before .before .before .before .before .before .before .place4 .ensures .0) (c .before .before .before .before .before .before .before .before .before .before .before .before .before .unset .ensures .0) ((c .before .before .before .before .before .before .before .before .before .before .before .before .capped2 .ensures) ∙ settled-few p (c .before .before .before .before .before .before .before .before .before .before .before .before .before .before .before .before .before .before .before .before .before .before .before .before .before .if2 .t) (k .tallied))
-    (c .before .before .before .before .before .before .before .before .before .before .before .point .ensures .0) (toZ-ofZ (fits32 (getD (p .draft) (c .before .before .before .before .before .before .before .before .before .before .before .point .result) (pos 0)) (c .before .before .before .before .before .before .before .before .before .before .old2 .given))) (c .before .before .decide-replay .ensures) (λ e. still (λ s. Linked (c .before .before .before .before .before .before .before .before .before .before .before .before .before .before .before .before .before .before .before .before .before .before .before .before .before .before .before .before .before .before .before .before .before .before .loop .links) (s .lower) (s .upper) 0 (min (s .head .rules) 64)) k off (c .before .before .before .before .before .before .before .before .before .before .before .before .before .before .before .before .before .before .before .before .before .before .before .before .before .before .before .before .before .before .before .before .before .before .loop .inv .linked)) in
-    let amount = toZ-ofZ (fits32 (d .amount) (c .before .struct-told9 .given .0 .1)) in
-    (meets-made _ p _ (rw (amount, g .1, g .2, g .0 ∙ replay-held p (c .before .before .before .before .before .before .before .before .before .before .before .before .before .before .before .before .before .before .before .before .before .before .before .before .before .before .before .before .before .before .before .before .before .before .before .before .before .before .before .before .before .before .args .sound) (still (Sound (c .before .before .before .before .before .before .before .before .before .before .before .before .before .before .before .before .before .before .before .before .before .before .before .before .before .before .before .before .before .before .before .before .before .before .before .before .before .before .before .before .before .before .args .sound)) k off (on-line (c .before .before .before .before .before .before .before .before .before .before .before .before .before .before .before .before .before .before .before .before .before .before .before .before .before .before .before .before .before .before .before .before .before) .0)) (natural (l .a))) (replay-meets p (k .sized) (l .a))), replay-sized p (c .before .before .before .before .before .before .before .before .before .before .before .point .result) (c .before .before .before .before .before .before .before .before .before .before .before .before .before .before .before .before .before .before .before .before .before .place3 .result) (record { amount = toZ w32 (ofZ w32 (d .amount)); entry = d .entry; answer = d .answer }) (k .sized))
+-- the decision as it is stored
+abbrev settled : replaying-decision.Decision → replaying-decision.Decision
+settled d = record { amount = toZ w32 (ofZ w32 (d .amount)); entry = d .entry; answer = d .answer }
 
-replay-turned : (c : tie.After-after-replay Inv-loop2 μ-loop2 Inv-loop μ-loop) {q : State} {u : Tallies} {a : Answer} → let d = (c .before .before .before .decide-replay .result) in q ≡ replaying.stored (c .before .before .before .before .before .before .before .before .before .before .before .before .before .before .before .before .before .before .before .before .before .before .before .before .before .before .if2 .p) (c .before .before .before .before .before .before .before .before .before .before .before .before .point .result) (c .before .before .before .before .before .before .before .before .before .before .before .before .before .before .before .before .before .before .before .before .before .before .place3 .result) (record { amount = toZ w32 (ofZ w32 (d .amount)); entry = d .entry; answer = d .answer }) → u ≡ (c .after-replay .result) → a ≡ d .answer
-    → Turned (isDraw (c .before .before .before .before .before .before .before .before .before .before .before .before .before .before .before .before .before .before .before .before .before .before .before .before .before .before .before .before .before .before .before .before .read-line .result .op)) (doneReplay (c .before .before .before .before .before .before .before .before .before .before .before .before .before .before .before .before .before .before .before .before .before .before .before .before .before .before .before .before .before .before .before .before .read-line .result .op)) (lineIn (c .before .before .before .before .before .before .before .before .before .before .before .before .before .before .before .before .before .before .before .before .before .before .before .before .before .before .before .before .before .before .before .before .read-line .result)) (c .before .before .before .before .before .before .before .before .before .before .before .before .before .before .before .before .before .before .before .before .before .before .before .before .before .before .before .before .before .before .before .before .before .before .before .loop .p) q (c .before .before .before .before .before .before .before .before .before .before .before .before .before .before .before .before .before .before .before .before .before .before .before .before .before .before .before .before .before .before .before .before .before .before .before .loop .t) u a (c .before .before .before .before .before .before .before .before .before .before .before .before .before .before .before .before .before .before .before .before .before .before .before .before .before .before .before .if1 .first) (c .before .before .before .before .before .before .before .before .before .before .before .before .before .before .before .before .before .before .before .before .before .before .before .before .before .before .before .if1 .width)
+replay-arm : (c : tie.After-entry2 Inv-loop2 μ-loop2 Inv-loop μ-loop) → let p = (c .before .before .before .before .before .before .before .before .before .before .before .before .before .before .before .before .before .if2 .p) in let d = (c .before .before .decide-replay .result) in
+    let q = replaying.stored p (c .before .before .before .before .before .before .before .before .before .before .point-of .result) (c .before .before .before .before .before .before .before .before .before .before .before .before .before .before .seat3 .result) (settled d) in
+    Made (some (replay (c .before .before .before .before .before .before .before .before .before .before .before .before .before .before .before .before .before .before .before .before .before .before .before .read-line .result .a))) p q (d .answer) [] × Sized q
+replay-arm c =
+    let p = (c .before .before .before .before .before .before .before .before .before .before .before .before .before .before .before .before .before .if2 .p) in
+    let l = (c .before .before .before .before .before .before .before .before .before .before .before .before .before .before .before .before .before .before .before .before .before .before .before .read-line .result) in
+    let d = (c .before .before .decide-replay .result) in
+    let sound = (c .before .before .before .before .before .before .before .before .before .before .before .before .before .before .before .before .before .before .before .before .before .before .before .before .before .before .before .before .before .before .before .before .before .before .args .sound) in
+    let k = turned2 (c .before .before .before .before .before .before .before .before .before .before .before .before .before .before .before .before .before) in
+    let off = off-replay _ (c .before .before .before .before .before .before .before .before .before .before .before .before .before .before .before .before .if4 .taken) in
+    let to-n = toZ-ofZ (fits32 (l .a) (c .before .before .before .before .before .before .before .before .before .before .before .before .before .before .before .before .before .before .before .before .before .struct-told .given .1 .0 .1)) in
+    let standing = getD (p .edits) (c .before .before .before .before .before .before .before .before .before .before .before .before .before .before .seat3 .result) noRecord in
+    let slot = (c .before .before .before .before .before .before .before .before .before .before .before .before .before .before .seat3 .ensures .0) ∙ ap (seatOf (p .head)) to-n in
+    let seat = (c .before .before .before .before .before .before .before .before .before .before .before .before .earlier-seat .ensures .0) ∙ ap (λ j. placeOf (replaying.earlierAt (p .head) j standing)) to-n in
+    let point = point-decided p (l .a) slot ((c .before .before .before .before .before .before .before .before .before .before .point-of .ensures .0) ∙ ap (λ j. replaying.pointOf (replaying.standingAt (p .head) j standing .measure)) to-n) in
+    let g = replay-decided sound p (l .a) slot seat (ap (λ j. j + 1) (settled-few p (c .before .before .before .before .before .before .before .before .before .before .before .before .before .before .before .before .before .if2 .t) (k .tallied)))
+    ((c .before .before .decide-replay .ensures) ∙ (λ j. replaying.replayFrom (testedBy sound (c .before .before .before .before .before .before .before .before .before .before .before .before .before .before .before .before .before .before .before .before .before .before .before .before .before .before .loop .links)) (p .head) (p .lower) (p .gap) (p .upper) (p .draft) (p .arrived) (to-n j) standing (getD (p .edits) (c .before .before .before .before .before .before .before .before .before .before .before .before .earlier-seat .result) noRecord) (min (c .before .before .before .before .before .before .before .before .before .before .before .before .before .before .before .before .before .if2 .t .settled) 256 + 1)))
+    (λ e. still (λ s. Linked (c .before .before .before .before .before .before .before .before .before .before .before .before .before .before .before .before .before .before .before .before .before .before .before .before .before .before .loop .links) (s .lower) (s .upper) 0 (min (s .head .rules) 64)) k off (c .before .before .before .before .before .before .before .before .before .before .before .before .before .before .before .before .before .before .before .before .before .before .before .before .before .before .loop .inv .linked)) in
+    let held = replay-held p sound (still (Sound sound) k off (on-line (c .before .before .before .before .before .before .before .before .before .before .before .before .before .before .before .before .before .before .before .before .before .before .before .before .before) .0)) (l .a) in
+    let amount = toZ-ofZ (fits32 (d .amount) (c .before .struct-told10 .given .0 .1)) in
+    (meets-made _ p _ (rw (amount, point, slot, g ∙ held) (replay-meets p (k .sized) (l .a))), replay-sized p (c .before .before .before .before .before .before .before .before .before .before .point-of .result) (c .before .before .before .before .before .before .before .before .before .before .before .before .before .before .seat3 .result) (settled d) (k .sized))
+
+replay-turned : (c : tie.After-after-replay Inv-loop2 μ-loop2 Inv-loop μ-loop) {q : State} {u : Tallies} {a : Answer} → let d = (c .before .before .before .decide-replay .result) in q ≡ replaying.stored (c .before .before .before .before .before .before .before .before .before .before .before .before .before .before .before .before .before .before .if2 .p) (c .before .before .before .before .before .before .before .before .before .before .before .point-of .result) (c .before .before .before .before .before .before .before .before .before .before .before .before .before .before .before .seat3 .result) (settled d) → u ≡ (c .after-replay .result) → a ≡ d .answer
+    → Turned (isDraw (c .before .before .before .before .before .before .before .before .before .before .before .before .before .before .before .before .before .before .before .before .before .before .before .before .read-line .result .op)) (doneReplay (c .before .before .before .before .before .before .before .before .before .before .before .before .before .before .before .before .before .before .before .before .before .before .before .before .read-line .result .op)) (lineIn (c .before .before .before .before .before .before .before .before .before .before .before .before .before .before .before .before .before .before .before .before .before .before .before .before .read-line .result)) (c .before .before .before .before .before .before .before .before .before .before .before .before .before .before .before .before .before .before .before .before .before .before .before .before .before .before .before .loop .p) q (c .before .before .before .before .before .before .before .before .before .before .before .before .before .before .before .before .before .before .before .before .before .before .before .before .before .before .before .loop .t) u a (c .before .before .before .before .before .before .before .before .before .before .before .before .before .before .before .before .before .before .before .if1 .first) (c .before .before .before .before .before .before .before .before .before .before .before .before .before .before .before .before .before .before .before .if1 .width)
 replay-turned c e v g =
     let m = replay-arm (c .before) in
-    let k = turned2 (c .before .before .before .before .before .before .before .before .before .before .before .before .before .before .before .before .before .before .before .before .before .before .before .before .before .before) in
-    taken k (eq-eqb _ 8 (c .before .before .before .before .before .before .before .before .before .before .before .before .before .before .before .before .before .before .before .before .before .before .before .before .before .if4 .taken)) (off-replay _ (c .before .before .before .before .before .before .before .before .before .before .before .before .before .before .before .before .before .before .before .before .before .before .before .before .before .if4 .taken)) e (v ∙ (c .after-replay .ensures)) g refl refl (rw (line-replay (c .before .before .before .before .before .before .before .before .before .before .before .before .before .before .before .before .before .before .before .before .before .before .before .before .before .before .before .before .before .before .before .before .read-line .result) (c .before .before .before .before .before .before .before .before .before .before .before .before .before .before .before .before .before .before .before .before .before .before .before .before .before .if4 .taken)) (m .0)) (λ x. alike refl refl refl) (m .1) (tallied-made _ (m .0) (c .before .before .before .before .before .before .before .before .before .before .before .before .before .before .before .before .before .before .before .before .before .before .before .before .before .before .if2 .t) (k .tallied))
+    let k = turned2 (c .before .before .before .before .before .before .before .before .before .before .before .before .before .before .before .before .before .before) in
+    taken k (eq-eqb _ 8 (c .before .before .before .before .before .before .before .before .before .before .before .before .before .before .before .before .before .if4 .taken)) (off-replay _ (c .before .before .before .before .before .before .before .before .before .before .before .before .before .before .before .before .before .if4 .taken)) e (v ∙ (c .after-replay .ensures)) g refl refl (rw (line-replay (c .before .before .before .before .before .before .before .before .before .before .before .before .before .before .before .before .before .before .before .before .before .before .before .before .read-line .result) (c .before .before .before .before .before .before .before .before .before .before .before .before .before .before .before .before .before .if4 .taken)) (m .0)) (λ x. alike refl refl refl) (m .1) (tallied-made _ (m .0) (c .before .before .before .before .before .before .before .before .before .before .before .before .before .before .before .before .before .before .if2 .t) (k .tallied))
 
 turned4 : (c : tie.Joined4 Inv-loop2 μ-loop2 Inv-loop μ-loop) → Turned (isDraw (c .before .before .before .before .before .before .before .read-line .result .op)) (doneReplay (c .before .before .before .before .before .before .before .read-line .result .op)) (lineIn (c .before .before .before .before .before .before .before .read-line .result)) (c .before .before .before .before .before .before .before .before .before .before .loop .p) (c .if4 .p) (c .before .before .before .before .before .before .before .before .before .before .loop .t) (c .if4 .t) (c .if4 .answer) (c .before .before .if1 .first) (c .before .before .if1 .width)
 turned4 c =
     on (c .if4 .came)
-    (λ w. replay-turned (record { before = record { before = record { before = record { before = record { before = record { before = record { before = record { before = record { before = record { before = record { before = record { before = record { before = record { before = record { before = record { before = record { before = record { before = record { before = record { before = record { before = record { before = record { before = record { before = record { before = record { before = (c .before); if4 = w .0 }; h3 = w .1 }; position3 = w .2 }; place3 = w .3 }; standing = w .4 }; found = w .5 }; position4 = w .6 }; place4 = w .7 }; seen3 = w .8 }; p3 = w .9 }; unset-arg = w .10 }; unset = w .11 }; capped2 = w .12 }; point = w .13 }; old2 = w .14 }; p4 = w .15 }; decide-replay-arg = w .16 }; decide-replay-arg2 = w .17 }; decide-replay-arg3 = w .18 }; links2 = w .19 }; decide-replay-arg4 = w .20 }; decide-replay-arg5 = w .21 }; decide-replay = w .22 }; struct-told9 = w .23 }; entry2 = w .24 }; after-replay = w .25 }) (w .26) (w .27) (w .28))
+    (λ w. replay-turned (record { before = record { before = record { before = record { before = record { before = record { before = record { before = record { before = record { before = record { before = record { before = record { before = record { before = record { before = record { before = record { before = record { before = record { before = (c .before); if4 = w .0 }; h3 = w .1 }; seat3 = w .2 }; standing = w .3 }; earlier-seat = w .4 }; seen3 = w .5 }; point-of = w .6 }; p3 = w .7 }; decide-replay-arg = w .8 }; decide-replay-arg2 = w .9 }; decide-replay-arg3 = w .10 }; links2 = w .11 }; decide-replay-arg4 = w .12 }; decide-replay-arg5 = w .13 }; decide-replay = w .14 }; struct-told10 = w .15 }; entry2 = w .16 }; after-replay = w .17 }) (w .18) (w .19) (w .20))
     (λ w. passed-by (turned2 (c .before)) (ne-eqb _ 8 (w .0 .left)) (w .1) (w .2) (w .3) refl refl)
 
 -- ---- a send
@@ -445,7 +459,7 @@ draw-turned c e g =
 turned8 : (c : tie.Joined8 Inv-loop2 μ-loop2 Inv-loop μ-loop) → Turned (isDraw (c .before .before .before .before .before .before .before .before .before .before .before .before .read-line .result .op)) (doneDraws (c .before .before .before .before .before .before .before .before .before .before .before .before .read-line .result .op)) (lineIn (c .before .before .before .before .before .before .before .before .before .before .before .before .read-line .result)) (c .before .before .before .before .before .before .before .before .before .before .before .before .before .before .before .loop .p) (c .if8 .p) (c .before .before .before .before .before .before .before .before .before .before .before .before .before .before .before .loop .t) (c .before .before .if7 .t) (c .if8 .answer) (c .before .before .before .before .before .before .before .if1 .first) (c .before .before .before .before .before .before .before .if1 .width)
 turned8 c =
     on (c .if8 .came)
-    (λ w. draw-turned (record { before = record { before = record { before = record { before = record { before = record { before = (c .before); if8 = w .0 }; struct-told10 = w .1 }; struct-told11 = w .2 }; struct-told12 = w .3 }; draw-up = w .4 }; q = w .5 }) (w .11) (w .13))
+    (λ w. draw-turned (record { before = record { before = record { before = record { before = record { before = record { before = (c .before); if8 = w .0 }; struct-told11 = w .1 }; struct-told12 = w .2 }; struct-told13 = w .3 }; draw-up = w .4 }; q = w .5 }) (w .11) (w .13))
     (λ w. passed-by (turned7 (c .before .before)) (sym (c .before .draws .ensures) ∙ (w .0 .left)) (w .1) refl (w .3) refl refl)
 
 -- the links are those of the rules that it leaves
@@ -455,7 +469,7 @@ draw-links c e g = rw (e, g) (c .indexed2 .ensures)
 links-now : (c : tie.Joined8 Inv-loop2 μ-loop2 Inv-loop μ-loop) → Linked (c .if8 .links) (c .if8 .p .lower) (c .if8 .p .upper) 0 (min (c .if8 .p .head .rules) 64)
 links-now c =
     on (c .if8 .came)
-    (λ w. draw-links (record { before = record { before = record { before = record { before = record { before = record { before = record { before = record { before = record { before = record { before = record { before = (c .before); if8 = w .0 }; struct-told10 = w .1 }; struct-told11 = w .2 }; struct-told12 = w .3 }; draw-up = w .4 }; q = w .5 }; h6 = w .6 }; p5 = w .7 }; indexed-arg3 = w .8 }; indexed-arg4 = w .9 }; indexed2 = w .10 }) (w .11) (w .12))
+    (λ w. draw-links (record { before = record { before = record { before = record { before = record { before = record { before = record { before = record { before = record { before = record { before = record { before = (c .before); if8 = w .0 }; struct-told11 = w .1 }; struct-told12 = w .2 }; struct-told13 = w .3 }; draw-up = w .4 }; q = w .5 }; h6 = w .6 }; p4 = w .7 }; indexed-arg3 = w .8 }; indexed-arg4 = w .9 }; indexed2 = w .10 }) (w .11) (w .12))
     (λ w. subst (λ k. Linked k (c .if8 .p .lower) (c .if8 .p .upper) 0 (min (c .if8 .p .head .rules) 64)) (sym (w .2)) (linked-still (turned8 c .ruled (sym (c .before .draws .ensures) ∙ (w .0 .left))) (c .before .before .before .before .before .before .before .before .before .before .before .before .before .before .before .loop .inv .linked)))
 
 -- ---- any line
@@ -571,11 +585,20 @@ add-end c = let f = end-fits (c .before) in omega (arith, f)
 number-requires : tie.Need-number-requires Inv-loop2 μ-loop2 Inv-loop μ-loop
 number-requires c κs = search needs
 
-position-requires : tie.Need-position-requires Inv-loop2 μ-loop2 Inv-loop μ-loop
-position-requires c κs = search needs
+seat-requires : tie.Need-seat-requires Inv-loop2 μ-loop2 Inv-loop μ-loop
+seat-requires c κs = search needs
 
-place-requires : tie.Need-place-requires Inv-loop2 μ-loop2 Inv-loop μ-loop
-place-requires c κs = search needs
+seat-requires-2 : tie.Need-seat-requires-2 Inv-loop2 μ-loop2 Inv-loop μ-loop
+seat-requires-2 c κs = search needs
+
+seat-requires-3 : tie.Need-seat-requires-3 Inv-loop2 μ-loop2 Inv-loop μ-loop
+seat-requires-3 c κs = search needs
+
+earlier-seat-requires : tie.Need-earlier-seat-requires Inv-loop2 μ-loop2 Inv-loop μ-loop
+earlier-seat-requires c κs = search needs
+
+point-of-requires : tie.Need-point-of-requires Inv-loop2 μ-loop2 Inv-loop μ-loop
+point-of-requires c κs = search needs
 
 mul-seen : tie.Need-mul-seen Inv-loop2 μ-loop2 Inv-loop μ-loop
 mul-seen c = omega arith
@@ -586,23 +609,11 @@ element-copy-out-seen c = omega arith
 read-requires : tie.Need-read-requires Inv-loop2 μ-loop2 Inv-loop μ-loop
 read-requires c κs = search needs
 
-number-requires-2 : tie.Need-number-requires-2 Inv-loop2 μ-loop2 Inv-loop μ-loop
-number-requires-2 c κs = search needs
-
-position-requires-2 : tie.Need-position-requires-2 Inv-loop2 μ-loop2 Inv-loop μ-loop
-position-requires-2 c κs = search needs
-
-place-requires-2 : tie.Need-place-requires-2 Inv-loop2 μ-loop2 Inv-loop μ-loop
-place-requires-2 c κs = search needs
-
 mul-seen-2 : tie.Need-mul-seen-2 Inv-loop2 μ-loop2 Inv-loop μ-loop
 mul-seen-2 c = omega arith
 
 element-copy-out-seen-2 : tie.Need-element-copy-out-seen-2 Inv-loop2 μ-loop2 Inv-loop μ-loop
 element-copy-out-seen-2 c = omega arith
-
-number-requires-3 : tie.Need-number-requires-3 Inv-loop2 μ-loop2 Inv-loop μ-loop
-number-requires-3 c κs = search needs
 
 spot-requires : tie.Need-spot-requires Inv-loop2 μ-loop2 Inv-loop μ-loop
 spot-requires c κs = search needs
@@ -610,32 +621,23 @@ spot-requires c κs = search needs
 capped-requires : tie.Need-capped-requires Inv-loop2 μ-loop2 Inv-loop μ-loop
 capped-requires c κs = search needs
 
-mul-old : tie.Need-mul-old Inv-loop2 μ-loop2 Inv-loop μ-loop
-mul-old c = omega arith
-
-element-copy-out-old : tie.Need-element-copy-out-old Inv-loop2 μ-loop2 Inv-loop μ-loop
-element-copy-out-old c = omega arith
-
-number-requires-4 : tie.Need-number-requires-4 Inv-loop2 μ-loop2 Inv-loop μ-loop
-number-requires-4 c κs = search needs
-
 decide-edit-requires : tie.Need-decide-edit-requires Inv-loop2 μ-loop2 Inv-loop μ-loop
 decide-edit-requires c κs = search needs
 
 mul-value : tie.Need-mul-value Inv-loop2 μ-loop2 Inv-loop μ-loop
 mul-value c =
-    omega (arith, (c .before .before .before .before .before .before .before .before .before .before .before .before .before .before .before .before .before .before .before .spot .ensures .1))
+    omega (arith, (c .before .before .before .before .before .before .before .before .before .before .before .before .before .before .before .before .before .spot .ensures .1))
 
 element-set-from-value : tie.Need-element-set-from-value Inv-loop2 μ-loop2 Inv-loop μ-loop
-element-set-from-value c = (c .before .before .before .before .before .before .before .before .before .before .before .before .before .before .before .before .before .before .before .spot .ensures .1)
+element-set-from-value c = (c .before .before .before .before .before .before .before .before .before .before .before .before .before .before .before .before .before .spot .ensures .1)
 
 mul-entry : tie.Need-mul-entry Inv-loop2 μ-loop2 Inv-loop μ-loop
 mul-entry c =
-    omega (arith, (c .before .before .before .before .before .before .before .before .before .before .before .before .before .before .before .before .before .before .before .capped .ensures))
+    omega (arith, (c .before .before .before .before .before .before .before .before .before .before .before .before .before .before .before .before .before .capped .ensures))
 
 element-set-from-entry : tie.Need-element-set-from-entry Inv-loop2 μ-loop2 Inv-loop μ-loop
 element-set-from-entry c =
-    omega (arith, (c .before .before .before .before .before .before .before .before .before .before .before .before .before .before .before .before .before .before .before .capped .ensures))
+    omega (arith, (c .before .before .before .before .before .before .before .before .before .before .before .before .before .before .before .before .before .capped .ensures))
 
 index-requires : tie.Need-index-requires Inv-loop2 μ-loop2 Inv-loop μ-loop
 index-requires c κs = search needs
@@ -646,53 +648,17 @@ element-copy-out-flag c = omega arith
 after-kept-requires : tie.Need-after-kept-requires Inv-loop2 μ-loop2 Inv-loop μ-loop
 after-kept-requires c κs = search needs
 
-position-requires-3 : tie.Need-position-requires-3 Inv-loop2 μ-loop2 Inv-loop μ-loop
-position-requires-3 c κs = search needs
-
-place-requires-3 : tie.Need-place-requires-3 Inv-loop2 μ-loop2 Inv-loop μ-loop
-place-requires-3 c κs = search needs
-
 mul-standing : tie.Need-mul-standing Inv-loop2 μ-loop2 Inv-loop μ-loop
 mul-standing c = omega arith
 
 element-copy-out-standing : tie.Need-element-copy-out-standing Inv-loop2 μ-loop2 Inv-loop μ-loop
 element-copy-out-standing c = omega arith
 
-found-requires : tie.Need-found-requires Inv-loop2 μ-loop2 Inv-loop μ-loop
-found-requires c κs = search needs
-
-position-requires-4 : tie.Need-position-requires-4 Inv-loop2 μ-loop2 Inv-loop μ-loop
-position-requires-4 c κs = search needs
-
-place-requires-4 : tie.Need-place-requires-4 Inv-loop2 μ-loop2 Inv-loop μ-loop
-place-requires-4 c κs = search needs
-
 mul-seen-3 : tie.Need-mul-seen-3 Inv-loop2 μ-loop2 Inv-loop μ-loop
 mul-seen-3 c = omega arith
 
 element-copy-out-seen-3 : tie.Need-element-copy-out-seen-3 Inv-loop2 μ-loop2 Inv-loop μ-loop
 element-copy-out-seen-3 c = omega arith
-
-unset-requires : tie.Need-unset-requires Inv-loop2 μ-loop2 Inv-loop μ-loop
-unset-requires c κs = search needs
-
-capped-requires-2 : tie.Need-capped-requires-2 Inv-loop2 μ-loop2 Inv-loop μ-loop
-capped-requires-2 c κs = search needs
-
-cast-place : tie.Need-cast-place Inv-loop2 μ-loop2 Inv-loop μ-loop
-cast-place c = omega arith
-
-add-place : tie.Need-add-place Inv-loop2 μ-loop2 Inv-loop μ-loop
-add-place c = omega arith
-
-point-requires : tie.Need-point-requires Inv-loop2 μ-loop2 Inv-loop μ-loop
-point-requires c κs = search needs
-
-mul-old-2 : tie.Need-mul-old-2 Inv-loop2 μ-loop2 Inv-loop μ-loop
-mul-old-2 c = omega arith
-
-element-copy-out-old-2 : tie.Need-element-copy-out-old-2 Inv-loop2 μ-loop2 Inv-loop μ-loop
-element-copy-out-old-2 c = omega arith
 
 decide-replay-requires : tie.Need-decide-replay-requires Inv-loop2 μ-loop2 Inv-loop μ-loop
 decide-replay-requires c κs = search needs
@@ -705,10 +671,10 @@ element-set-from-amount c = omega arith
 
 mul-entry-2 : tie.Need-mul-entry-2 Inv-loop2 μ-loop2 Inv-loop μ-loop
 mul-entry-2 c =
-    omega (arith, (c .before .before .before .before .before .before .before .before .before .before .before .before .before .before .before .before .before .before .before .before .before .place3 .ensures .1))
+    omega (arith, (c .before .before .before .before .before .before .before .before .before .before .before .before .before .before .seat3 .ensures .1))
 
 element-set-from-entry-2 : tie.Need-element-set-from-entry-2 Inv-loop2 μ-loop2 Inv-loop μ-loop
-element-set-from-entry-2 c = (c .before .before .before .before .before .before .before .before .before .before .before .before .before .before .before .before .before .before .before .before .before .place3 .ensures .1)
+element-set-from-entry-2 c = (c .before .before .before .before .before .before .before .before .before .before .before .before .before .before .seat3 .ensures .1)
 
 after-replay-requires : tie.Need-after-replay-requires Inv-loop2 μ-loop2 Inv-loop μ-loop
 after-replay-requires c κs = search needs
@@ -878,22 +844,15 @@ go-spec =
     read-line-requires
     add-end
     number-requires
-    position-requires
-    place-requires
+    seat-requires
     mul-seen
     element-copy-out-seen
     read-requires
-    number-requires-2
-    position-requires-2
-    place-requires-2
+    seat-requires-2
     mul-seen-2
     element-copy-out-seen-2
-    number-requires-3
     spot-requires
     capped-requires
-    mul-old
-    element-copy-out-old
-    number-requires-4
     decide-edit-requires
     mul-value
     element-set-from-value
@@ -902,22 +861,13 @@ go-spec =
     index-requires
     element-copy-out-flag
     after-kept-requires
-    position-requires-3
-    place-requires-3
+    seat-requires-3
     mul-standing
     element-copy-out-standing
-    found-requires
-    position-requires-4
-    place-requires-4
+    earlier-seat-requires
     mul-seen-3
     element-copy-out-seen-3
-    unset-requires
-    capped-requires-2
-    cast-place
-    add-place
-    point-requires
-    mul-old-2
-    element-copy-out-old-2
+    point-of-requires
     decide-replay-requires
     mul-amount
     element-set-from-amount
