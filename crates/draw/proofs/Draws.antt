@@ -1,31 +1,33 @@
--- Laws of drawing a plan up: the checks from the head alone, and the plan after each call. Assumes nothing.
-use Prim.Native.Nat.{ℕ, zero, suc, _+_, _<_, min}
+-- What a call that draws decides, carried out, is the protocol's step. Assumes nothing.
+use Prim.Native.Nat.{ℕ, suc, _+_, _<_, min}
 use native.Mathlib.Omega.{arith}
-use mathlib.Core.Bool.{true, false}
-use mathlib.Core.Path.{_≡_, refl, sym, ap, ap₂, _∙_}
+use mathlib.Core.Bool.{Bool, true, false, cond}
+use mathlib.Core.Path.{_≡_, refl, sym, ap, ap₂, subst, _∙_}
 use mathlib.Core.Logic.{_≢_}
 use mathlib.Core.List.{List, [], _∷_}
-use borrow.Author.Tests.{ne-eqb}
 use lib.IntN.{ℤ, pos}
-use lib.Dec.{T, ltb, eqb→eq, ltb→lt}
-use lib.ListN.{length, getD, set}
-use Rattle.protocol.specs.Lists.{natural, none, snoc}
+use lib.Dec.{T, T-not, eqb, ltb, eqb→eq, ltb→lt}
+use lib.ListN.{length, getD, set, length-set}
+use lib.Seq.{set-getD}
+use Rattle.protocol.specs.Lists.{natural, snoc}
 use Rattle.protocol.specs.Plan.{Rule, blank, is, modeNumber, measureLimit, ruleLimit}
-use Rattle.protocol.specs.Calls.{measure, rule, open-plan, first, checks, further, firstValues, onValues, ruleOf, after, gives, ok}
-use Rattle.protocol.proofs.Laws.{is-yes, yes-is}
+use Rattle.protocol.specs.Calls.{Call, measure, rule, open-plan, Check, Verdict, fine, refused, first, checks, further, firstValues, onValues, ruleOf, after, gives, ok}
+use Rattle.protocol.proofs.Laws.{is-yes, yes-is, Pass}
 use Rattle.rows.specs.Rows.{row}
-use Rattle.rules.specs.Rules.{rulesIn, withValue}
+use Rattle.rules.specs.Rules.{rulesIn}
 use Rattle.rows.proofs.Spans.{length-span, span-same, span-snoc, getD-set, getD-other}
 use Rattle.rules.proofs.Rows.{holds-is}
-use Rattle.state.specs.declared.Answer.the-variants.{Number}
+use Rattle.state.specs.declared.Answer.the-variants.{Refused, Done}
 use Rattle.heads.specs.declared.Head.{Head}
 use Rattle.state.specs.declared.State.{State}
 use Rattle.heads.specs.Heads.{modeOf, sidesIn, measuresIn}
 use Rattle.state.specs.View.{view, sideOf, rulesOf}
 use Rattle.state.proofs.Views.{Sized, plan-same, sides-modify, sides-least, first-row, row-snoc, row-length}
-use Rattle.state.specs.Meets.{Meets}
-use Rattle.state.proofs.Steps.{Checked, accepts}
-use Rattle.limits.specs.Draw.{measureChecks, ruleChecks, openChecks, measured, ruled, opened}
+use Rattle.state.specs.Meets.{answerOf, SameIfRefused, Meets}
+use Rattle.state.proofs.Meeting.{refused-meets, accepted-meets, fine-pass}
+use Rattle.state.proofs.Steps.{stored}
+use Rattle.limits.specs.declared.Drawing.{Drawing}
+use Rattle.limits.specs.Draw.{measureChecks, ruleChecks, openChecks, measured, ruled, opened, refusedDrawing, drawBy, measureDrawing, measureDecision, ruleDrawing, ruleDecision, openDrawing, openDecision, drawDecision, entryOf, drawnIn}
 
 drawn-length : (p : State) → length (firstValues (view p .content)) ≡ measuresIn (p .head)
 drawn-length p = ap length (first-row p) ∙ row-length (p .values) 0 (measuresIn (p .head))
@@ -34,28 +36,36 @@ drawn-length p = ap length (first-row p) ∙ row-length (p .values) 0 (measuresI
 alone : (h : Head) → is blank (modeOf (h .mode)) ≡ true → sidesIn h ≡ 1
 alone h e = rw (eqb→eq (modeNumber (modeOf (h .mode))) 0 (is-yes e))
 
+-- ---- a decision carried out
+
+abbrev withHead : State → Head → State
+withHead p h = stored p h (p .base) (p .draft) (p .values) (p .arrived) (p .confirmed) (p .edits)
+
+-- what stands behind those that count, stored again, with whatever answer
+entry-same : (p : State) (h : Head) → drawnIn p (record { head = h; entry = entryOf p; answer = Done }) ≡ withHead p h
+entry-same p h =
+    let i = min (p .head .rules) 63 in
+    rw (set-getD (p .values) (min (p .head .measures) 31) (pos 0), set-getD (p .lower) i 0, set-getD (p .gap) i (pos 0), set-getD (p .upper) i 0, set-getD (p .firm) i false)
+
+-- by the verdict on the checks
+decided : (c : Call) (p : State) (cs : List Check) (d : Drawing) → first (checks c (view p)) ≡ first cs
+    → (Pass cs → answerOf (d .answer) ≡ ok (gives c (view p .mode) (view p .content))) → (Pass cs → view (drawnIn p d) ≡ after c (view p .mode) (view p .content)) → SameIfRefused (d .answer) p (drawnIn p d)
+    → let x = drawBy (first cs) d (p .head) (entryOf p) in Meets c p (record { state = drawnIn p x; answer = x .answer })
+decided c p cs d same given next s = by (first cs) refl
+  where
+    by : (v : Verdict) → first cs ≡ v → let x = drawBy v d (p .head) (entryOf p) in Meets c p (record { state = drawnIn p x; answer = x .answer })
+    by fine e = let f = fine-pass cs e in accepted-meets c p (record { state = drawnIn p d; answer = d .answer }) (same ∙ e) (given f) (next f) s
+    by (refused k) e = subst (λ q. Meets c p (record { state = q; answer = Refused k })) (sym (entry-same p (p .head))) (refused-meets c p k (same ∙ e))
+
 -- ---- measure
 
-pub measure-checks : (p : State) (v : ℤ) → first (checks (measure v) (view p)) ≡ first (measureChecks (p .head) v)
+measure-checks : (p : State) (v : ℤ) → first (checks (measure v) (view p)) ≡ first (measureChecks (p .head) v)
 unfolding checks further
 measure-checks p v = rw (drawn-length p)
 
 -- the state with a measure more
-abbrev pub measureTo : State → ℕ → ℤ → State
-measureTo p n v =
-    record {
-      head = measured (p .head) (n + 1);
-      base = p .base;
-      draft = p .draft;
-      values = set (p .values) n v;
-      arrived = p .arrived;
-      confirmed = p .confirmed;
-      lower = p .lower;
-      gap = p .gap;
-      upper = p .upper;
-      firm = p .firm;
-      edits = p .edits;
-    }
+abbrev measureTo : State → ℕ → ℤ → State
+measureTo p n v = stored p (measured (p .head) (n + 1)) (p .base) (p .draft) (set (p .values) n v) (p .arrived) (p .confirmed) (p .edits)
 
 longer : (p : State) → Sized p → (v : ℤ) → p .head .measures < 32 → let n = min (p .head .measures) 31 in row (set (p .values) n v) 0 (min (n + 1) 32) ≡ snoc (row (p .values) 0 (measuresIn (p .head))) v
 longer p z v h =
@@ -78,24 +88,35 @@ measure-given : (p : State) (v : ℤ) → p .head .measures < 32 → _≡_ {A = 
 unfolding gives
 measure-given p v h = let e = drawn-length p in let n : min (p .head .measures) 31 + 1 ≡ suc (length (firstValues (view p .content))) = omega arith in ap {B = List ℤ} (λ k. pos k ∷ []) n
 
-pub measure-accepts : (p : State) → Sized p → (v : ℤ) {k : ℕ} → Checked (measure v) p (measureChecks (p .head) v) k → k ≡ 0
-    → let n = min (p .head .measures) 31 in Meets (measure v) p (record { state = measureTo p n v; answer = Number (n + 1) })
-measure-accepts p z v w e = accepts _ w tt e (λ t. ap ok (measure-given p v (room (t .1 .0)))) (λ t. measure-next p z v (yes-is _ (t .0)) (room (t .1 .0))) tt
+abbrev measureOf : State → ℤ → Drawing
+measureOf p v = measureDrawing (p .head) v (entryOf p)
+
+measure-drawn : (p : State) (v : ℤ) → drawnIn p (measureOf p v) ≡ measureTo p (min (p .head .measures) 31) v
+measure-drawn p v =
+    let i = min (p .head .rules) 63 in
+    rw (set-getD (p .lower) i 0, set-getD (p .gap) i (pos 0), set-getD (p .upper) i 0, set-getD (p .firm) i false)
+
+pub measure-decided : (p : State) → Sized p → (v : ℤ) → let d = measureDecision (p .head) v (entryOf p) in Meets (measure v) p (record { state = drawnIn p d; answer = d .answer })
+measure-decided p z v =
+    decided (measure v) p (measureChecks (p .head) v) (measureOf p v) (measure-checks p v)
+    (λ t. ap ok (measure-given p v (room (t .1 .0))))
+    (λ t. ap view (measure-drawn p v) ∙ measure-next p z v (yes-is _ (t .0)) (room (t .1 .0)))
+    tt
   where
     room : T (ltb (measuresIn (p .head)) measureLimit) → p .head .measures < 32
     room t = let l = ltb→lt (measuresIn (p .head)) measureLimit t in omega arith
 
 -- ---- rule
 
-pub rules-length : (p : State) → length (rulesOf p) ≡ min (p .head .rules) 64
+rules-length : (p : State) → length (rulesOf p) ≡ min (p .head .rules) 64
 rules-length p = length-span 0 (min (p .head .rules) 64) _
 
-pub rule-checks : (p : State) (a c b f : ℤ) → first (checks (rule a c b f) (view p)) ≡ first (ruleChecks (p .head) (natural a) c (natural b) f)
+rule-checks : (p : State) (a c b f : ℤ) → first (checks (rule a c b f) (view p)) ≡ first (ruleChecks (p .head) (natural a) c (natural b) f)
 unfolding checks further
 rule-checks p a c b f = rw (drawn-length p, rules-length p)
 
 -- the state with a rule more
-abbrev pub ruleTo : State → ℕ → Rule → State
+abbrev ruleTo : State → ℕ → Rule → State
 ruleTo p n r =
     record {
       head = ruled (p .head) (n + 1);
@@ -161,47 +182,109 @@ rule-given : (p : State) (a c b f : ℤ) → p .head .rules < 64 → _≡_ {A = 
 unfolding gives
 rule-given p a c b f h = let e = rules-length p in let n : min (p .head .rules) 63 + 1 ≡ suc (length (rulesOf p)) = omega arith in ap {B = List ℤ} (λ k. pos k ∷ []) n
 
-pub rule-accepts : (p : State) → Sized p → (a c b f : ℤ) {k : ℕ} → Checked (rule a c b f) p (ruleChecks (p .head) (natural a) c (natural b) f) k → k ≡ 0
-    → let n = min (p .head .rules) 63 in Meets (rule a c b f) p (record { state = ruleTo p n (ruleOf a c b f); answer = Number (n + 1) })
-rule-accepts p z a c b f w e = accepts _ w tt e (λ t. ap ok (rule-given p a c b f (room (t .1 .0)))) (λ t. rule-next p z a c b f (room (t .1 .0))) tt
+abbrev ruleIn : State → (a c b f : ℤ) → Drawing
+ruleIn p a c b f = ruleDrawing (p .head) a c b f (entryOf p)
+
+rule-drawn : (p : State) (a c b f : ℤ) → drawnIn p (ruleIn p a c b f) ≡ ruleTo p (min (p .head .rules) 63) (ruleOf a c b f)
+rule-drawn p a c b f = rw (set-getD (p .values) (min (p .head .measures) 31) (pos 0))
+
+pub rule-decided : (p : State) → Sized p → (a c b f : ℤ) → let d = ruleDecision (p .head) a c b f (entryOf p) in Meets (rule a c b f) p (record { state = drawnIn p d; answer = d .answer })
+rule-decided p z a c b f =
+    decided (rule a c b f) p (ruleChecks (p .head) (natural a) c (natural b) f) (ruleIn p a c b f) (rule-checks p a c b f)
+    (λ t. ap ok (rule-given p a c b f (room (t .1 .0))))
+    (λ t. ap view (rule-drawn p a c b f) ∙ rule-next p z a c b f (room (t .1 .0)))
+    tt
   where
     room : T (ltb (min (p .head .rules) 64) ruleLimit) → p .head .rules < 64
     room t = let l = ltb→lt (min (p .head .rules) 64) ruleLimit t in omega arith
 
 -- ---- open
 
--- a count that is not 0 is not 0 when it is capped
-pub some-left : (n : ℕ) → n ≢ 0 → none (min n 32) ≡ false
-some-left zero h = absurd (h refl)
-some-left (suc n) h = ne-eqb (min (suc n) 32) 0 (λ e. omega arith)
-
--- no measure is numbered 0
-pub no-value : (x : ℤ) (vs : List ℤ) → withValue 0 x vs ≡ vs
-unfolding withValue
-no-value x vs = refl
-
-pub open-checks : (p : State) → first (checks open-plan (view p)) ≡ first (openChecks p)
+open-checks : (p : State) → first (checks open-plan (view p)) ≡ first (openChecks (p .head) (p .lower) (p .gap) (p .upper) (p .values))
 unfolding checks further
 open-checks p = rw (drawn-length p, first-row p, holds-is (p .lower) (p .gap) (p .upper) (p .firm) (min (p .head .rules) 64) (row (p .values) 0 (measuresIn (p .head))))
 
-abbrev pub openTo : State → State
-openTo p =
-    record {
-      head = opened (p .head);
-      base = p .base;
-      draft = p .draft;
-      values = p .values;
-      arrived = p .arrived;
-      confirmed = p .confirmed;
-      lower = p .lower;
-      gap = p .gap;
-      upper = p .upper;
-      firm = p .firm;
-      edits = p .edits;
-    }
-
-pub open-next : (p : State) → is blank (modeOf (p .head .mode)) ≡ true → view (openTo p) ≡ after open-plan (view p .mode) (view p .content)
+open-next : (p : State) → is blank (modeOf (p .head .mode)) ≡ true → view (withHead p (opened (p .head))) ≡ after open-plan (view p .mode) (view p .content)
 unfolding after
 open-next p b =
     let e = eqb→eq (modeNumber (modeOf (p .head .mode))) 0 (is-yes b) in
     plan-same refl refl refl refl refl (rw e) (rw e)
+
+pub open-decided : (p : State) → Sized p → let d = openDecision (p .head) (p .lower) (p .gap) (p .upper) (p .values) (entryOf p) in Meets open-plan p (record { state = drawnIn p d; answer = d .answer })
+unfolding gives
+open-decided p z =
+    decided open-plan p (openChecks (p .head) (p .lower) (p .gap) (p .upper) (p .values)) (openDrawing (p .head) (entryOf p)) (open-checks p)
+    (λ t. refl)
+    (λ t. ap view (entry-same p (opened (p .head))) ∙ open-next p (yes-is _ (t .0)))
+    tt
+
+-- ---- the call by its number
+
+abbrev chosen : Bool → Bool → (a b c d : ℤ) → State → Drawing
+chosen x y a b c d p =
+    cond x (measureDecision (p .head) a (entryOf p)) (cond y (ruleDecision (p .head) a b c d (entryOf p)) (openDecision (p .head) (p .lower) (p .gap) (p .upper) (p .values) (entryOf p)))
+
+pub draw-decided : (op : ℕ) (a b c d : ℤ) (p : State) → Sized p → let x = drawDecision op a b c d (p .head) (p .lower) (p .gap) (p .upper) (p .values) (entryOf p) in
+    Meets (cond (eqb op 1) (measure a) (cond (eqb op 2) (rule a b c d) open-plan)) p (record { state = drawnIn p x; answer = x .answer })
+draw-decided op a b c d p z = by (eqb op 1) (eqb op 2)
+  where
+    by : (x y : Bool) → let r = chosen x y a b c d p in Meets (cond x (measure a) (cond y (rule a b c d) open-plan)) p (record { state = drawnIn p r; answer = r .answer })
+    by true y = measure-decided p z a
+    by false true = rule-decided p z a b c d
+    by false false = open-decided p z
+
+pub drawn-sized : (p : State) (d : Drawing) → Sized p → Sized (drawnIn p d)
+drawn-sized p d z =
+    record {
+      base = z .base;
+      draft = z .draft;
+      values = length-set (p .values) _ _ ∙ z .values;
+      arrived = z .arrived;
+      confirmed = z .confirmed;
+      lower = length-set (p .lower) _ _ ∙ z .lower;
+      gap = length-set (p .gap) _ _ ∙ z .gap;
+      upper = length-set (p .upper) _ _ ∙ z .upper;
+      firm = length-set (p .firm) _ _ ∙ z .firm;
+      edits = z .edits;
+    }
+
+-- a plan that is not blank is left as it is
+pub draw-refused : (op : ℕ) (a b c d : ℤ) (p : State) → is blank (modeOf (p .head .mode)) ≡ false → drawnIn p (drawDecision op a b c d (p .head) (p .lower) (p .gap) (p .upper) (p .values) (entryOf p)) ≡ p
+draw-refused op a b c d p e = ap (drawnIn p) (by (eqb op 1) (eqb op 2)) ∙ entry-same p (p .head)
+  where
+    by : (x y : Bool) → chosen x y a b c d p ≡ refusedDrawing (p .head) (entryOf p) 31
+    by true y = rw e
+    by false true = rw e
+    by false false = rw e
+
+abbrev RulesKept : State → Drawing → Type 0
+RulesKept p d = (d .head .rules ≡ p .head .rules) × (drawnIn p d .lower ≡ p .lower) × (drawnIn p d .upper ≡ p .upper)
+
+-- a plan that is not blank after the call has the rules that it had
+pub rules-kept : (op : ℕ) (a b c d : ℤ) (p : State) → let x = drawDecision op a b c d (p .head) (p .lower) (p .gap) (p .upper) (p .values) (entryOf p) in
+    is blank (modeOf (x .head .mode)) ≡ false → (x .head .rules ≡ p .head .rules) × (drawnIn p x .lower ≡ p .lower) × (drawnIn p x .upper ≡ p .upper)
+rules-kept op a b c d p = by (eqb op 1) (eqb op 2)
+  where
+    asked : List Check
+    asked = ruleChecks (p .head) (natural a) b (natural c) d
+
+    stands : (set (p .lower) (min (p .head .rules) 63) (entryOf p .lower) ≡ p .lower) × (set (p .upper) (min (p .head .rules) 63) (entryOf p .upper) ≡ p .upper)
+    stands = (set-getD (p .lower) _ 0, set-getD (p .upper) _ 0)
+
+    measure-by : (v : Verdict) → RulesKept p (drawBy v (measureOf p a) (p .head) (entryOf p))
+    measure-by fine = (refl, stands .0, stands .1)
+    measure-by (refused k) = (refl, stands .0, stands .1)
+
+    -- an accepted rule leaves a blank plan
+    rule-by : (v : Verdict) → first asked ≡ v → let x = drawBy v (ruleIn p a b c d) (p .head) (entryOf p) in is blank (modeOf (x .head .mode)) ≡ false → RulesKept p x
+    rule-by fine f e = absurd (T-not (is blank (modeOf (p .head .mode))) (rw e tt) (fine-pass asked f .0))
+    rule-by (refused k) f e = (refl, stands .0, stands .1)
+
+    open-by : (v : Verdict) → RulesKept p (drawBy v (openDrawing (p .head) (entryOf p)) (p .head) (entryOf p))
+    open-by fine = (refl, stands .0, stands .1)
+    open-by (refused k) = (refl, stands .0, stands .1)
+
+    by : (x y : Bool) → is blank (modeOf (chosen x y a b c d p .head .mode)) ≡ false → RulesKept p (chosen x y a b c d p)
+    by true y e = measure-by (first (measureChecks (p .head) a))
+    by false true e = rule-by (first asked) refl e
+    by false false e = open-by (first (openChecks (p .head) (p .lower) (p .gap) (p .upper) (p .values)))

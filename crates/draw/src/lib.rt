@@ -1,50 +1,72 @@
-// The calls that draw a plan up: measure, rule, open (01, "The calls").
+// The calls that draw a plan up: measure, rule, open (01, "The calls"): the decision (`limits`) and the stores. A caller that owns the
+// state uses the same decision.
+ghost use mathlib.Core.Path.{_≡_};
 ghost use Rattle.protocol.specs.Calls.{measure, rule, open-plan};
+ghost use Rattle.limits.specs.Draw.{entryOf, drawnIn};
 ghost use Rattle.state.specs.Meets.{Meets};
-use state::Answer;
+use limits::Drawing;
+use limits::Entry;
 use state::Answered;
 use state::State;
+
+// The value and the rule behind those that count.
+fn entry_of(p: State) -> Entry
+    ensures { λ r. ⌜ r ≡ entryOf p ⌝ }
+{
+    let h = p.head;
+    let i = rows::capped(h.measures, 31);
+    let j = rows::capped(h.rules, 63);
+    let value = p.values[i];
+    let lower = p.lower[j];
+    let gap = p.gap[j];
+    let upper = p.upper[j];
+    let firm = p.firm[j];
+    Entry {
+        value,
+        lower,
+        gap,
+        upper,
+        firm,
+    }
+}
+
+// A drawing carried out.
+fn drawn(p: State, d: Drawing) -> Answered
+    ensures { λ r. ⌜ r ≡ record { state = drawnIn p d; answer = d .answer } ⌝ }
+{
+    let h = p.head;
+    let i = rows::capped(h.measures, 31);
+    let j = rows::capped(h.rules, 63);
+    let head = d.head;
+    let entry = d.entry;
+    let answer = d.answer;
+    let value = entry.value;
+    let lower = entry.lower;
+    let gap = entry.gap;
+    let upper = entry.upper;
+    let firm = entry.firm;
+    let mut q = p;
+    q.head = head;
+    q.values[i] = value;
+    q.lower[j] = lower;
+    q.gap[j] = gap;
+    q.upper[j] = upper;
+    q.firm[j] = firm;
+    Answered { state: q, answer }
+}
 
 pub fn measure(p: State, v: i32) -> Answered
     ensures { λ r. ⌜ Meets (measure v) p r ⌝ }
 {
     let h = p.head;
-    let k = limits::measure_refusal(h, v);
-    if k != 0 {
-        return state::refuse(p, k);
-    }
-    let i = rows::capped(h.measures, 31);
-    let n = i as u32 + 1;
-    let head = limits::with_measures(h, n);
-    let mut q = p;
-    q.values[i] = v;
-    q.head = head;
-    let answer = Answer::Number(n);
-    Answered { state: q, answer }
+    drawn(p, limits::decide_measure(h, v, entry_of(p)))
 }
 
 pub fn rule(p: State, a: i32, c: i32, b: i32, f: i32) -> Answered
     ensures { λ r. ⌜ Meets (rule a c b f) p r ⌝ }
 {
     let h = p.head;
-    let lower = exact::number(a);
-    let upper = exact::number(b);
-    let k = limits::rule_refusal(h, lower, c, upper, f);
-    if k != 0 {
-        return state::refuse(p, k);
-    }
-    let firm = exact::number(f) == 1;
-    let i = rows::capped(h.rules, 63);
-    let n = i as u32 + 1;
-    let head = limits::with_rules(h, n);
-    let mut q = p;
-    q.lower[i] = lower;
-    q.gap[i] = c;
-    q.upper[i] = upper;
-    q.firm[i] = firm;
-    q.head = head;
-    let answer = Answer::Number(n);
-    Answered { state: q, answer }
+    drawn(p, limits::decide_rule(h, a, c, b, f, entry_of(p)))
 }
 
 // The call open.
@@ -52,33 +74,7 @@ pub fn open_plan(p: State) -> Answered
     ensures { λ r. ⌜ Meets open-plan p r ⌝ }
 {
     let h = p.head;
-    let mode = h.mode;
-    if heads::mode_number(mode) != 0 {
-        return state::refuse(p, 31);
-    }
-    if h.measures == 0 {
-        return state::refuse(p, 16);
-    }
-    // All rules are tested, so no links are needed.
-    let links = [0; 161];
-    if !rules::rules_hold(
-        &p.lower,
-        &p.gap,
-        &p.upper,
-        h.rules,
-        &links,
-        &p.values,
-        0,
-        h.measures,
-        0,
-        0,
-        false,
-    ) {
-        return state::refuse(p, 17);
-    }
-    let head = limits::with_open(h);
-    let mut q = p;
-    q.head = head;
-    let answer = Answer::Done;
-    Answered { state: q, answer }
+    let old = entry_of(p);
+    let d = limits::decide_open(h, &p.lower, &p.gap, &p.upper, &p.values, old);
+    drawn(p, d)
 }

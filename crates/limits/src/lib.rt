@@ -1,15 +1,45 @@
-// The checks of measure and rule, and the heads that the calls which draw a plan up leave. Read only.
+// What the calls that draw a plan up decide (measure, rule, open): their checks, and what they store. Read only, on what is lent to them.
 ghost use mathlib.Core.Path.{_≡_};
 ghost use mathlib.Core.Bool.{not, _&&_};
 ghost use lib.Dec.{eqb};
 ghost use Rattle.protocol.specs.Lists.{oneTo};
 ghost use Rattle.protocol.specs.Calls.{first, no15};
 ghost use Rattle.state.specs.Meets.{refusalOf};
-ghost use Rattle.limits.specs.Draw.{measureChecks, ruleChecks, measured, ruled, opened};
+ghost use Rattle.limits.specs.Draw.{measureChecks, ruleChecks, openChecks, measured, ruled, opened, refusedDrawing, measureDecision, ruleDecision, openDecision, drawDecision};
 use heads::Head;
 use heads::Mode;
+use state::Answer;
 
-pub fn measure_refusal(h: Head, v: i32) -> u32
+// A value and a rule, as they stand behind those that count.
+pub struct Entry {
+    pub value: i32,
+    pub lower: u32,
+    pub gap: i32,
+    pub upper: u32,
+    pub firm: bool,
+}
+
+// What a call that draws stores: the head, a value and a rule at the places behind those that count; and its answer.
+pub struct Drawing {
+    pub head: Head,
+    pub entry: Entry,
+    pub answer: Answer,
+}
+
+fn refused(h: Head, old: Entry, k: u32) -> Drawing
+    ensures { λ r. ⌜ r ≡ refusedDrawing h old k ⌝ }
+{
+    let answer = Answer::Refused(k);
+    Drawing {
+        head: h,
+        entry: old,
+        answer,
+    }
+}
+
+// ---- measure
+
+fn measure_refusal(h: Head, v: i32) -> u32
     ensures { λ r. ⌜ r ≡ refusalOf (first (measureChecks h v)) ⌝ }
 {
     let mode = h.mode;
@@ -25,13 +55,35 @@ pub fn measure_refusal(h: Head, v: i32) -> u32
     11
 }
 
-pub fn with_measures(h: Head, n: u32) -> Head
+fn with_measures(h: Head, n: u32) -> Head
     ensures { λ r. ⌜ r ≡ measured h n ⌝ }
 {
     let mut r = h;
     r.measures = n;
     r
 }
+
+// A measure of value v.
+pub fn decide_measure(h: Head, v: i32, old: Entry) -> Drawing
+    ensures { λ r. ⌜ r ≡ measureDecision h v old ⌝ }
+{
+    let k = measure_refusal(h, v);
+    if k != 0 {
+        return refused(h, old, k);
+    }
+    let n = rows::capped(h.measures, 31) as u32 + 1;
+    let head = with_measures(h, n);
+    let answer = Answer::Number(n);
+    let mut entry = old;
+    entry.value = v;
+    Drawing {
+        head,
+        entry,
+        answer,
+    }
+}
+
+// ---- rule
 
 // The rule's measures are two different ones of n.
 fn pair_in(n: usize, a: u32, b: u32) -> bool
@@ -59,7 +111,7 @@ fn limits_ok(c: i32, f: i32) -> bool
     }
 }
 
-pub fn rule_refusal(h: Head, a: u32, c: i32, b: u32, f: i32) -> u32
+fn rule_refusal(h: Head, a: u32, c: i32, b: u32, f: i32) -> u32
     ensures { λ r. ⌜ r ≡ refusalOf (first (ruleChecks h a c b f)) ⌝ }
 {
     let mode = h.mode;
@@ -78,7 +130,7 @@ pub fn rule_refusal(h: Head, a: u32, c: i32, b: u32, f: i32) -> u32
     15
 }
 
-pub fn with_rules(h: Head, n: u32) -> Head
+fn with_rules(h: Head, n: u32) -> Head
     ensures { λ r. ⌜ r ≡ ruled h n ⌝ }
 {
     let mut r = h;
@@ -86,10 +138,125 @@ pub fn with_rules(h: Head, n: u32) -> Head
     r
 }
 
-pub fn with_open(h: Head) -> Head
+// A rule that measure a plus c is less than measure b, firm if f is 1.
+pub fn decide_rule(h: Head, a: i32, c: i32, b: i32, f: i32, old: Entry) -> Drawing
+    ensures { λ r. ⌜ r ≡ ruleDecision h a c b f old ⌝ }
+{
+    let lower = exact::number(a);
+    let upper = exact::number(b);
+    let k = rule_refusal(h, lower, c, upper, f);
+    if k != 0 {
+        return refused(h, old, k);
+    }
+    let firm = exact::number(f) == 1;
+    let n = rows::capped(h.rules, 63) as u32 + 1;
+    let head = with_rules(h, n);
+    let answer = Answer::Number(n);
+    let value = old.value;
+    let entry = Entry {
+        value,
+        lower,
+        gap: c,
+        upper,
+        firm,
+    };
+    Drawing {
+        head,
+        entry,
+        answer,
+    }
+}
+
+// ---- open
+
+fn open_refusal<'a>(
+    h: Head,
+    lower: &'a [u32; 64],
+    gap: &'a [i32; 64],
+    upper: &'a [u32; 64],
+    values: &'a [i32],
+) -> u32
+    ensures { λ r. ⌜ r ≡ refusalOf (first (openChecks h (now (lower .entry)) (now (gap .entry)) (now (upper .entry)) (now (values .entry)))) ⌝ }
+{
+    let mode = h.mode;
+    if heads::mode_number(mode) != 0 {
+        return 31;
+    }
+    if h.measures == 0 {
+        return 16;
+    }
+    // All rules are tested, so no links are needed.
+    let links = [0; 161];
+    if rules::rules_hold(
+        lower,
+        gap,
+        upper,
+        h.rules,
+        &links,
+        values,
+        0,
+        h.measures,
+        0,
+        0,
+        false,
+    ) {
+        return 0;
+    }
+    17
+}
+
+fn with_open(h: Head) -> Head
     ensures { λ r. ⌜ r ≡ opened h ⌝ }
 {
     let mut r = heads::in_mode(h, Mode::Whole);
     r.next = 1;
     r
+}
+
+pub fn decide_open<'a>(
+    h: Head,
+    lower: &'a [u32; 64],
+    gap: &'a [i32; 64],
+    upper: &'a [u32; 64],
+    values: &'a [i32],
+    old: Entry,
+) -> Drawing
+    ensures { λ r. ⌜ r ≡ openDecision h (now (lower .entry)) (now (gap .entry)) (now (upper .entry)) (now (values .entry)) old ⌝ }
+{
+    let k = open_refusal(h, lower, gap, upper, values);
+    if k != 0 {
+        return refused(h, old, k);
+    }
+    let head = with_open(h);
+    let answer = Answer::Done;
+    Drawing {
+        head,
+        entry: old,
+        answer,
+    }
+}
+
+// measure, rule; another number is open's. By the call's number in the order of 01.
+pub fn decide_draw<'a>(
+    h: Head,
+    lower: &'a [u32; 64],
+    gap: &'a [i32; 64],
+    upper: &'a [u32; 64],
+    values: &'a [i32],
+    op: u32,
+    a: i32,
+    b: i32,
+    c: i32,
+    d: i32,
+    old: Entry,
+) -> Drawing
+    ensures { λ r. ⌜ r ≡ drawDecision op a b c d h (now (lower .entry)) (now (gap .entry)) (now (upper .entry)) (now (values .entry)) old ⌝ }
+{
+    if op == 1 {
+        return decide_measure(h, a, old);
+    }
+    if op == 2 {
+        return decide_rule(h, a, b, c, d, old);
+    }
+    decide_open(h, lower, gap, upper, values, old)
 }

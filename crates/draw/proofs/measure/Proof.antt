@@ -1,68 +1,37 @@
-use mathlib.Core.Path.{ap, _∙_}
+use mathlib.Core.Path.{sym, subst, _∙_}
 use mir.Facts.{toZ-ofZ}
-use Rattle.protocol.specs.Calls.{measure, first}
-use Rattle.state.specs.Meets.{refusalOf}
+use Rattle.protocol.specs.Calls.{measure}
+use Rattle.state.specs.Meets.{Meets}
 use Rattle.state.proofs.Views.{owned-sized}
-use Rattle.state.proofs.Steps.{Checked, refuses}
-use Rattle.limits.specs.Draw.{measureChecks}
-use Rattle.draw.proofs.Draws.{measure-checks, measure-accepts}
+use Rattle.limits.specs.Draw.{measureDecision, drawnIn}
+use Rattle.draw.proofs.Draws.{measure-decided}
 use borrow.Author.Needs.{needs}
 use Rattle.draw.proofs.measure.Statement.{statement}
 use Rattle.draw.proofs.measure.Tie as tie
 use Rattle.draw.proofs.measure.Reads as reads
 use Rattle.draw.proofs.measure.Lts as lts
-use Rattle.limits.proofs.measure_refusal.Reads as measure-refusal-reads
-use Rattle.limits.proofs.with_measures.Reads as with-measures-reads
-use Rattle.rows.proofs.capped.Reads as capped-reads
-use Rattle.state.proofs.refuse.Reads as refuse-reads
+use Rattle.draw.proofs.drawn.Reads as drawn-reads
+use Rattle.draw.proofs.entry_of.Reads as entry-of-reads
+use Rattle.limits.proofs.decide_measure.Reads as decide-measure-reads
 
--- what the check found, of the number that was handed on
-checked : (c : tie.After-measure-refusal) → let a = c .before .before .args in Checked (measure (a .v)) (a .p) (measureChecks (a .p .head) (a .v)) (c .measure-refusal .result)
-checked c = let s = c .before .before in record { same = measure-checks (s .args .p) (s .args .v); found = c .measure-refusal .ensures ∙ ap (λ v. refusalOf (first (measureChecks (s .args .p .head) v))) (toZ-ofZ (s .fits .v)) }
+entry-of-requires : tie.Need-entry-of-requires
+entry-of-requires c κs = search needs
 
-measure-refusal-requires : tie.Need-measure-refusal-requires
-measure-refusal-requires c κs = search needs
+decide-measure-requires : tie.Need-decide-measure-requires
+decide-measure-requires c κs = search needs
 
-refuse-requires : tie.Need-refuse-requires
-refuse-requires c κs = search needs
+drawn-requires : tie.Need-drawn-requires
+drawn-requires c κs = search needs
 
 returns : tie.Need-returns
-returns c = rw (c .refuse .ensures) (refuses (checked (c .before .before)) (c .before .if1 .taken))
-
-capped-requires : tie.Need-capped-requires
-capped-requires c κs = search needs
-
-cast-n : tie.Need-cast-n
-cast-n c = search needs
-
-add-n : tie.Need-add-n
-add-n c = search needs
-
-with-measures-requires : tie.Need-with-measures-requires
-with-measures-requires c κs = search needs
-
-mul-v : tie.Need-mul-v
-mul-v c = search needs
-
-element-set-from-v : tie.Need-element-set-from-v
-element-set-from-v c = search needs
-
-returns-2 : tie.Need-returns-2
-returns-2 c =
-    let s = c .before .before .before .before .before in
-    rw (c .with-measures .ensures, c .before .capped .ensures, toZ-ofZ (s .fits .v)) (measure-accepts (s .args .p) (owned-sized (s .args .p) (s .good .0)) (s .args .v) (checked (c .before .before .before)) (c .before .before .if1 .left))
+returns c =
+    let s = (c .before .before .before .before) in
+    let p = s .args .p in
+    let v = toZ-ofZ (s .fits .v) in
+    let old = (c .before .before .entry-of .ensures) in
+    let d = (c .before .decide-measure .ensures) ∙ (λ i. measureDecision (p .head) (v i) (old i)) in
+    subst (Meets (measure (s .args .v)) p) (sym ((c .drawn .ensures) ∙ (λ i. record { state = drawnIn p (d i); answer = d i .answer }))) (measure-decided p (owned-sized p (s .good .0)) (s .args .v))
 
 pub measure-spec : {M : Type 1} → statement M
 measure-spec =
-    tie.close
-    (tie.spec
-    measure-refusal-requires
-    refuse-requires
-    returns
-    capped-requires
-    cast-n
-    add-n
-    with-measures-requires
-    mul-v
-    element-set-from-v
-    returns-2)
+    tie.close (tie.spec entry-of-requires decide-measure-requires drawn-requires returns)
