@@ -8,8 +8,7 @@ use lib.Dec.{eqb}
 use lib.IntN.{ℤ}
 use Rattle.protocol.specs.Calls.{Call, measure, rule, open-plan, split-side, join, stop, confirm, install}
 use Rattle.records.specs.declared.EditRecord.{EditRecord}
-use Rattle.frames.specs.declared.Frame.{Frame}
-use Rattle.frames.specs.Frames.{Waiting, Unsent}
+use Rattle.frames.specs.Frames.{Frame, Waiting, Unsent}
 use Rattle.state.specs.declared.State.{State}
 use Rattle.state.specs.declared.Answered.{Answered}
 use Rattle.state.specs.Parts.{refusedAs}

@@ -8,15 +8,28 @@ use lib.Dec.{T}
 use Rattle.protocol.specs.Lists.{count, oneTo}
 use Rattle.protocol.specs.Plan.{isWaiting, unsentOf}
 use Rattle.protocol.specs.Calls.{Call}
+use Rattle.heads.specs.declared.Head.{Head}
 use Rattle.heads.specs.Heads.{sidesIn}
 use Rattle.records.specs.declared.EditRecord.{EditRecord}
 use Rattle.records.specs.Records.{keptOf}
 use Rattle.state.specs.declared.State.{State}
+use Rattle.state.specs.declared.Answer.{Answer}
 use Rattle.state.specs.declared.Answer.the-variants.{Refused}
-use Rattle.state.specs.declared.Answered.{Answered}
 use Rattle.state.specs.Meets.{Meets}
-use Rattle.frames.specs.declared.Frame.{Frame}
-use Rattle.frames.specs.declared.Moved.{Moved}
+use Rattle.frames.specs.declared.Told.{Told}
+
+pub record Frame : Type 0 where
+  pub head : Head
+  pub base : List ℤ
+  pub draft : List ℤ
+  pub values : List ℤ
+  pub arrived : List Bool
+  pub confirmed : List Bool
+
+-- what a call makes of a frame, and its answer
+pub record Moved : Type 0 where
+  pub frame : Frame
+  pub answer : Answer
 
 abbrev pub frameOf : State → Frame
 frameOf p = record { head = p .head; base = p .base; draft = p .draft; values = p .values; arrived = p .arrived; confirmed = p .confirmed }
@@ -38,11 +51,22 @@ around f lower gap upper firm edits =
       edits = edits;
     }
 
-abbrev pub placedIn : State → Moved → Answered
-placedIn p m = record { state = around (m .frame) (p .lower) (p .gap) (p .upper) (p .firm) (p .edits); answer = m .answer }
+-- ---- a frame lent part by part
 
-abbrev pub refusedIn : Frame → ℕ → Moved
-refusedIn f k = record { frame = f; answer = Refused k }
+-- from a head, base, draft, values, and the sides whose first log arrived and who confirmed
+abbrev pub frameFrom : Head → List ℤ → List ℤ → List ℤ → List Bool → List Bool → Frame
+frameFrom h base draft values arrived confirmed = record { head = h; base = base; draft = draft; values = values; arrived = arrived; confirmed = confirmed }
+
+abbrev pub movedTo : Told → List ℤ → List ℤ → List ℤ → List Bool → List Bool → Moved
+movedTo t base draft values arrived confirmed = record { frame = frameFrom (t .head) base draft values arrived confirmed; answer = t .answer }
+
+abbrev pub toldAs : Head → Answer → Told
+toldAs h a = record { head = h; answer = a }
+
+abbrev pub deniedAs : Head → ℕ → Told
+deniedAs h k = record { head = h; answer = Refused k }
+
+-- ---- what a call on a frame promises
 
 -- What is known of the kept edits: nothing, how many wait, or how many a side, if it is one, has unsent.
 abbrev pub Anything : List EditRecord → Type 0

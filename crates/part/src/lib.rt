@@ -1,12 +1,19 @@
 // The calls that part a plan into sides and begin to join it: split, join (01, "The calls").
-// Each is made on the frame of a state; a caller that owns a state does so without its kept edits.
+// Each stores into the arrays that it is lent; a caller that owns a state lends its own.
 ghost use mathlib.Core.Path.{_≡_};
+ghost use mathlib.Core.List.{List};
+ghost use Prim.Native.Nat.{_≤_};
+ghost use lib.Dec.{T};
+ghost use lib.IntN.{ℤ};
+ghost use lib.ListN.{length};
+ghost use Rattle.protocol.specs.Plan.{whole, is};
 ghost use Rattle.protocol.specs.Calls.{split-side, join, first};
+ghost use Rattle.heads.specs.Heads.{modeOf};
 ghost use Rattle.state.specs.Meets.{Meets, refusalOf};
-ghost use Rattle.frames.specs.Frames.{Anything, Moves};
+ghost use Rattle.frames.specs.Frames.{frameFrom, movedTo, Anything, Moves};
+ghost use Rattle.rows.specs.Rows.{copiedIn};
 ghost use Rattle.part.specs.Parting.{splitChecks, splitHead, joinHead, splitBase};
-use frames::Frame;
-use frames::Moved;
+use frames::Told;
 use heads::Head;
 use heads::Mode;
 use state::Answer;
@@ -59,87 +66,115 @@ fn join_head(h: Head) -> Head
     r
 }
 
+// ---- rows: the contracts say how many values are lent, which a caller does not know otherwise
+
 // The first split of a whole plan makes side 1's row the base.
-fn split_base(h: Head, base: [i32; 32], values: &[i32; 256]) -> [i32; 32]
-    ensures { λ r. ⌜ r ≡ splitBase h base (now (values .entry)) ⌝ }
+fn split_base(h: Head, base: &mut [i32; 32], values: &[i32; 256])
+    ensures { λ r. ⌜ (now (base .exit) ≡ splitBase h (now (base .entry)) (now (values .entry))) × (T (is whole (modeOf (h .mode))) → length (now (base .entry)) ≡ 32) ⌝ }
 {
     let m = h.mode;
     if heads::mode_number(m) == 1 {
-        let mut row = base;
-        rows::copy(&mut row, values, 0, 0, 32);
-        return row;
+        rows::copy(base, values, 0, 0, 32);
     }
-    base
 }
 
-// ---- the calls, on a frame and on a state
-
-pub fn split_frame(f: Frame, s: i32) -> Moved
-    ensures { λ r. ⌜ Moves (split-side s) f Anything r ⌝ }
+// One side's row becomes another's.
+fn copy_row(values: &mut [i32; 256], from: usize, to: usize)
+    requires { ⌜ from ≤ 224 ⌝ }
+    ensures { λ r. ⌜ (now (values .exit) ≡ copiedIn (now (values .entry)) (now (values .entry)) from to 32) × (length (now (values .entry)) ≡ 256) ⌝ }
 {
-    let h = f.head;
+    let mut row = [0i32; 32];
+    rows::copy(&mut row, values, from, 0, 32);
+    rows::copy(values, &row, 0, to, 32);
+}
+
+// ---- the calls, on what is lent of a state and on a state
+
+pub fn split_in(
+    h: Head,
+    base: &mut [i32; 32],
+    values: &mut [i32; 256],
+    arrived: &mut [bool; 8],
+    confirmed: &mut [bool; 8],
+    s: i32,
+) -> Told
+    ensures { λ r. ⌜ ((draft : List ℤ) → Moves (split-side s) (frameFrom h (now (base .entry)) draft (now (values .entry)) (now (arrived .entry)) (now (confirmed .entry))) Anything (movedTo r (now (base .exit)) draft (now (values .exit)) (now (arrived .exit)) (now (confirmed .exit)))) ⌝ }
+{
     let from = exact::number(s);
     let k = split_refusal(h, from);
     if k != 0 {
-        return frames::refuse(f, k);
+        return frames::deny(h, k);
     }
-    let n = heads::side_count(h);
-    let to = n as u32 + 1;
-    let head = split_head(h);
-    let old = f.base;
-    let base = split_base(h, old, &f.values);
-    let mut rows = f.values;
-    rows::copy(
-        &mut rows,
-        &f.values,
-        heads::offset(from),
-        heads::offset(to),
-        32,
-    );
+    let to = heads::side_count(h) as u32 + 1;
+    split_base(h, base, values);
+    copy_row(values, heads::offset(from), heads::offset(to));
     let i = heads::index(to);
-    let mut g = f;
-    g.head = head;
-    g.base = base;
-    g.values = rows;
-    g.arrived[i] = false;
-    g.confirmed[i] = false;
+    frames::put_flag(arrived, i, false);
+    frames::put_flag(confirmed, i, false);
     let answer = Answer::Number(to);
-    Moved { frame: g, answer }
+    frames::tell(split_head(h), answer)
 }
 
-pub fn join_frame(f: Frame) -> Moved
-    ensures { λ r. ⌜ Moves join f Anything r ⌝ }
+pub fn join_in(
+    h: Head,
+    base: &[i32; 32],
+    draft: &mut [i32; 32],
+    arrived: &mut [bool; 8],
+    confirmed: &mut [bool; 8],
+) -> Told
+    ensures { λ r. ⌜ ((values : List ℤ) → Moves join (frameFrom h (now (base .entry)) (now (draft .entry)) values (now (arrived .entry)) (now (confirmed .entry))) Anything (movedTo r (now (base .entry)) (now (draft .exit)) values (now (arrived .exit)) (now (confirmed .exit)))) ⌝ }
 {
-    let h = f.head;
     let mode = h.mode;
     if heads::mode_number(mode) != 2 {
-        return frames::refuse(f, 31);
+        return frames::deny(h, 31);
     }
-    let head = join_head(h);
-    let draft = f.base;
-    let arrived = [false; 8];
-    let confirmed = [false; 8];
-    let mut g = f;
-    g.head = head;
-    g.draft = draft;
-    g.arrived = arrived;
-    g.confirmed = confirmed;
+    *draft = *base;
+    *arrived = [false; 8];
+    *confirmed = [false; 8];
     let answer = Answer::Done;
-    Moved { frame: g, answer }
+    frames::tell(join_head(h), answer)
 }
 
 pub fn split(p: State, s: i32) -> Answered
     ensures { λ r. ⌜ Meets (split-side s) p r ⌝ }
 {
-    let f = frames::frame_of(p);
-    let m = split_frame(f, s);
-    frames::placed(p, m)
+    let mut base = p.base;
+    let mut values = p.values;
+    let mut arrived = p.arrived;
+    let mut confirmed = p.confirmed;
+    let t = split_in(
+        p.head,
+        &mut base,
+        &mut values,
+        &mut arrived,
+        &mut confirmed,
+        s,
+    );
+    let head = t.head;
+    let answer = t.answer;
+    let mut q = p;
+    q.head = head;
+    q.base = base;
+    q.values = values;
+    q.arrived = arrived;
+    q.confirmed = confirmed;
+    Answered { state: q, answer }
 }
 
 pub fn join(p: State) -> Answered
     ensures { λ r. ⌜ Meets join p r ⌝ }
 {
-    let f = frames::frame_of(p);
-    let m = join_frame(f);
-    frames::placed(p, m)
+    let base = p.base;
+    let mut draft = p.draft;
+    let mut arrived = p.arrived;
+    let mut confirmed = p.confirmed;
+    let t = join_in(p.head, &base, &mut draft, &mut arrived, &mut confirmed);
+    let head = t.head;
+    let answer = t.answer;
+    let mut q = p;
+    q.head = head;
+    q.draft = draft;
+    q.arrived = arrived;
+    q.confirmed = confirmed;
+    Answered { state: q, answer }
 }

@@ -1,72 +1,70 @@
 // The calls of a join under way, but for replay: send, stop, confirm, install (01, "The calls").
-// stop, confirm and install are made on the frame of a state, with the counts of kept edits that they ask for. A caller that owns a state
-// does so with counts of its own.
+// stop, confirm and install store into the arrays that they are lent, from the counts of kept edits that they ask for; a caller that owns a
+// state lends its own, with counts of its own.
+ghost use mathlib.Core.List.{List};
+ghost use mathlib.Core.Bool.{Bool};
+ghost use lib.IntN.{ℤ};
 ghost use Rattle.protocol.specs.Lists.{natural};
 ghost use Rattle.protocol.specs.Calls.{send, stop, confirm, install};
 ghost use Rattle.state.specs.Meets.{Meets};
-ghost use Rattle.frames.specs.Frames.{Waiting, Unsent, Moves};
-use frames::Frame;
-use frames::Moved;
+ghost use Rattle.frames.specs.Frames.{frameFrom, movedTo, Waiting, Unsent, Moves};
+use frames::Told;
+use heads::Head;
 use heads::Mode;
 use records::Test;
 use state::Answer;
 use state::Answered;
 use state::State;
 
-// ---- the calls on a part of a state
+// ---- the calls, on what is lent of a state
 
-pub fn stop_frame(f: Frame, waiting: u32) -> Moved
-    ensures { λ r. ⌜ Moves stop f (Waiting f waiting) r ⌝ }
+pub fn stop_in(h: Head, arrived: &[bool; 8], waiting: u32) -> Told
+    ensures { λ r. ⌜ ((base draft values : List ℤ) (confirmed : List Bool) → Moves stop (frameFrom h base draft values (now (arrived .entry)) confirmed) (Waiting (frameFrom h base draft values (now (arrived .entry)) confirmed) waiting) (movedTo r base draft values (now (arrived .entry)) confirmed)) ⌝ }
 {
-    let h = f.head;
-    let missing = heads::unset(&f.arrived, h);
+    let missing = heads::unset(arrived, h);
     let k = turns::stop_refusal(h, missing, waiting);
     if k != 0 {
-        return frames::refuse(f, k);
+        return frames::deny(h, k);
     }
-    let head = heads::in_mode(h, Mode::Closing);
-    let mut g = f;
-    g.head = head;
     let answer = Answer::Done;
-    Moved { frame: g, answer }
+    frames::tell(heads::in_mode(h, Mode::Closing), answer)
 }
 
-pub fn confirm_frame(f: Frame, s: i32, unsent: u32) -> Moved
-    ensures { λ r. ⌜ Moves (confirm s) f (Unsent f (natural s) unsent) r ⌝ }
+pub fn confirm_in(h: Head, confirmed: &mut [bool; 8], s: i32, unsent: u32) -> Told
+    ensures { λ r. ⌜ ((base draft values : List ℤ) (arrived : List Bool) → Moves (confirm s) (frameFrom h base draft values arrived (now (confirmed .entry))) (Unsent (frameFrom h base draft values arrived (now (confirmed .entry))) (natural s) unsent) (movedTo r base draft values arrived (now (confirmed .exit)))) ⌝ }
 {
-    let h = f.head;
     let side = exact::number(s);
     let i = heads::index(side);
-    let confirmed = f.confirmed[i];
-    let k = turns::confirm_refusal(h, side, confirmed, unsent);
+    let flag = confirmed[i];
+    let k = turns::confirm_refusal(h, side, flag, unsent);
     if k != 0 {
-        return frames::refuse(f, k);
+        return frames::deny(h, k);
     }
-    let mut g = f;
-    g.confirmed[i] = true;
+    frames::put_flag(confirmed, i, true);
     let answer = Answer::Done;
-    Moved { frame: g, answer }
+    frames::tell(h, answer)
 }
 
-pub fn install_frame(f: Frame, waiting: u32) -> Moved
-    ensures { λ r. ⌜ Moves install f (Waiting f waiting) r ⌝ }
+pub fn install_in(
+    h: Head,
+    draft: &[i32; 32],
+    values: &mut [i32; 256],
+    arrived: &mut [bool; 8],
+    confirmed: &mut [bool; 8],
+    waiting: u32,
+) -> Told
+    ensures { λ r. ⌜ ((base : List ℤ) → Moves install (frameFrom h base (now (draft .entry)) (now (values .entry)) (now (arrived .entry)) (now (confirmed .entry))) (Waiting (frameFrom h base (now (draft .entry)) (now (values .entry)) (now (arrived .entry)) (now (confirmed .entry))) waiting) (movedTo r base (now (draft .entry)) (now (values .exit)) (now (arrived .exit)) (now (confirmed .exit)))) ⌝ }
 {
-    let h = f.head;
-    let missing = heads::unset(&f.confirmed, h);
+    let missing = heads::unset(confirmed, h);
     let k = turns::install_refusal(h, missing, waiting);
     if k != 0 {
-        return frames::refuse(f, k);
+        return frames::deny(h, k);
     }
-    let head = turns::install_head(h);
-    let mut rows = f.values;
-    rows::copy(&mut rows, &f.draft, 0, 0, 32);
-    let mut g = f;
-    g.head = head;
-    g.values = rows;
-    g.arrived[0] = false;
-    g.confirmed[0] = false;
+    rows::copy(values, draft, 0, 0, 32);
+    frames::put_flag(arrived, 0, false);
+    frames::put_flag(confirmed, 0, false);
     let answer = Answer::Done;
-    Moved { frame: g, answer }
+    frames::tell(turns::install_head(h), answer)
 }
 
 // ---- the calls on a state
@@ -94,8 +92,13 @@ pub fn stop(p: State) -> Answered
 {
     let edits = p.edits;
     let waiting = records::count(edits, p.head, Test::Waiting);
-    let m = stop_frame(frames::frame_of(p), waiting);
-    frames::placed(p, m)
+    let arrived = p.arrived;
+    let t = stop_in(p.head, &arrived, waiting);
+    let head = t.head;
+    let answer = t.answer;
+    let mut q = p;
+    q.head = head;
+    Answered { state: q, answer }
 }
 
 pub fn confirm(p: State, s: i32) -> Answered
@@ -103,8 +106,14 @@ pub fn confirm(p: State, s: i32) -> Answered
 {
     let edits = p.edits;
     let n = records::count(edits, p.head, Test::UnsentOf(exact::number(s)));
-    let m = confirm_frame(frames::frame_of(p), s, n);
-    frames::placed(p, m)
+    let mut confirmed = p.confirmed;
+    let t = confirm_in(p.head, &mut confirmed, s, n);
+    let head = t.head;
+    let answer = t.answer;
+    let mut q = p;
+    q.head = head;
+    q.confirmed = confirmed;
+    Answered { state: q, answer }
 }
 
 pub fn install(p: State) -> Answered
@@ -112,6 +121,24 @@ pub fn install(p: State) -> Answered
 {
     let edits = p.edits;
     let waiting = records::count(edits, p.head, Test::Waiting);
-    let m = install_frame(frames::frame_of(p), waiting);
-    frames::placed(p, m)
+    let draft = p.draft;
+    let mut values = p.values;
+    let mut arrived = p.arrived;
+    let mut confirmed = p.confirmed;
+    let t = install_in(
+        p.head,
+        &draft,
+        &mut values,
+        &mut arrived,
+        &mut confirmed,
+        waiting,
+    );
+    let head = t.head;
+    let answer = t.answer;
+    let mut q = p;
+    q.head = head;
+    q.values = values;
+    q.arrived = arrived;
+    q.confirmed = confirmed;
+    Answered { state: q, answer }
 }
