@@ -1,28 +1,9 @@
-// Calls chosen by their number in the order of 01: those that draw up a plan, made by value, and those that part it and join it again,
-// made on what is lent of it.
+// The calls that part a plan and join it again, chosen by their number in the order of 01 and made on what is lent of it.
 ghost use Rattle.protocol.specs.Lists.{natural};
 ghost use Rattle.frames.specs.Frames.{frameFrom, movedTo, Moves};
-ghost use Rattle.dispatch.specs.Rare.{drawCall, moveCall, Performs, Counts};
+ghost use Rattle.dispatch.specs.Rare.{moveCall, Counts};
 use frames::Told;
 use heads::Head;
-use state::Answered;
-use state::State;
-
-// measure, rule, open; another number is refused as 51.
-pub fn draw_up(p: State, op: u32, a: i32, b: i32, c: i32, d: i32) -> Answered
-    ensures { λ r. ⌜ Performs (drawCall op a b c d) p r ⌝ }
-{
-    if op == 1 {
-        return draw::measure(p, a);
-    }
-    if op == 2 {
-        return draw::rule(p, a, b, c, d);
-    }
-    if op == 3 {
-        return draw::open_plan(p);
-    }
-    state::refuse(p, 51)
-}
 
 // split, join, stop, confirm; another number is install's. From how many edits the side has unsent and how many wait.
 pub fn make_move(

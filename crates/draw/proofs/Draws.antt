@@ -6,7 +6,7 @@ use mathlib.Core.Path.{_≡_, refl, sym, ap, ap₂, subst, _∙_}
 use mathlib.Core.Logic.{_≢_}
 use mathlib.Core.List.{List, [], _∷_}
 use lib.IntN.{ℤ, pos}
-use lib.Dec.{T, T-not, eqb, ltb, eqb→eq, ltb→lt}
+use lib.Dec.{T, eqb, ltb, eqb→eq, ltb→lt}
 use lib.ListN.{length, getD, set, length-set}
 use lib.Seq.{set-getD}
 use Rattle.protocol.specs.Lists.{natural, snoc}
@@ -27,7 +27,7 @@ use Rattle.state.specs.Meets.{answerOf, SameIfRefused, Meets}
 use Rattle.state.proofs.Meeting.{refused-meets, accepted-meets, fine-pass}
 use Rattle.state.proofs.Steps.{stored}
 use Rattle.limits.specs.declared.Drawing.{Drawing}
-use Rattle.limits.specs.Draw.{measureChecks, ruleChecks, openChecks, measured, ruled, opened, refusedDrawing, drawBy, measureDrawing, measureDecision, ruleDrawing, ruleDecision, openDrawing, openDecision, drawDecision, entryOf, drawnIn}
+use Rattle.limits.specs.Draw.{drawCall, measureChecks, ruleChecks, openChecks, measured, ruled, opened, refusedDrawing, drawBy, measureDrawing, measureDecision, ruleDrawing, ruleDecision, openDrawing, openDecision, drawDecision, entryOf, drawnIn}
 
 drawn-length : (p : State) → length (firstValues (view p .content)) ≡ measuresIn (p .head)
 drawn-length p = ap length (first-row p) ∙ row-length (p .values) 0 (measuresIn (p .head))
@@ -108,7 +108,7 @@ measure-decided p z v =
 
 -- ---- rule
 
-rules-length : (p : State) → length (rulesOf p) ≡ min (p .head .rules) 64
+pub rules-length : (p : State) → length (rulesOf p) ≡ min (p .head .rules) 64
 rules-length p = length-span 0 (min (p .head .rules) 64) _
 
 rule-checks : (p : State) (a c b f : ℤ) → first (checks (rule a c b f) (view p)) ≡ first (ruleChecks (p .head) (natural a) c (natural b) f)
@@ -225,7 +225,7 @@ chosen x y a b c d p =
     cond x (measureDecision (p .head) a (entryOf p)) (cond y (ruleDecision (p .head) a b c d (entryOf p)) (openDecision (p .head) (p .lower) (p .gap) (p .upper) (p .values) (entryOf p)))
 
 pub draw-decided : (op : ℕ) (a b c d : ℤ) (p : State) → Sized p → let x = drawDecision op a b c d (p .head) (p .lower) (p .gap) (p .upper) (p .values) (entryOf p) in
-    Meets (cond (eqb op 1) (measure a) (cond (eqb op 2) (rule a b c d) open-plan)) p (record { state = drawnIn p x; answer = x .answer })
+    Meets (drawCall op a b c d) p (record { state = drawnIn p x; answer = x .answer })
 draw-decided op a b c d p z = by (eqb op 1) (eqb op 2)
   where
     by : (x y : Bool) → let r = chosen x y a b c d p in Meets (cond x (measure a) (cond y (rule a b c d) open-plan)) p (record { state = drawnIn p r; answer = r .answer })
@@ -247,44 +247,3 @@ drawn-sized p d z =
       firm = length-set (p .firm) _ _ ∙ z .firm;
       edits = z .edits;
     }
-
--- a plan that is not blank is left as it is
-pub draw-refused : (op : ℕ) (a b c d : ℤ) (p : State) → is blank (modeOf (p .head .mode)) ≡ false → drawnIn p (drawDecision op a b c d (p .head) (p .lower) (p .gap) (p .upper) (p .values) (entryOf p)) ≡ p
-draw-refused op a b c d p e = ap (drawnIn p) (by (eqb op 1) (eqb op 2)) ∙ entry-same p (p .head)
-  where
-    by : (x y : Bool) → chosen x y a b c d p ≡ refusedDrawing (p .head) (entryOf p) 31
-    by true y = rw e
-    by false true = rw e
-    by false false = rw e
-
-abbrev RulesKept : State → Drawing → Type 0
-RulesKept p d = (d .head .rules ≡ p .head .rules) × (drawnIn p d .lower ≡ p .lower) × (drawnIn p d .upper ≡ p .upper)
-
--- a plan that is not blank after the call has the rules that it had
-pub rules-kept : (op : ℕ) (a b c d : ℤ) (p : State) → let x = drawDecision op a b c d (p .head) (p .lower) (p .gap) (p .upper) (p .values) (entryOf p) in
-    is blank (modeOf (x .head .mode)) ≡ false → (x .head .rules ≡ p .head .rules) × (drawnIn p x .lower ≡ p .lower) × (drawnIn p x .upper ≡ p .upper)
-rules-kept op a b c d p = by (eqb op 1) (eqb op 2)
-  where
-    asked : List Check
-    asked = ruleChecks (p .head) (natural a) b (natural c) d
-
-    stands : (set (p .lower) (min (p .head .rules) 63) (entryOf p .lower) ≡ p .lower) × (set (p .upper) (min (p .head .rules) 63) (entryOf p .upper) ≡ p .upper)
-    stands = (set-getD (p .lower) _ 0, set-getD (p .upper) _ 0)
-
-    measure-by : (v : Verdict) → RulesKept p (drawBy v (measureOf p a) (p .head) (entryOf p))
-    measure-by fine = (refl, stands .0, stands .1)
-    measure-by (refused k) = (refl, stands .0, stands .1)
-
-    -- an accepted rule leaves a blank plan
-    rule-by : (v : Verdict) → first asked ≡ v → let x = drawBy v (ruleIn p a b c d) (p .head) (entryOf p) in is blank (modeOf (x .head .mode)) ≡ false → RulesKept p x
-    rule-by fine f e = absurd (T-not (is blank (modeOf (p .head .mode))) (rw e tt) (fine-pass asked f .0))
-    rule-by (refused k) f e = (refl, stands .0, stands .1)
-
-    open-by : (v : Verdict) → RulesKept p (drawBy v (openDrawing (p .head) (entryOf p)) (p .head) (entryOf p))
-    open-by fine = (refl, stands .0, stands .1)
-    open-by (refused k) = (refl, stands .0, stands .1)
-
-    by : (x y : Bool) → is blank (modeOf (chosen x y a b c d p .head .mode)) ≡ false → RulesKept p (chosen x y a b c d p)
-    by true y e = measure-by (first (measureChecks (p .head) a))
-    by false true e = rule-by (first asked) refl e
-    by false false e = open-by (first (openChecks (p .head) (p .lower) (p .gap) (p .upper) (p .values)))

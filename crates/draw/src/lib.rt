@@ -14,20 +14,7 @@ fn entry_of(p: State) -> Entry
     ensures { λ r. ⌜ r ≡ entryOf p ⌝ }
 {
     let h = p.head;
-    let i = rows::capped(h.measures, 31);
-    let j = rows::capped(h.rules, 63);
-    let value = p.values[i];
-    let lower = p.lower[j];
-    let gap = p.gap[j];
-    let upper = p.upper[j];
-    let firm = p.firm[j];
-    Entry {
-        value,
-        lower,
-        gap,
-        upper,
-        firm,
-    }
+    limits::entry_at(h, &p.lower, &p.gap, &p.upper, &p.firm, &p.values)
 }
 
 // A drawing carried out.

@@ -26,7 +26,7 @@ use Rattle.records.specs.declared.EditRecord.{EditRecord}
 use Rattle.records.specs.declared.Fate.the-variants.{Unsent}
 use Rattle.heads.specs.declared.Head.{Head}
 use Rattle.state.specs.declared.State.{State}
-use Rattle.heads.specs.Heads.{modeOf, single, sidesIn, offsetOf, measuresIn, keptIn, endIn, seatOf}
+use Rattle.heads.specs.Heads.{modeOf, single, sidesIn, offsetOf, measuresIn, keptIn, endIn, placeOf, namedAt}
 use Rattle.records.specs.Records.{keptAt, logOf, keptOf, noRecord}
 use Rattle.state.specs.View.{view, sideOf, rulesOf}
 use Rattle.state.specs.Parts.{namedIn}
@@ -81,13 +81,14 @@ decision-same test test′ p s client n m kind k h =
     (checks-found (modeOf (p .head .mode)) (sidesIn (p .head)) (rulesOf p) (keptAt 0 (namedIn p (natural n))) (keptIn (p .head)) (p .head .next) vs (natural s) client n (natural m) ch _ _ h)
 
 -- the decision that the code makes, with the rules' own links, is the one in the state
-pub edit-decided : (sound : Bool) (p : State) (s client n m kind k : ℤ) {seat : ℕ} {links : List ℕ} {d : Decision}
-    → seat ≡ seatOf (p .head) n
-    → d ≡ editFrom (testedBy sound links) (p .head) (p .lower) (p .gap) (p .upper) (p .firm) (p .values) (getD (p .edits) seat noRecord) s client n m kind k
+pub edit-decided : (sound : Bool) (p : State) (s client n m kind k : ℤ) {i seat : ℕ} {links : List ℕ} {d : Decision}
+    → i ≡ namedAt (p .head) n → seat ≡ placeOf i
+    → d ≡ editFrom (testedBy sound links) (p .head) (p .lower) (p .gap) (p .upper) (p .firm) (p .values) i (getD (p .edits) seat noRecord) s client n m kind k
     → LinkedIf sound links (p .lower) (p .upper) (min (p .head .rules) 64)
     → d ≡ editIn sound p s client n m kind k
-edit-decided sound p s client n m kind k {links = links} seat-is d-is linked =
-    d-is ∙ ap (λ j. editFrom (testedBy sound links) (p .head) (p .lower) (p .gap) (p .upper) (p .firm) (p .values) (getD (p .edits) j noRecord) s client n m kind k) seat-is
+edit-decided sound p s client n m kind k {links = links} i-is seat-is d-is linked =
+    let seat = seat-is ∙ ap placeOf i-is in
+    d-is ∙ (λ j. editFrom (testedBy sound links) (p .head) (p .lower) (p .gap) (p .upper) (p .firm) (p .values) (i-is j) (getD (p .edits) (seat j) noRecord) s client n m kind k)
     ∙ decision-same (testedBy sound links) (testedIn sound) p s client n m kind k (λ d o. tested-linked sound links (natural m) (p .lower) (p .gap) (p .upper) _ _ linked)
 
 -- where all rules held on the side's row, it is enough to test those that name the measure

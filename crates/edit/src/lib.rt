@@ -9,7 +9,8 @@ pub fn edit(p: State, s: i32, client: i32, after: i32, m: i32, kind: i32, consta
     ensures { λ r. ⌜ Meets (edit s client after m kind constant) p r ⌝ }
 {
     let h = p.head;
-    let seat = heads::seat(h, after);
+    let named = heads::named(h, after);
+    let seat = heads::place(named);
     let seen = p.edits[seat];
     let spot = ruling::spot(s, m);
     let slot = rows::capped(h.kept, 255);
@@ -22,6 +23,7 @@ pub fn edit(p: State, s: i32, client: i32, after: i32, m: i32, kind: i32, consta
         &p.firm,
         &links,
         &p.values,
+        named,
         seen,
         s,
         client,

@@ -4,7 +4,7 @@ ghost use mathlib.Core.Bool.{not};
 ghost use Prim.Native.Nat.{_≤_, _<_};
 ghost use Rattle.protocol.specs.Lists.{bit};
 ghost use Rattle.protocol.specs.Plan.{modeNumber, active};
-ghost use Rattle.heads.specs.Heads.{modeOf, inMode, sidesIn, offsetOf, indexOf, endIn, keptIn, positionOf, placeOf, namedAt, seatOf, unsetIn};
+ghost use Rattle.heads.specs.Heads.{modeOf, inMode, sidesIn, offsetOf, indexOf, endIn, keptIn, positionOf, placeOf, namedAt, unsetIn};
 
 // 01's modes.
 pub enum Mode {
@@ -145,13 +145,6 @@ pub fn named(h: Head, n: i32) -> usize
     ensures { λ r. ⌜ (r ≡ namedAt h n) × (r ≤ 256) ⌝ }
 {
     position(h, exact::number(n))
-}
-
-// Where it stands.
-pub fn seat(h: Head, n: i32) -> usize
-    ensures { λ r. ⌜ (r ≡ seatOf h n) × (r < 256) ⌝ }
-{
-    place(named(h, n))
 }
 
 // How many sides have a flag that is not set.

@@ -5,7 +5,7 @@ ghost use lib.Dec.{eqb};
 ghost use Rattle.protocol.specs.Lists.{oneTo};
 ghost use Rattle.protocol.specs.Calls.{first, no15};
 ghost use Rattle.state.specs.Meets.{refusalOf};
-ghost use Rattle.limits.specs.Draw.{measureChecks, ruleChecks, openChecks, measured, ruled, opened, refusedDrawing, measureDecision, ruleDecision, openDecision, drawDecision};
+ghost use Rattle.limits.specs.Draw.{measureChecks, ruleChecks, openChecks, measured, ruled, opened, refusedDrawing, measureDecision, ruleDecision, openDecision, drawDecision, entryAt};
 use heads::Head;
 use heads::Mode;
 use state::Answer;
@@ -237,7 +237,7 @@ pub fn decide_open<'a>(
 }
 
 // measure, rule; another number is open's. By the call's number in the order of 01.
-pub fn decide_draw<'a>(
+fn decided<'a>(
     h: Head,
     lower: &'a [u32; 64],
     gap: &'a [i32; 64],
@@ -259,4 +259,46 @@ pub fn decide_draw<'a>(
         return decide_rule(h, a, b, c, d, old);
     }
     decide_open(h, lower, gap, upper, values, old)
+}
+
+// The value and the rule behind those that count.
+pub fn entry_at<'a>(
+    h: Head,
+    lower: &'a [u32; 64],
+    gap: &'a [i32; 64],
+    upper: &'a [u32; 64],
+    firm: &'a [bool; 64],
+    values: &'a [i32; 256],
+) -> Entry
+    ensures { λ r. ⌜ r ≡ entryAt h (now (lower .entry)) (now (gap .entry)) (now (upper .entry)) (now (firm .entry)) (now (values .entry)) ⌝ }
+{
+    let i = rows::capped(h.measures, 31);
+    let k = rows::capped(h.rules, 63);
+    Entry {
+        value: values[i],
+        lower: lower[k],
+        gap: gap[k],
+        upper: upper[k],
+        firm: firm[k],
+    }
+}
+
+// What a call that draws stores, by the call's number in the order of 01.
+pub fn decide_draw<'a>(
+    h: Head,
+    lower: &'a [u32; 64],
+    gap: &'a [i32; 64],
+    upper: &'a [u32; 64],
+    firm: &'a [bool; 64],
+    values: &'a [i32; 256],
+    op: u32,
+    a: i32,
+    b: i32,
+    c: i32,
+    d: i32,
+) -> Drawing
+    ensures { λ r. ⌜ r ≡ drawDecision op a b c d h (now (lower .entry)) (now (gap .entry)) (now (upper .entry)) (now (values .entry)) (entryAt h (now (lower .entry)) (now (gap .entry)) (now (upper .entry)) (now (firm .entry)) (now (values .entry))) ⌝ }
+{
+    let old = entry_at(h, lower, gap, upper, firm, values);
+    decided(h, lower, gap, upper, values, op, a, b, c, d, old)
 }

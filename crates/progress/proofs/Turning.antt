@@ -49,7 +49,8 @@ use Rattle.turns.specs.declared.Sending.{Sending}
 use Rattle.turns.specs.Moves.{sendDecision, Marked}
 use Rattle.turns.proofs.Sends.{marked-begin, marked-next, marked-passed, sent-other}
 use Rattle.reconcile.proofs.Moves.{Named, send-decided}
-use Rattle.dispatch.specs.Rare.{drawCall, moveCall, Performs}
+use Rattle.limits.specs.Draw.{drawCall}
+use Rattle.dispatch.specs.Rare.{moveCall}
 use Rattle.reads.specs.Readings.{readCall}
 use Rattle.reads.proofs.Right.{alone-row}
 use Rattle.reader.specs.declared.Line.{Line}
@@ -160,7 +161,7 @@ module _ (l : Line) where
   pub line-moves : isMove (l .op) ≡ true → lineIn l ≡ some (moveCall (l .op) (l .a))
   line-moves m = by-move (l .op) m (λ e. rw e) (λ e. rw e) (λ e. rw e) (λ e. rw e) (λ e. rw e)
 
-  pub line-draws : isDraw (l .op) ≡ true → lineIn l ≡ drawCall (l .op) (l .a) (l .b) (l .c) (l .d)
+  pub line-draws : isDraw (l .op) ≡ true → lineIn l ≡ some (drawCall (l .op) (l .a) (l .b) (l .c) (l .d))
   line-draws m = by-draw (l .op) m (λ e. rw e) (λ e. rw e) (λ e. rw e)
 
   -- what no arm takes is no call
@@ -179,10 +180,6 @@ meets-made c p r m = record { answer = alone-row (r .answer) ∙ m .answer; plan
 
 pub none-made : (p : State) → Made none p p (Refused 51) []
 none-made p = record { answer = refl; plan = refl }
-
-pub performs-made : (l : Option Call) (p : State) (r : Answered) → Performs l p r → Made l p (r .state) (r .answer) []
-performs-made none p r e = rw e (record { answer = refl; plan = refl })
-performs-made (some c) p r m = meets-made c p r m
 
 -- ---- between the arms
 
@@ -382,7 +379,7 @@ move-counts op x p t m =
     (λ e. rw e) (λ e. rw e) (λ e. rw e)
 
 -- one that draws up the plan moves none
-pub draw-counts : (op : ℕ) (a b c d : ℤ) {l : Option Call} {p q : State} {r : Answer} {vs : List ℤ} (t : Tallies) → isDraw op ≡ true → l ≡ drawCall op a b c d → Made l p q r vs → Tallied t (view p) → Tallied t (view q)
+pub draw-counts : (op : ℕ) (a b c d : ℤ) {l : Option Call} {p q : State} {r : Answer} {vs : List ℤ} (t : Tallies) → isDraw op ≡ true → l ≡ some (drawCall op a b c d) → Made l p q r vs → Tallied t (view p) → Tallied t (view q)
 draw-counts op a b c d {l = l} {p = p} {q = q} {r = r} {vs = vs} t y e m h =
     by-draw op y
     (λ z. by (measure a) (e ∙ rw z) (λ x. refl))

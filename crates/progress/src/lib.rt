@@ -3,7 +3,6 @@ ghost use mathlib.Core.Path.{_≡_};
 ghost use Rattle.state.specs.View.{view};
 ghost use Rattle.tally.specs.Tallies.{Tallied};
 ghost use Rattle.progress.specs.Progress.{isMove, isDraw, lastOf, Sound, Advanced};
-use frames::Frame;
 use records::Test;
 use state::Answer;
 use state::State;
@@ -89,9 +88,10 @@ fn go(
         let mut width: usize = 0;
         if 11 < op {
             // show, fate, left
-            let seat = heads::seat(h, a);
+            let named = heads::named(h, a);
+            let seat = heads::place(named);
             let seen = p.edits[seat];
-            let r = reads::read(op, a, h, seen, t.left);
+            let r = reads::read(op, a, h, named, seen, t.left);
             let given = r.answer;
             answer = given;
             first = r.from;
@@ -100,7 +100,8 @@ fn go(
         if op == 5 {
             // edit
             let h = p.head;
-            let seat = heads::seat(h, line.c);
+            let named = heads::named(h, line.c);
+            let seat = heads::place(named);
             let seen = p.edits[seat];
             let spot = ruling::spot(a, line.d);
             let slot = rows::capped(h.kept, 255);
@@ -112,6 +113,7 @@ fn go(
                 &p.firm,
                 &links,
                 &p.values,
+                named,
                 seen,
                 a,
                 line.b,
@@ -139,11 +141,13 @@ fn go(
         if op == 8 {
             // replay
             let h = p.head;
-            let slot = heads::seat(h, a);
+            let named = heads::named(h, a);
+            let slot = heads::place(named);
             let standing = p.edits[slot];
-            let seat = settling::earlier_seat(h, a, standing);
+            let next = settling::earlier(h, named, standing);
+            let seat = heads::place(next);
             let seen = p.edits[seat];
-            let point = settling::point_of(h, a, standing);
+            let point = settling::point_of(named, standing);
             let d = settling::decide_replay(
                 h,
                 &p.lower,
@@ -152,8 +156,9 @@ fn go(
                 &links,
                 &p.draft,
                 &p.arrived,
-                a,
+                named,
                 standing,
+                next,
                 seen,
                 t.settled,
                 sound,
@@ -195,28 +200,26 @@ fn go(
             let h = p.head;
             let place = heads::index(side);
             let unsent = t.unsent[place];
-            let old_base = p.base;
-            let old_draft = p.draft;
-            let old_values = p.values;
-            let old_arrived = p.arrived;
-            let old_confirmed = p.confirmed;
-            let f = Frame {
-                head: h,
-                base: old_base,
-                draft: old_draft,
-                values: old_values,
-                arrived: old_arrived,
-                confirmed: old_confirmed,
-            };
-            let r = dispatch::move_frame(f, op, a, unsent, t.waiting);
-            let g = r.frame;
+            let mut base = p.base;
+            let mut draft = p.draft;
+            let mut values = p.values;
+            let mut arrived = p.arrived;
+            let mut confirmed = p.confirmed;
+            let r = dispatch::make_move(
+                h,
+                &mut base,
+                &mut draft,
+                &mut values,
+                &mut arrived,
+                &mut confirmed,
+                op,
+                a,
+                unsent,
+                t.waiting,
+            );
+            frames::lengths(&base, &draft, &values, &arrived, &confirmed);
+            let head = r.head;
             let given = r.answer;
-            let head = g.head;
-            let base = g.base;
-            let draft = g.draft;
-            let values = g.values;
-            let arrived = g.arrived;
-            let confirmed = g.confirmed;
             p.head = head;
             p.base = base;
             p.draft = draft;
@@ -229,13 +232,35 @@ fn go(
         }
         if draws(op) {
             // measure, rule, open
-            let r = dispatch::draw_up(p, op, a, line.b, line.c, line.d);
-            let q = r.state;
-            let given = r.answer;
-            p = q;
-            answer = given;
             let h = p.head;
-            let next = rules::indexed(&p.lower, &p.upper, h.rules);
+            let spot = rows::capped(h.measures, 31);
+            let slot = rows::capped(h.rules, 63);
+            let d = limits::decide_draw(
+                h,
+                &p.lower,
+                &p.gap,
+                &p.upper,
+                &p.firm,
+                &p.values,
+                op,
+                a,
+                line.b,
+                line.c,
+                line.d,
+            );
+            let head = d.head;
+            let entry = d.entry;
+            let given = d.answer;
+            let value = entry.value;
+            let gap = entry.gap;
+            p.head = head;
+            p.values[spot] = value;
+            p.lower[slot] = entry.lower;
+            p.gap[slot] = gap;
+            p.upper[slot] = entry.upper;
+            p.firm[slot] = entry.firm;
+            answer = given;
+            let next = rules::indexed(&p.lower, &p.upper, head.rules);
             links = next;
         }
         let vs = &p.values[..];

@@ -49,7 +49,7 @@ tallies-right p t h l e =
 
 module _ (p : State) (t : Tallies) (h : Tallied t (view p)) where
   abbrev pub readingIn : ℕ → ℤ → Reading
-  readingIn op a = readingOf op a (p .head) (getD (p .edits) (seatOf (p .head) a) noRecord) (t .left)
+  readingIn op a = readingOf op a (p .head) (namedAt (p .head) a) (getD (p .edits) (seatOf (p .head) a) noRecord) (t .left)
 
   -- what is wanted of a reading
   Right : Reading → Stepped → Type 0

@@ -11,7 +11,7 @@ use Rattle.records.specs.declared.EditRecord.{EditRecord}
 use Rattle.heads.specs.declared.Head.{Head}
 use Rattle.state.specs.declared.Answer.{Answer}
 use Rattle.state.specs.declared.Answer.the-variants.{Refused, Done, Number}
-use Rattle.heads.specs.Heads.{modeOf, offsetOf, measuresIn, namedAt}
+use Rattle.heads.specs.Heads.{modeOf, offsetOf, measuresIn}
 use Rattle.figures.specs.Reads.{fateAnswer, showChecks}
 use Rattle.reads.specs.declared.Reading.{Reading}
 
@@ -32,6 +32,6 @@ showReading h s = showBy (first (showChecks h s measureLimit)) h s
 abbrev pub leftAnswer : Head → ℕ → Answer
 leftAnswer h n = Number (cond (active (modeOf (h .mode))) n 0)
 
-abbrev pub readingOf : ℕ → ℤ → Head → EditRecord → ℕ → Reading
-readingOf op a h seen n =
-    cond (eqb op 12) (showReading h (natural a)) (cond (eqb op 13) (alone (fateAnswer (namedAt h a) seen)) (cond (eqb op 14) (alone (leftAnswer h n)) (alone (Refused 51))))
+abbrev pub readingOf : ℕ → ℤ → Head → ℕ → EditRecord → ℕ → Reading
+readingOf op a h i seen n =
+    cond (eqb op 12) (showReading h (natural a)) (cond (eqb op 13) (alone (fateAnswer i seen)) (cond (eqb op 14) (alone (leftAnswer h n)) (alone (Refused 51))))

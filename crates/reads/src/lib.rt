@@ -52,15 +52,15 @@ fn left_answer(h: Head, left: u32) -> Answer
     Answer::Number(0)
 }
 
-// The call numbered op, with its number a: from the record seen where the edit that it names would stand, and the number left.
-pub fn read(op: u32, a: i32, h: Head, seen: EditRecord, left: u32) -> Reading
-    ensures { λ r. ⌜ r ≡ readingOf op a h seen left ⌝ }
+// The call numbered op, with its number a: from the edit that it names, seen at place i from 1, and the number left.
+pub fn read(op: u32, a: i32, h: Head, i: usize, seen: EditRecord, left: u32) -> Reading
+    ensures { λ r. ⌜ r ≡ readingOf op a h i seen left ⌝ }
 {
     if op == 12 {
         return show_reading(h, exact::number(a));
     }
     if op == 13 {
-        let answer = figures::fate_answer(heads::named(h, a), seen);
+        let answer = figures::fate_answer(i, seen);
         return Reading {
             answer,
             from: 0,

@@ -24,8 +24,8 @@ use Rattle.rules.proofs.Links.{tested-linked}
 use Rattle.records.specs.declared.EditRecord.{EditRecord}
 use Rattle.heads.specs.declared.Head.{Head}
 use Rattle.state.specs.declared.State.{State}
-use Rattle.heads.specs.Heads.{modeOf, sidesIn, keptIn, endIn, placeOf, seatOf, unsetIn}
-use Rattle.records.specs.Records.{keptAt, keptOf, noRecord}
+use Rattle.heads.specs.Heads.{modeOf, sidesIn, keptIn, endIn, placeOf, namedAt, seatOf, unsetIn}
+use Rattle.records.specs.Records.{keptAt, keptOf, noRecord, recordOf}
 use Rattle.state.specs.View.{view, rulesOf}
 use Rattle.state.specs.Parts.{namedIn}
 use Rattle.state.specs.Meets.{answerOf, SameIfRefused, Meets}
@@ -33,7 +33,7 @@ use Rattle.state.proofs.Views.{Sized, plan-same, flags-unset, lookup-named}
 use Rattle.records.proofs.Logs.{Placed, placed, log-modify}
 use Rattle.settling.specs.declared.Outcome.the-variants.{Settled}
 use Rattle.settling.specs.declared.Decision.{Decision}
-use Rattle.settling.specs.Replays.{replayChecks, draftIn, effectiveIn, draftOutcome, settledBy, replayOutcome, settledRecord, replayDecision, pointOf, standingAt, earlierAt, standingIn, replayFrom, replayBy, replayIn, stored}
+use Rattle.settling.specs.Replays.{replayChecks, draftIn, effectiveIn, draftOutcome, settledBy, replayOutcome, settledRecord, replayDecision, pointOf, earlierAt, standingIn, replayFrom, replayBy, replayIn, stored}
 
 -- what the test of the rules finds counts only where the plan is joining or closing: two tests that then find the same make the same decision
 decision-same : (test test′ : RuleTest) (p : State) (n : ℤ)
@@ -55,20 +55,22 @@ decision-same test test′ p n h = cases (active (modeOf (p .head .mode)))
     (λ t. rw t)
 
 -- the decision that the code makes, with the rules' own links, is the one in the state
-pub replay-decided : (sound : Bool) (p : State) (n : ℤ) {slot seat place : ℕ} {links : List ℕ} {d : Decision}
-    → slot ≡ seatOf (p .head) n → seat ≡ placeOf (earlierAt (p .head) n (getD (p .edits) slot noRecord)) → place ≡ count isSettled (keptOf (p .head) (p .edits)) + 1
-    → d ≡ replayFrom (testedBy sound links) (p .head) (p .lower) (p .gap) (p .upper) (p .draft) (p .arrived) n (getD (p .edits) slot noRecord) (getD (p .edits) seat noRecord) place
+pub replay-decided : (sound : Bool) (p : State) (n : ℤ) {i slot j seat place : ℕ} {links : List ℕ} {d : Decision}
+    → i ≡ namedAt (p .head) n → slot ≡ placeOf i → j ≡ earlierAt (p .head) i (getD (p .edits) slot noRecord) → seat ≡ placeOf j → place ≡ count isSettled (keptOf (p .head) (p .edits)) + 1
+    → d ≡ replayFrom (testedBy sound links) (p .head) (p .lower) (p .gap) (p .upper) (p .draft) (p .arrived) i (getD (p .edits) slot noRecord) j (getD (p .edits) seat noRecord) place
     → LinkedIf sound links (p .lower) (p .upper) (min (p .head .rules) 64)
     → d ≡ replayIn sound p n
-replay-decided sound p n {links = links} slot-is seat-is place-is d-is linked =
-    let standing = ap (λ j. getD (p .edits) j noRecord) slot-is in
-    let seen = ap (λ j. getD (p .edits) j noRecord) (seat-is ∙ ap (λ r. placeOf (earlierAt (p .head) n r)) standing) in
-    d-is ∙ (λ j. replayFrom (testedBy sound links) (p .head) (p .lower) (p .gap) (p .upper) (p .draft) (p .arrived) n (standing j) (seen j) (place-is j))
+replay-decided sound p n {links = links} i-is slot-is j-is seat-is place-is d-is linked =
+    let standing = ap (λ x. getD (p .edits) x noRecord) (slot-is ∙ ap placeOf i-is) in
+    let earlier = j-is ∙ (λ x. earlierAt (p .head) (i-is x) (standing x)) in
+    let seen = ap (λ x. getD (p .edits) x noRecord) (seat-is ∙ ap placeOf earlier) in
+    d-is ∙ (λ x. replayFrom (testedBy sound links) (p .head) (p .lower) (p .gap) (p .upper) (p .draft) (p .arrived) (i-is x) (standing x) (earlier x) (seen x) (place-is x))
     ∙ decision-same (testedBy sound links) (testedIn sound) p n (λ t. tested-linked sound links _ (p .lower) (p .gap) (p .upper) _ _ linked)
 
 -- and its measure's place in the draft is the edit's
-pub point-decided : (p : State) (n : ℤ) {slot point : ℕ} → slot ≡ seatOf (p .head) n → point ≡ pointOf (standingAt (p .head) n (getD (p .edits) slot noRecord) .measure) → point ≡ pointOf (namedIn p (natural n) .measure)
-point-decided p n slot-is point-is = point-is ∙ ap (λ j. pointOf (standingAt (p .head) n (getD (p .edits) j noRecord) .measure)) slot-is
+pub point-decided : (p : State) (n : ℤ) {i slot point : ℕ} → i ≡ namedAt (p .head) n → slot ≡ placeOf i → point ≡ pointOf (recordOf i (getD (p .edits) slot noRecord) .measure) → point ≡ pointOf (namedIn p (natural n) .measure)
+point-decided p n i-is slot-is point-is =
+    let slot = slot-is ∙ ap placeOf i-is in point-is ∙ (λ x. pointOf (recordOf (i-is x) (getD (p .edits) (slot x) noRecord) .measure))
 
 -- where all rules held on the draft, it is enough to test those that name the measure
 pub replay-sound : (p : State) (n : ℤ) → (T (active (modeOf (p .head .mode))) → holds (rulesOf p) (draftIn (p .head) (p .draft)) ≡ true) → replayIn true p n ≡ replayIn false p n

@@ -10,11 +10,13 @@ pub fn replay(p: State, n: i32) -> Answered
     ensures { λ r. ⌜ Meets (replay n) p r ⌝ }
 {
     let h = p.head;
-    let slot = heads::seat(h, n);
+    let named = heads::named(h, n);
+    let slot = heads::place(named);
     let standing = p.edits[slot];
-    let seat = settling::earlier_seat(h, n, standing);
+    let next = settling::earlier(h, named, standing);
+    let seat = heads::place(next);
     let seen = p.edits[seat];
-    let point = settling::point_of(h, n, standing);
+    let point = settling::point_of(named, standing);
     let edits = p.edits;
     let settled = records::count(edits, h, Test::Settled);
     let links = [0; 161];
@@ -26,8 +28,9 @@ pub fn replay(p: State, n: i32) -> Answered
         &links,
         &p.draft,
         &p.arrived,
-        n,
+        named,
         standing,
+        next,
         seen,
         settled,
         false,

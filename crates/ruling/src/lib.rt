@@ -348,7 +348,7 @@ pub fn spot(s: i32, m: i32) -> usize
     at + rows::capped(measure - 1, 31)
 }
 
-// What an edit stores, from its numbers and the record seen where the edit that it names would stand.
+// What an edit stores, from its numbers and the edit that it names, seen at a place from 1.
 pub fn decide_edit<'a>(
     h: Head,
     lower: &'a [u32; 64],
@@ -357,6 +357,7 @@ pub fn decide_edit<'a>(
     firm: &'a [bool; 64],
     links: &'a Links,
     values: &'a [i32; 256],
+    i: usize,
     seen: EditRecord,
     s: i32,
     client: i32,
@@ -366,7 +367,7 @@ pub fn decide_edit<'a>(
     constant: i32,
     sound: bool,
 ) -> Decision
-    ensures { λ r. ⌜ r ≡ editFrom (testedBy sound (now (links .entry))) h (now (lower .entry)) (now (gap .entry)) (now (upper .entry)) (now (firm .entry)) (now (values .entry)) seen s client after m kind constant ⌝ }
+    ensures { λ r. ⌜ r ≡ editFrom (testedBy sound (now (links .entry))) h (now (lower .entry)) (now (gap .entry)) (now (upper .entry)) (now (firm .entry)) (now (values .entry)) i seen s client after m kind constant ⌝ }
 {
     let at = spot(s, m);
     let old = values[at];
@@ -378,7 +379,7 @@ pub fn decide_edit<'a>(
         firm,
         links,
         values,
-        heads::named(h, after),
+        i,
         seen,
         old,
         exact::number(s),

@@ -1,11 +1,10 @@
 // What a replay decides: its checks, the trial on the draft, and what it stores. Read only, on what is lent to it.
 ghost use mathlib.Core.Path.{_≡_};
-ghost use Prim.Native.Nat.{_+_, _<_, min};
+ghost use Prim.Native.Nat.{_+_, _<_, _≤_, min};
 ghost use Rattle.protocol.specs.Plan.{isWaiting};
 ghost use Rattle.rules.specs.Rules.{testedBy};
-ghost use Rattle.heads.specs.Heads.{placeOf};
 ghost use Rattle.records.specs.Records.{keptAt, recordOf};
-ghost use Rattle.settling.specs.Replays.{draftOutcome, replayOutcome, settledFate, settledRecord, replayDecision, pointOf, standingAt, earlierAt, replayFrom};
+ghost use Rattle.settling.specs.Replays.{draftOutcome, replayOutcome, settledFate, settledRecord, replayDecision, pointOf, earlierAt, replayFrom};
 use change::Change;
 use heads::Head;
 use records::EditRecord;
@@ -215,23 +214,23 @@ fn point(m: u32) -> usize
     rows::capped(m - 1, 31)
 }
 
-// Where the measure of the edit numbered n stands in the draft, from the record seen where that edit would stand.
-pub fn point_of(h: Head, n: i32, standing: EditRecord) -> usize
-    ensures { λ r. ⌜ (r ≡ pointOf (standingAt h n standing .measure)) × (r < 32) ⌝ }
+// Where the measure of an edit, seen at a place from 1, stands in the draft.
+pub fn point_of(i: usize, standing: EditRecord) -> usize
+    ensures { λ r. ⌜ (r ≡ pointOf (recordOf i standing .measure)) × (r < 32) ⌝ }
 {
-    let e = records::found(heads::named(h, n), standing);
+    let e = records::found(i, standing);
     point(e.measure)
 }
 
-// Where the edit would stand that it names as earlier.
-pub fn earlier_seat(h: Head, n: i32, standing: EditRecord) -> usize
-    ensures { λ r. ⌜ (r ≡ placeOf (earlierAt h n standing)) × (r < 256) ⌝ }
+// The place, from 1, of the edit that it names as earlier.
+pub fn earlier(h: Head, i: usize, standing: EditRecord) -> usize
+    ensures { λ r. ⌜ (r ≡ earlierAt h i standing) × (r ≤ 256) ⌝ }
 {
-    let e = records::found(heads::named(h, n), standing);
-    heads::place(heads::position(h, e.earlier))
+    let e = records::found(i, standing);
+    heads::position(h, e.earlier)
 }
 
-// What a replay stores, from its number, the records seen where that edit and its earlier one would stand, and how many edits are settled.
+// What a replay stores, from the edit and the one that it names as earlier, each seen at a place from 1, and how many edits are settled.
 pub fn decide_replay<'a>(
     h: Head,
     lower: &'a [u32; 64],
@@ -240,17 +239,16 @@ pub fn decide_replay<'a>(
     links: &'a Links,
     draft: &'a [i32; 32],
     arrived: &'a [bool; 8],
-    n: i32,
+    i: usize,
     standing: EditRecord,
+    j: usize,
     seen: EditRecord,
     settled: u32,
     sound: bool,
 ) -> Decision
-    ensures { λ r. ⌜ r ≡ replayFrom (testedBy sound (now (links .entry))) h (now (lower .entry)) (now (gap .entry)) (now (upper .entry)) (now (draft .entry)) (now (arrived .entry)) n standing seen (min settled 256 + 1) ⌝ }
+    ensures { λ r. ⌜ r ≡ replayFrom (testedBy sound (now (links .entry))) h (now (lower .entry)) (now (gap .entry)) (now (upper .entry)) (now (draft .entry)) (now (arrived .entry)) i standing j seen (min settled 256 + 1) ⌝ }
 {
-    let i = heads::named(h, n);
-    let e = records::found(i, standing);
-    let at = point(e.measure);
+    let at = point_of(i, standing);
     let old = draft[at];
     decided(
         h,
@@ -262,7 +260,7 @@ pub fn decide_replay<'a>(
         heads::unset(arrived, h),
         i,
         standing,
-        heads::position(h, e.earlier),
+        j,
         seen,
         old,
         rows::capped(settled, 256) as u32 + 1,

@@ -10,7 +10,7 @@ use Rattle.protocol.specs.Lists.{natural}
 use Rattle.protocol.specs.Calls.{edit}
 use Rattle.rules.specs.Rules.{testedBy}
 use Rattle.rules.proofs.Links.{unlinked}
-use Rattle.heads.specs.Heads.{seatOf}
+use Rattle.heads.specs.Heads.{namedAt}
 use Rattle.records.specs.Records.{noRecord}
 use Rattle.state.specs.Meets.{Meets}
 use Rattle.state.proofs.Views.{owned-sized}
@@ -21,16 +21,17 @@ use Rattle.edit.proofs.edit.Statement.{statement}
 use Rattle.edit.proofs.edit.Tie as tie
 use Rattle.edit.proofs.edit.Reads as reads
 use Rattle.edit.proofs.edit.Lts as lts
-use Rattle.heads.proofs.seat.Reads as seat-reads
+use Rattle.heads.proofs.named.Reads as named-reads
+use Rattle.heads.proofs.place.Reads as place-reads
 use Rattle.rows.proofs.capped.Reads as capped-reads
 use Rattle.ruling.proofs.decide_edit.Reads as decide-edit-reads
 use Rattle.ruling.proofs.spot.Reads as spot-reads
 
 -- the decision carried out
-met : (c : tie.After-entry) → let a = (c .before .before .before .before .before .before .before .before .before .before .before .before .before .before .before .before .args) in let d = (c .before .before .before .decide-edit .result) in
+met : (c : tie.After-entry) → let a = (c .before .before .before .before .before .before .before .before .before .before .before .before .before .before .before .before .before .args) in let d = (c .before .before .before .decide-edit .result) in
     Meets (edit (a .s) (a .client) (a .after) (a .m) (a .kind) (a .constant)) (a .t1) (record { state = stored (a .t1) (c .before .before .before .before .before .before .before .before .before .before .before .before .spot .result) (c .before .before .before .before .before .before .before .before .before .before .before .capped .result) d; answer = d .answer })
 met c =
-    let s = (c .before .before .before .before .before .before .before .before .before .before .before .before .before .before .before .before) in
+    let s = (c .before .before .before .before .before .before .before .before .before .before .before .before .before .before .before .before .before) in
     let a = s .args in
     let p = a .t1 in
     let to-s = toZ-ofZ (s .fits .s) in
@@ -41,8 +42,8 @@ met c =
     let to-k = toZ-ofZ (s .fits .constant) in
     let spot = (c .before .before .before .before .before .before .before .before .before .before .before .before .spot .ensures .0) ∙ (λ j. spotOf (natural (to-s j)) (natural (to-m j))) in
     let g = edit-decided false p (a .s) (a .client) (a .after) (a .m) (a .kind) (a .constant)
-    ((c .before .before .before .before .before .before .before .before .before .before .before .before .before .before .seat .ensures .0) ∙ ap (seatOf (p .head)) to-n)
-    ((c .before .before .before .decide-edit .ensures) ∙ (λ j. editFrom (testedBy false (replicate 161 0)) (p .head) (p .lower) (p .gap) (p .upper) (p .firm) (p .values) (getD (p .edits) (c .before .before .before .before .before .before .before .before .before .before .before .before .before .before .seat .result) noRecord) (to-s j) (to-client j) (to-n j) (to-m j) (to-kind j) (to-k j)))
+    ((c .before .before .before .before .before .before .before .before .before .before .before .before .before .before .before .named .ensures .0) ∙ ap (namedAt (p .head)) to-n) (c .before .before .before .before .before .before .before .before .before .before .before .before .before .before .place .ensures .0)
+    ((c .before .before .before .decide-edit .ensures) ∙ (λ j. editFrom (testedBy false (replicate 161 0)) (p .head) (p .lower) (p .gap) (p .upper) (p .firm) (p .values) (c .before .before .before .before .before .before .before .before .before .before .before .before .before .before .before .named .result) (getD (p .edits) (c .before .before .before .before .before .before .before .before .before .before .before .before .before .before .place .result) noRecord) (to-s j) (to-client j) (to-n j) (to-m j) (to-kind j) (to-k j)))
     (unlinked _ _ _ _) in
     rw (spot, (c .before .before .before .before .before .before .before .before .before .before .before .capped .ensures), g) (edit-meets p (owned-sized p (s .good .0)) (a .s) (a .client) (a .after) (a .m) (a .kind) (a .constant))
 
@@ -50,8 +51,11 @@ met c =
 value : (c : tie.After-entry) → let d = (c .before .before .before .decide-edit .result) in toZ w32 (ofZ w32 (d .value)) ≡ d .value
 value c = toZ-ofZ (fits32 (c .before .before .before .decide-edit .result .value) (c .before .struct-told .given .1 .0 .1))
 
-seat-requires : tie.Need-seat-requires
-seat-requires c κs = search needs
+named-requires : tie.Need-named-requires
+named-requires c κs = search needs
+
+place-requires : tie.Need-place-requires
+place-requires c κs = search needs
 
 mul-seen : tie.Need-mul-seen
 mul-seen c = search needs
@@ -92,7 +96,8 @@ pub edit-spec : {M : Type 1} → statement M
 edit-spec =
     tie.close
     (tie.spec
-    seat-requires
+    named-requires
+    place-requires
     mul-seen
     element-copy-out-seen
     spot-requires

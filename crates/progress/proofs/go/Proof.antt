@@ -7,12 +7,11 @@ use mathlib.Core.Option.{some}
 use borrow.Author.Needs.{needs}
 use borrow.Author.Tests.{eq-eqb, ne-eqb, eqb-true, eqb-false, lt-ltb, le-ltb, leb-true}
 use borrow.Rule.Slice.PartMut.{putMid}
-use denote.Shadow.{shadow}
 use lib.Dec.{T, eqb, leb, ltb}
 use lib.IntN.{pos}
 use lib.ListN.{length, getD, set, take, drop, length-set, length-drop, take-append-drop}
 use mir.Syntax.{w32, w64}
-use mir.Val.{Val, toZ, ofZ, Fits}
+use mir.Val.{toZ, ofZ, Fits}
 use mir.Facts.{toZ-ofZ, fits-below, fits-le}
 use Rattle.exact.proofs.Ints.{fits32}
 use Rattle.protocol.specs.Lists.{natural, oneTo}
@@ -24,21 +23,21 @@ use Rattle.rows.specs.Rows.{row}
 use Rattle.state.specs.declared.State.{State}
 use Rattle.state.specs.declared.Answer.{Answer}
 use Rattle.state.specs.declared.Answer.the-variants.{Refused}
-use Rattle.state.specs.declared.Answered.{Answered}
-use Rattle.state.proofs.State as the-state
-use Rattle.state.proofs.Answered as the-answered
 use Rattle.state.specs.View.{view}
-use Rattle.heads.specs.Heads.{modeOf, sidesIn, indexOf, placeOf, seatOf}
+use Rattle.heads.specs.Heads.{modeOf, sidesIn, indexOf, placeOf, namedAt}
 use Rattle.records.specs.Records.{keptOf, noRecord}
 use Rattle.state.specs.Meets.{answerOf}
 use Rattle.format.specs.Sheets.{text, turn, stepOf, inFront}
 use Rattle.writer.specs.Writes.{withRow, lineOf}
-use Rattle.state.proofs.Views.{Sized, owned-sized, unmapped, sides-most}
+use Rattle.state.proofs.Views.{Sized, owned-sized, sides-most}
 use Rattle.state.proofs.Steps as steps
-use Rattle.frames.specs.Frames.{frameOf, around, Moves}
+use Rattle.frames.specs.Frames.{frameOf, movedTo, Moves}
 use Rattle.reconcile.proofs.Moves.{Named}
 use Rattle.turns.proofs.Sends.{send-few}
 use Rattle.dispatch.specs.Rare.{moveCall, Counts}
+use Rattle.limits.specs.declared.Drawing.{Drawing}
+use Rattle.limits.specs.Draw.{drawCall, drawDecision, entryOf}
+use Rattle.draw.proofs.Draws.{draw-decided, drawn-sized}
 use Rattle.ruling.specs.declared.Decision.{Decision}
 use Rattle.ruling.specs.Edits.{spotOf, slotOf, editFrom, editIn, stored}
 use Rattle.rules.specs.Rules.{Linked, testedBy}
@@ -56,14 +55,15 @@ use Rattle.tally.specs.declared.Tallies.{Tallies}
 use Rattle.tally.specs.Tallies.{Tallied, isAccepted, oneUnsent, allSent}
 use Rattle.progress.specs.Progress.{isDraw, lastOf, Sound, Advanced}
 use Rattle.progress.proofs.Running.{Going, Course, inside, finished, unfit, next-line, begins, lent-rest, put-back}
-use Rattle.progress.proofs.Turning.{doneReads, doneEdit, doneReplay, doneSend, doneMoves, doneDraws, off-edit, off-replay, off-send, off-moves, off-draws, line-edit, line-replay, line-reads, line-send, line-moves, line-draws, line-left, Made, meets-made, performs-made, edit-rules, alike, move-rules, linked-still, Turned, untouched, passed-by, taken, read-out, turned, still, edit-held, replay-held, sound-made, settled-few, tallied-made, edit-counts, move-counts, draw-counts, Marking, marking-begin, marking-next, marking-passed, send-made, send-sized, send-rules, text-some, fitted-put, unfitted-put}
+use Rattle.progress.proofs.Turning.{doneReads, doneEdit, doneReplay, doneSend, doneMoves, doneDraws, off-edit, off-replay, off-send, off-moves, off-draws, line-edit, line-replay, line-reads, line-send, line-moves, line-draws, line-left, Made, meets-made, edit-rules, alike, move-rules, linked-still, Turned, untouched, passed-by, taken, read-out, turned, still, edit-held, replay-held, sound-made, settled-few, tallied-made, edit-counts, move-counts, draw-counts, Marking, marking-begin, marking-next, marking-passed, send-made, send-sized, send-rules, text-some, fitted-put, unfitted-put}
 use Rattle.progress.proofs.Rows.{lent-row}
 use Rattle.progress.proofs.go.Statement.{statement}
 use Rattle.progress.proofs.go.Tie as tie
 use Rattle.progress.proofs.go.Reads as reads
 use Rattle.progress.proofs.go.Lts as lts
-use Rattle.dispatch.proofs.draw_up.Reads as draw-up-reads
-use Rattle.dispatch.proofs.move_frame.Reads as move-frame-reads
+use Rattle.dispatch.proofs.make_move.Reads as make-move-reads
+use Rattle.frames.proofs.lengths.Reads as lengths-reads
+use Rattle.limits.proofs.decide_draw.Reads as decide-draw-reads
 use Rattle.exact.proofs.number.Reads as number-reads
 use Rattle.heads.proofs.index.Reads as index-reads
 use Rattle.progress.proofs.draws.Reads as draws-reads
@@ -73,10 +73,11 @@ use Rattle.reader.proofs.read_line.Reads as read-line-reads
 use Rattle.reads.proofs.read.Reads as read-reads
 use Rattle.rows.proofs.capped.Reads as capped-reads
 use Rattle.rules.proofs.indexed.Reads as indexed-reads
-use Rattle.heads.proofs.seat.Reads as seat-reads
+use Rattle.heads.proofs.named.Reads as named-reads
+use Rattle.heads.proofs.place.Reads as place-reads
 use Rattle.ruling.proofs.decide_edit.Reads as decide-edit-reads
 use Rattle.ruling.proofs.spot.Reads as spot-reads
-use Rattle.settling.proofs.earlier_seat.Reads as earlier-seat-reads
+use Rattle.settling.proofs.earlier.Reads as earlier-reads
 use Rattle.settling.proofs.point_of.Reads as point-of-reads
 use Rattle.settling.proofs.decide_replay.Reads as decide-replay-reads
 use Rattle.records.proofs.satisfies.Reads as satisfies-reads
@@ -194,112 +195,113 @@ unsent-is p t h s e o = let r = range (sidesIn (p .head)) s o in ap (λ j. getD 
 
 -- ---- a call that only reads
 
-read-is : (c : tie.After-read Inv-loop2 μ-loop2 Inv-loop μ-loop) → (c .read .result) ≡ readingIn (c .before .before .before .before .before .before .before .before .before .before .before .loop .p) (c .before .before .before .before .before .before .before .before .before .before .before .loop .t) (on-line (c .before .before .before .before .before .before .before .before .before .before) .1 .tallied) (c .before .before .before .before .before .before .before .before .read-line .result .op) (c .before .before .before .before .before .before .before .before .read-line .result .a)
+read-is : (c : tie.After-read Inv-loop2 μ-loop2 Inv-loop μ-loop) → (c .read .result) ≡ readingIn (c .before .before .before .before .before .before .before .before .before .before .before .before .loop .p) (c .before .before .before .before .before .before .before .before .before .before .before .before .loop .t) (on-line (c .before .before .before .before .before .before .before .before .before .before .before) .1 .tallied) (c .before .before .before .before .before .before .before .before .before .read-line .result .op) (c .before .before .before .before .before .before .before .before .before .read-line .result .a)
 read-is c =
-    let p = (c .before .before .before .before .before .before .before .before .before .before .before .loop .p) in
-    let l = (c .before .before .before .before .before .before .before .before .read-line .result) in
-    let a = toZ-ofZ (fits32 (l .a) (c .before .before .before .before .before .before .struct-told .given .1 .0 .1)) in
-    let seat = (c .before .before .seat .ensures .0) ∙ ap (seatOf (p .head)) a in
-    (c .read .ensures) ∙ (λ j. readingOf (l .op) (a j) (p .head) (getD (p .edits) (seat j) noRecord) (c .before .before .before .before .before .before .before .before .before .before .before .loop .t .left))
+    let p = (c .before .before .before .before .before .before .before .before .before .before .before .before .loop .p) in
+    let l = (c .before .before .before .before .before .before .before .before .before .read-line .result) in
+    let a = toZ-ofZ (fits32 (l .a) (c .before .before .before .before .before .before .before .struct-told .given .1 .0 .1)) in
+    let named = (c .before .before .before .named .ensures .0) ∙ ap (namedAt (p .head)) a in
+    let seat = (c .before .before .place .ensures .0) ∙ ap placeOf named in
+    (c .read .ensures) ∙ (λ j. readingOf (l .op) (a j) (p .head) (named j) (getD (p .edits) (seat j) noRecord) (c .before .before .before .before .before .before .before .before .before .before .before .before .loop .t .left))
 
-read-arm : (c : tie.After-read Inv-loop2 μ-loop2 Inv-loop μ-loop) → let p = (c .before .before .before .before .before .before .before .before .before .before .before .loop .p) in let r = (c .read .result) in (Made (lineIn (c .before .before .before .before .before .before .before .before .read-line .result)) p p (r .answer) (row (p .values) (r .from) (r .width))) × (r .from ≤ 224) × (r .width ≤ 32)
+read-arm : (c : tie.After-read Inv-loop2 μ-loop2 Inv-loop μ-loop) → let p = (c .before .before .before .before .before .before .before .before .before .before .before .before .loop .p) in let r = (c .read .result) in (Made (lineIn (c .before .before .before .before .before .before .before .before .before .read-line .result)) p p (r .answer) (row (p .values) (r .from) (r .width))) × (r .from ≤ 224) × (r .width ≤ 32)
 read-arm c =
-    let p = (c .before .before .before .before .before .before .before .before .before .before .before .loop .p) in
-    let t = (c .before .before .before .before .before .before .before .before .before .before .before .loop .t) in
-    let l = (c .before .before .before .before .before .before .before .before .read-line .result) in
-    let k = on-line (c .before .before .before .before .before .before .before .before .before .before) .1 .tallied in
+    let p = (c .before .before .before .before .before .before .before .before .before .before .before .before .loop .p) in
+    let t = (c .before .before .before .before .before .before .before .before .before .before .before .before .loop .t) in
+    let l = (c .before .before .before .before .before .before .before .before .before .read-line .result) in
+    let k = on-line (c .before .before .before .before .before .before .before .before .before .before .before) .1 .tallied in
     let g = reading-right p t k (l .op) (l .a) in
     let b = reading-bounds p t k (l .op) (l .a) in
-    rw (read-is c, line-reads l (c .before .before .before .if1 .taken)) (record { answer = g .0; plan = sym (g .1) }, b .0, b .1)
+    rw (read-is c, line-reads l (c .before .before .before .before .if1 .taken)) (record { answer = g .0; plan = sym (g .1) }, b .0, b .1)
 
 idle : (c : tie.After-h Inv-loop2 μ-loop2 Inv-loop μ-loop) → Turned (isDraw (c .before .before .before .before .read-line .result .op)) false (lineIn (c .before .before .before .before .read-line .result)) (c .before .before .before .before .before .before .before .loop .p) (c .before .before .before .before .before .before .before .loop .p) (c .before .before .before .before .before .before .before .loop .t) (c .before .before .before .before .before .before .before .loop .t) (Refused 51) 0 0
 idle c = let g = on-line (c .before .before .before .before .before .before) .1 in untouched _ _ _ _ (g .sized) (g .tallied)
 
-read-turned : (c : tie.After-read Inv-loop2 μ-loop2 Inv-loop μ-loop) {a : Answer} {f w : ℕ} → let r = (c .read .result) in a ≡ r .answer → f ≡ r .from → w ≡ r .width → Turned (isDraw (c .before .before .before .before .before .before .before .before .read-line .result .op)) (doneReads (c .before .before .before .before .before .before .before .before .read-line .result .op)) (lineIn (c .before .before .before .before .before .before .before .before .read-line .result)) (c .before .before .before .before .before .before .before .before .before .before .before .loop .p) (c .before .before .before .before .before .before .before .before .before .before .before .loop .p) (c .before .before .before .before .before .before .before .before .before .before .before .loop .t) (c .before .before .before .before .before .before .before .before .before .before .before .loop .t) a f w
-read-turned c e g h = let m = read-arm c in read-out (idle (c .before .before .before .before)) (lt-ltb 11 _ (c .before .before .before .if1 .taken)) refl e g h (m .0) (m .1) (m .2)
+read-turned : (c : tie.After-read Inv-loop2 μ-loop2 Inv-loop μ-loop) {a : Answer} {f w : ℕ} → let r = (c .read .result) in a ≡ r .answer → f ≡ r .from → w ≡ r .width → Turned (isDraw (c .before .before .before .before .before .before .before .before .before .read-line .result .op)) (doneReads (c .before .before .before .before .before .before .before .before .before .read-line .result .op)) (lineIn (c .before .before .before .before .before .before .before .before .before .read-line .result)) (c .before .before .before .before .before .before .before .before .before .before .before .before .loop .p) (c .before .before .before .before .before .before .before .before .before .before .before .before .loop .p) (c .before .before .before .before .before .before .before .before .before .before .before .before .loop .t) (c .before .before .before .before .before .before .before .before .before .before .before .before .loop .t) a f w
+read-turned c e g h = let m = read-arm c in read-out (idle (c .before .before .before .before .before)) (lt-ltb 11 _ (c .before .before .before .before .if1 .taken)) refl e g h (m .0) (m .1) (m .2)
 
 turned1 : (c : tie.Joined1 Inv-loop2 μ-loop2 Inv-loop μ-loop) → Turned (isDraw (c .before .before .before .before .before .read-line .result .op)) (doneReads (c .before .before .before .before .before .read-line .result .op)) (lineIn (c .before .before .before .before .before .read-line .result)) (c .before .before .before .before .before .before .before .before .loop .p) (c .before .before .before .before .before .before .before .before .loop .p) (c .before .before .before .before .before .before .before .before .loop .t) (c .before .before .before .before .before .before .before .before .loop .t) (c .if1 .answer) (c .if1 .first) (c .if1 .width)
 turned1 c =
     on (c .if1 .came)
-    (λ w. read-turned (record { before = record { before = record { before = record { before = (c .before); if1 = w .0 }; seat = w .1 }; seen = w .2 }; read = w .3 }) (w .4) (w .5) (w .6))
+    (λ w. read-turned (record { before = record { before = record { before = record { before = record { before = (c .before); if1 = w .0 }; named = w .1 }; place = w .2 }; seen = w .3 }; read = w .4 }) (w .5) (w .6) (w .7))
     (λ w. passed-by (idle (c .before)) (le-ltb 11 _ (w .0 .left)) refl refl (w .1) (w .2) (w .3))
 
 -- ---- an edit
 
 -- what was decided is the edit's decision in this state, and the places are those of its stores
-edit-is : (c : tie.After-entry Inv-loop2 μ-loop2 Inv-loop μ-loop) → let p = (c .before .before .before .before .before .before .before .before .before .before .before .before .before .before .before .before .before .before .before .before .before .before .before .before .before .before .before .before .before .before .before .before .loop .p) in let l = (c .before .before .before .before .before .before .before .before .before .before .before .before .before .before .before .before .before .before .before .before .before .before .before .before .before .before .before .before .before .read-line .result) in
+edit-is : (c : tie.After-entry Inv-loop2 μ-loop2 Inv-loop μ-loop) → let p = (c .before .before .before .before .before .before .before .before .before .before .before .before .before .before .before .before .before .before .before .before .before .before .before .before .before .before .before .before .before .before .before .before .before .loop .p) in let l = (c .before .before .before .before .before .before .before .before .before .before .before .before .before .before .before .before .before .before .before .before .before .before .before .before .before .before .before .before .before .before .read-line .result) in
     ((c .before .before .before .decide-edit .result) ≡ editIn false p (l .a) (l .b) (l .c) (l .d) (l .e) (l .f)) × ((c .before .before .before .before .before .before .before .before .before .before .before .before .before .before .before .before .before .spot .result) ≡ spotOf (natural (l .a)) (natural (l .d))) × ((c .before .before .before .before .before .before .before .before .before .before .before .before .before .before .before .before .capped .result) ≡ slotOf (p .head))
 edit-is c =
-    let p = (c .before .before .before .before .before .before .before .before .before .before .before .before .before .before .before .before .before .before .before .before .before .before .before .before .before .before .before .before .before .before .before .before .loop .p) in
-    let l = (c .before .before .before .before .before .before .before .before .before .before .before .before .before .before .before .before .before .before .before .before .before .before .before .before .before .before .before .before .before .read-line .result) in
-    let sound = (c .before .before .before .before .before .before .before .before .before .before .before .before .before .before .before .before .before .before .before .before .before .before .before .before .before .before .before .before .before .before .before .before .before .before .before .before .before .before .before .before .args .sound) in
-    let t = (c .before .before .before .before .before .before .before .before .before .before .before .before .before .before .before .before .before .before .before .before .before .before .before .before .before .before .before .struct-told .given) in
+    let p = (c .before .before .before .before .before .before .before .before .before .before .before .before .before .before .before .before .before .before .before .before .before .before .before .before .before .before .before .before .before .before .before .before .before .loop .p) in
+    let l = (c .before .before .before .before .before .before .before .before .before .before .before .before .before .before .before .before .before .before .before .before .before .before .before .before .before .before .before .before .before .before .read-line .result) in
+    let sound = (c .before .before .before .before .before .before .before .before .before .before .before .before .before .before .before .before .before .before .before .before .before .before .before .before .before .before .before .before .before .before .before .before .before .before .before .before .before .before .before .before .before .args .sound) in
+    let t = (c .before .before .before .before .before .before .before .before .before .before .before .before .before .before .before .before .before .before .before .before .before .before .before .before .before .before .before .before .struct-told .given) in
     let to-s = toZ-ofZ (fits32 (l .a) (t .1 .0 .1)) in
     let to-client = toZ-ofZ (fits32 (l .b) (t .1 .1 .0 .1)) in
     let to-n = toZ-ofZ (fits32 (l .c) (t .1 .1 .1 .0 .1)) in
     let to-m = toZ-ofZ (fits32 (l .d) (t .1 .1 .1 .1 .0 .1)) in
     let to-kind = toZ-ofZ (fits32 (l .e) (t .1 .1 .1 .1 .1 .0 .1)) in
     let to-k = toZ-ofZ (fits32 (l .f) (t .1 .1 .1 .1 .1 .1 .0 .1)) in
-    let d = edit-decided sound p (l .a) (l .b) (l .c) (l .d) (l .e) (l .f) ((c .before .before .before .before .before .before .before .before .before .before .before .before .before .before .before .before .before .before .before .before .seat2 .ensures .0) ∙ ap (seatOf (p .head)) to-n)
-    ((c .before .before .before .decide-edit .ensures) ∙ (λ j. editFrom (testedBy sound (c .before .before .before .before .before .before .before .before .before .before .before .before .before .before .before .before .before .before .before .before .before .before .before .before .before .before .before .before .before .before .before .before .loop .links)) (p .head) (p .lower) (p .gap) (p .upper) (p .firm) (p .values) (getD (p .edits) (c .before .before .before .before .before .before .before .before .before .before .before .before .before .before .before .before .before .before .before .before .seat2 .result) noRecord) (to-s j) (to-client j) (to-n j) (to-m j) (to-kind j) (to-k j)))
-    (λ e. (c .before .before .before .before .before .before .before .before .before .before .before .before .before .before .before .before .before .before .before .before .before .before .before .before .before .before .before .before .before .before .before .before .loop .inv .linked)) in
-    (d ∙ edit-held p sound (on-line (c .before .before .before .before .before .before .before .before .before .before .before .before .before .before .before .before .before .before .before .before .before .before .before .before .before .before .before .before .before .before .before) .0) (l .a) (l .b) (l .c) (l .d) (l .e) (l .f), (c .before .before .before .before .before .before .before .before .before .before .before .before .before .before .before .before .before .spot .ensures .0) ∙ (λ j. spotOf (natural (to-s j)) (natural (to-m j))), (c .before .before .before .before .before .before .before .before .before .before .before .before .before .before .before .before .capped .ensures))
+    let d = edit-decided sound p (l .a) (l .b) (l .c) (l .d) (l .e) (l .f) ((c .before .before .before .before .before .before .before .before .before .before .before .before .before .before .before .before .before .before .before .before .before .named2 .ensures .0) ∙ ap (namedAt (p .head)) to-n) (c .before .before .before .before .before .before .before .before .before .before .before .before .before .before .before .before .before .before .before .before .place2 .ensures .0)
+    ((c .before .before .before .decide-edit .ensures) ∙ (λ j. editFrom (testedBy sound (c .before .before .before .before .before .before .before .before .before .before .before .before .before .before .before .before .before .before .before .before .before .before .before .before .before .before .before .before .before .before .before .before .before .loop .links)) (p .head) (p .lower) (p .gap) (p .upper) (p .firm) (p .values) (c .before .before .before .before .before .before .before .before .before .before .before .before .before .before .before .before .before .before .before .before .before .named2 .result) (getD (p .edits) (c .before .before .before .before .before .before .before .before .before .before .before .before .before .before .before .before .before .before .before .before .place2 .result) noRecord) (to-s j) (to-client j) (to-n j) (to-m j) (to-kind j) (to-k j)))
+    (λ e. (c .before .before .before .before .before .before .before .before .before .before .before .before .before .before .before .before .before .before .before .before .before .before .before .before .before .before .before .before .before .before .before .before .before .loop .inv .linked)) in
+    (d ∙ edit-held p sound (on-line (c .before .before .before .before .before .before .before .before .before .before .before .before .before .before .before .before .before .before .before .before .before .before .before .before .before .before .before .before .before .before .before .before) .0) (l .a) (l .b) (l .c) (l .d) (l .e) (l .f), (c .before .before .before .before .before .before .before .before .before .before .before .before .before .before .before .before .before .spot .ensures .0) ∙ (λ j. spotOf (natural (to-s j)) (natural (to-m j))), (c .before .before .before .before .before .before .before .before .before .before .before .before .before .before .before .before .capped .ensures))
 
 -- the decision as it is stored
 abbrev decided : Decision → Decision
 decided d = record { head = d .head; value = toZ w32 (ofZ w32 (d .value)); kept = d .kept; entry = d .entry; answer = d .answer }
 
-edit-arm : (c : tie.After-entry Inv-loop2 μ-loop2 Inv-loop μ-loop) → let p = (c .before .before .before .before .before .before .before .before .before .before .before .before .before .before .before .before .before .before .before .before .before .before .before .before .before .before .before .before .before .before .before .before .loop .p) in let l = (c .before .before .before .before .before .before .before .before .before .before .before .before .before .before .before .before .before .before .before .before .before .before .before .before .before .before .before .before .before .read-line .result) in let q = stored p (c .before .before .before .before .before .before .before .before .before .before .before .before .before .before .before .before .before .spot .result) (c .before .before .before .before .before .before .before .before .before .before .before .before .before .before .before .before .capped .result) (decided (c .before .before .before .decide-edit .result)) in
+edit-arm : (c : tie.After-entry Inv-loop2 μ-loop2 Inv-loop μ-loop) → let p = (c .before .before .before .before .before .before .before .before .before .before .before .before .before .before .before .before .before .before .before .before .before .before .before .before .before .before .before .before .before .before .before .before .before .loop .p) in let l = (c .before .before .before .before .before .before .before .before .before .before .before .before .before .before .before .before .before .before .before .before .before .before .before .before .before .before .before .before .before .before .read-line .result) in let q = stored p (c .before .before .before .before .before .before .before .before .before .before .before .before .before .before .before .before .before .spot .result) (c .before .before .before .before .before .before .before .before .before .before .before .before .before .before .before .before .capped .result) (decided (c .before .before .before .decide-edit .result)) in
     Made (some (edit (l .a) (l .b) (l .c) (l .d) (l .e) (l .f))) p q (c .before .before .before .decide-edit .result .answer) [] × Sized q
 edit-arm c =
-    let p = (c .before .before .before .before .before .before .before .before .before .before .before .before .before .before .before .before .before .before .before .before .before .before .before .before .before .before .before .before .before .before .before .before .loop .p) in
-    let l = (c .before .before .before .before .before .before .before .before .before .before .before .before .before .before .before .before .before .before .before .before .before .before .before .before .before .before .before .before .before .read-line .result) in
+    let p = (c .before .before .before .before .before .before .before .before .before .before .before .before .before .before .before .before .before .before .before .before .before .before .before .before .before .before .before .before .before .before .before .before .before .loop .p) in
+    let l = (c .before .before .before .before .before .before .before .before .before .before .before .before .before .before .before .before .before .before .before .before .before .before .before .before .before .before .before .before .before .before .read-line .result) in
     let d = (c .before .before .before .decide-edit .result) in
     let g = edit-is c in
-    let z = (on-line (c .before .before .before .before .before .before .before .before .before .before .before .before .before .before .before .before .before .before .before .before .before .before .before .before .before .before .before .before .before .before .before) .1 .sized) in
+    let z = (on-line (c .before .before .before .before .before .before .before .before .before .before .before .before .before .before .before .before .before .before .before .before .before .before .before .before .before .before .before .before .before .before .before .before) .1 .sized) in
     let value = toZ-ofZ (fits32 (d .value) (c .before .struct-told9 .given .1 .0 .1)) in
     (meets-made _ p _ (rw (value, g .1, g .2, g .0) (edit-meets p z (l .a) (l .b) (l .c) (l .d) (l .e) (l .f))), edit-sized p (c .before .before .before .before .before .before .before .before .before .before .before .before .before .before .before .before .before .spot .result) (c .before .before .before .before .before .before .before .before .before .before .before .before .before .before .before .before .capped .result) (decided (c .before .before .before .decide-edit .result)) z)
 
-edit-tallied : (c : tie.After-entry Inv-loop2 μ-loop2 Inv-loop μ-loop) → let p = (c .before .before .before .before .before .before .before .before .before .before .before .before .before .before .before .before .before .before .before .before .before .before .before .before .before .before .before .before .before .before .before .before .loop .p) in let l = (c .before .before .before .before .before .before .before .before .before .before .before .before .before .before .before .before .before .before .before .before .before .before .before .before .before .before .before .before .before .read-line .result) in let d = (c .before .before .before .decide-edit .result) in
-    Tallied (cond (d .kept) (oneUnsent (natural (l .a)) (getD (p .arrived) (indexOf (natural (l .a))) false) (c .before .before .before .before .before .before .before .before .before .before .before .before .before .before .before .before .before .before .before .before .before .before .before .before .before .before .before .before .before .before .before .before .loop .t)) (c .before .before .before .before .before .before .before .before .before .before .before .before .before .before .before .before .before .before .before .before .before .before .before .before .before .before .before .before .before .before .before .before .loop .t)) (view (stored p (c .before .before .before .before .before .before .before .before .before .before .before .before .before .before .before .before .before .spot .result) (c .before .before .before .before .before .before .before .before .before .before .before .before .before .before .before .before .capped .result) (decided (c .before .before .before .decide-edit .result))))
+edit-tallied : (c : tie.After-entry Inv-loop2 μ-loop2 Inv-loop μ-loop) → let p = (c .before .before .before .before .before .before .before .before .before .before .before .before .before .before .before .before .before .before .before .before .before .before .before .before .before .before .before .before .before .before .before .before .before .loop .p) in let l = (c .before .before .before .before .before .before .before .before .before .before .before .before .before .before .before .before .before .before .before .before .before .before .before .before .before .before .before .before .before .before .read-line .result) in let d = (c .before .before .before .decide-edit .result) in
+    Tallied (cond (d .kept) (oneUnsent (natural (l .a)) (getD (p .arrived) (indexOf (natural (l .a))) false) (c .before .before .before .before .before .before .before .before .before .before .before .before .before .before .before .before .before .before .before .before .before .before .before .before .before .before .before .before .before .before .before .before .before .loop .t)) (c .before .before .before .before .before .before .before .before .before .before .before .before .before .before .before .before .before .before .before .before .before .before .before .before .before .before .before .before .before .before .before .before .before .loop .t)) (view (stored p (c .before .before .before .before .before .before .before .before .before .before .before .before .before .before .before .before .before .spot .result) (c .before .before .before .before .before .before .before .before .before .before .before .before .before .before .before .before .capped .result) (decided (c .before .before .before .decide-edit .result))))
 edit-tallied c =
-    let p = (c .before .before .before .before .before .before .before .before .before .before .before .before .before .before .before .before .before .before .before .before .before .before .before .before .before .before .before .before .before .before .before .before .loop .p) in
-    let l = (c .before .before .before .before .before .before .before .before .before .before .before .before .before .before .before .before .before .before .before .before .before .before .before .before .before .before .before .before .before .read-line .result) in
+    let p = (c .before .before .before .before .before .before .before .before .before .before .before .before .before .before .before .before .before .before .before .before .before .before .before .before .before .before .before .before .before .before .before .before .before .loop .p) in
+    let l = (c .before .before .before .before .before .before .before .before .before .before .before .before .before .before .before .before .before .before .before .before .before .before .before .before .before .before .before .before .before .before .read-line .result) in
     let m = edit-arm c .0 in
-    subst (λ u. Tallied u (view (stored p (c .before .before .before .before .before .before .before .before .before .before .before .before .before .before .before .before .before .spot .result) (c .before .before .before .before .before .before .before .before .before .before .before .before .before .before .before .before .capped .result) (decided (c .before .before .before .decide-edit .result))))) (sym (edit-counts p (l .a) (l .b) (l .c) (l .d) (l .e) (l .f) (c .before .before .before .decide-edit .result) (edit-is c .0) m (c .before .before .before .before .before .before .before .before .before .before .before .before .before .before .before .before .before .before .before .before .before .before .before .before .before .before .before .before .before .before .before .before .loop .t))) (tallied-made _ m (c .before .before .before .before .before .before .before .before .before .before .before .before .before .before .before .before .before .before .before .before .before .before .before .before .before .before .before .before .before .before .before .before .loop .t) (on-line (c .before .before .before .before .before .before .before .before .before .before .before .before .before .before .before .before .before .before .before .before .before .before .before .before .before .before .before .before .before .before .before) .1 .tallied))
+    subst (λ u. Tallied u (view (stored p (c .before .before .before .before .before .before .before .before .before .before .before .before .before .before .before .before .before .spot .result) (c .before .before .before .before .before .before .before .before .before .before .before .before .before .before .before .before .capped .result) (decided (c .before .before .before .decide-edit .result))))) (sym (edit-counts p (l .a) (l .b) (l .c) (l .d) (l .e) (l .f) (c .before .before .before .decide-edit .result) (edit-is c .0) m (c .before .before .before .before .before .before .before .before .before .before .before .before .before .before .before .before .before .before .before .before .before .before .before .before .before .before .before .before .before .before .before .before .before .loop .t))) (tallied-made _ m (c .before .before .before .before .before .before .before .before .before .before .before .before .before .before .before .before .before .before .before .before .before .before .before .before .before .before .before .before .before .before .before .before .before .loop .t) (on-line (c .before .before .before .before .before .before .before .before .before .before .before .before .before .before .before .before .before .before .before .before .before .before .before .before .before .before .before .before .before .before .before .before) .1 .tallied))
 
-edit-turned : (c : tie.After-entry Inv-loop2 μ-loop2 Inv-loop μ-loop) (b : Bool) {q : State} {u : Tallies} {a : Answer} → let p = (c .before .before .before .before .before .before .before .before .before .before .before .before .before .before .before .before .before .before .before .before .before .before .before .before .before .before .before .before .before .before .before .before .loop .p) in let l = (c .before .before .before .before .before .before .before .before .before .before .before .before .before .before .before .before .before .before .before .before .before .before .before .before .before .before .before .before .before .read-line .result) in let d = decided (c .before .before .before .decide-edit .result) in d .kept ≡ b
+edit-turned : (c : tie.After-entry Inv-loop2 μ-loop2 Inv-loop μ-loop) (b : Bool) {q : State} {u : Tallies} {a : Answer} → let p = (c .before .before .before .before .before .before .before .before .before .before .before .before .before .before .before .before .before .before .before .before .before .before .before .before .before .before .before .before .before .before .before .before .before .loop .p) in let l = (c .before .before .before .before .before .before .before .before .before .before .before .before .before .before .before .before .before .before .before .before .before .before .before .before .before .before .before .before .before .before .read-line .result) in let d = decided (c .before .before .before .decide-edit .result) in d .kept ≡ b
     → q ≡ record { head = d .head; base = p .base; draft = p .draft; values = set (p .values) (c .before .before .before .before .before .before .before .before .before .before .before .before .before .before .before .before .before .spot .result) (d .value); arrived = p .arrived; confirmed = p .confirmed; lower = p .lower; gap = p .gap; upper = p .upper; firm = p .firm; edits = cond b (set (p .edits) (c .before .before .before .before .before .before .before .before .before .before .before .before .before .before .before .before .capped .result) (d .entry)) (p .edits) }
-    → u ≡ cond b (oneUnsent (natural (l .a)) (getD (p .arrived) (indexOf (natural (l .a))) false) (c .before .before .before .before .before .before .before .before .before .before .before .before .before .before .before .before .before .before .before .before .before .before .before .before .before .before .before .before .before .before .before .before .loop .t)) (c .before .before .before .before .before .before .before .before .before .before .before .before .before .before .before .before .before .before .before .before .before .before .before .before .before .before .before .before .before .before .before .before .loop .t)
-    → a ≡ d .answer → Turned (isDraw (l .op)) (doneEdit (l .op)) (lineIn l) p q (c .before .before .before .before .before .before .before .before .before .before .before .before .before .before .before .before .before .before .before .before .before .before .before .before .before .before .before .before .before .before .before .before .loop .t) u a (c .before .before .before .before .before .before .before .before .before .before .before .before .before .before .before .before .before .before .before .before .before .before .before .before .if1 .first) (c .before .before .before .before .before .before .before .before .before .before .before .before .before .before .before .before .before .before .before .before .before .before .before .before .if1 .width)
+    → u ≡ cond b (oneUnsent (natural (l .a)) (getD (p .arrived) (indexOf (natural (l .a))) false) (c .before .before .before .before .before .before .before .before .before .before .before .before .before .before .before .before .before .before .before .before .before .before .before .before .before .before .before .before .before .before .before .before .before .loop .t)) (c .before .before .before .before .before .before .before .before .before .before .before .before .before .before .before .before .before .before .before .before .before .before .before .before .before .before .before .before .before .before .before .before .before .loop .t)
+    → a ≡ d .answer → Turned (isDraw (l .op)) (doneEdit (l .op)) (lineIn l) p q (c .before .before .before .before .before .before .before .before .before .before .before .before .before .before .before .before .before .before .before .before .before .before .before .before .before .before .before .before .before .before .before .before .before .loop .t) u a (c .before .before .before .before .before .before .before .before .before .before .before .before .before .before .before .before .before .before .before .before .before .before .before .before .before .if1 .first) (c .before .before .before .before .before .before .before .before .before .before .before .before .before .before .before .before .before .before .before .before .before .before .before .before .before .if1 .width)
 edit-turned c b k e v g =
-    let p = (c .before .before .before .before .before .before .before .before .before .before .before .before .before .before .before .before .before .before .before .before .before .before .before .before .before .before .before .before .before .before .before .before .loop .p) in
-    let l = (c .before .before .before .before .before .before .before .before .before .before .before .before .before .before .before .before .before .before .before .before .before .before .before .before .before .before .before .before .before .read-line .result) in
+    let p = (c .before .before .before .before .before .before .before .before .before .before .before .before .before .before .before .before .before .before .before .before .before .before .before .before .before .before .before .before .before .before .before .before .before .loop .p) in
+    let l = (c .before .before .before .before .before .before .before .before .before .before .before .before .before .before .before .before .before .before .before .before .before .before .before .before .before .before .before .before .before .before .read-line .result) in
     let m = edit-arm c in
-    taken (turned1 (c .before .before .before .before .before .before .before .before .before .before .before .before .before .before .before .before .before .before .before .before .before .before .before .before)) (eq-eqb _ 5 (c .before .before .before .before .before .before .before .before .before .before .before .before .before .before .before .before .before .before .before .before .before .before .before .if2 .taken)) (off-edit _ (c .before .before .before .before .before .before .before .before .before .before .before .before .before .before .before .before .before .before .before .before .before .before .before .if2 .taken))
+    taken (turned1 (c .before .before .before .before .before .before .before .before .before .before .before .before .before .before .before .before .before .before .before .before .before .before .before .before .before)) (eq-eqb _ 5 (c .before .before .before .before .before .before .before .before .before .before .before .before .before .before .before .before .before .before .before .before .before .before .before .before .if2 .taken)) (off-edit _ (c .before .before .before .before .before .before .before .before .before .before .before .before .before .before .before .before .before .before .before .before .before .before .before .before .if2 .taken))
     (e ∙ kept-stored p (c .before .before .before .before .before .before .before .before .before .before .before .before .before .before .before .before .before .spot .result) (c .before .before .before .before .before .before .before .before .before .before .before .before .before .before .before .before .capped .result) (decided (c .before .before .before .decide-edit .result)) b k)
-    (v ∙ ap (λ x. cond x (oneUnsent (natural (l .a)) (getD (p .arrived) (indexOf (natural (l .a))) false) (c .before .before .before .before .before .before .before .before .before .before .before .before .before .before .before .before .before .before .before .before .before .before .before .before .before .before .before .before .before .before .before .before .loop .t)) (c .before .before .before .before .before .before .before .before .before .before .before .before .before .before .before .before .before .before .before .before .before .before .before .before .before .before .before .before .before .before .before .before .loop .t)) (sym k)) g refl refl
-    (rw (line-edit l (c .before .before .before .before .before .before .before .before .before .before .before .before .before .before .before .before .before .before .before .before .before .before .before .if2 .taken)) (m .0)) (λ x. edit-rules p (c .before .before .before .before .before .before .before .before .before .before .before .before .before .before .before .before .before .spot .result) (c .before .before .before .before .before .before .before .before .before .before .before .before .before .before .before .before .capped .result) false (l .a) (l .b) (l .c) (l .d) (l .e) (l .f) (decided (c .before .before .before .decide-edit .result)) (ap (λ y. y .head) (edit-is c .0))) (m .1) (edit-tallied c)
+    (v ∙ ap (λ x. cond x (oneUnsent (natural (l .a)) (getD (p .arrived) (indexOf (natural (l .a))) false) (c .before .before .before .before .before .before .before .before .before .before .before .before .before .before .before .before .before .before .before .before .before .before .before .before .before .before .before .before .before .before .before .before .before .loop .t)) (c .before .before .before .before .before .before .before .before .before .before .before .before .before .before .before .before .before .before .before .before .before .before .before .before .before .before .before .before .before .before .before .before .before .loop .t)) (sym k)) g refl refl
+    (rw (line-edit l (c .before .before .before .before .before .before .before .before .before .before .before .before .before .before .before .before .before .before .before .before .before .before .before .before .if2 .taken)) (m .0)) (λ x. edit-rules p (c .before .before .before .before .before .before .before .before .before .before .before .before .before .before .before .before .before .spot .result) (c .before .before .before .before .before .before .before .before .before .before .before .before .before .before .before .before .capped .result) false (l .a) (l .b) (l .c) (l .d) (l .e) (l .f) (decided (c .before .before .before .decide-edit .result)) (ap (λ y. y .head) (edit-is c .0))) (m .1) (edit-tallied c)
 
 -- the counts with it
-kept-counted : (c : tie.After-after-kept Inv-loop2 μ-loop2 Inv-loop μ-loop) → let l = (c .before .before .before .before .before .before .before .before .before .before .before .before .before .before .before .before .before .before .before .before .before .before .before .before .before .before .before .before .before .before .before .before .before .read-line .result) in (c .after-kept .result) ≡ oneUnsent (natural (l .a)) (getD (c .before .before .before .before .before .before .before .before .before .before .before .before .before .before .before .before .before .before .before .before .before .before .before .before .before .before .before .before .before .before .before .before .before .before .before .before .loop .p .arrived) (indexOf (natural (l .a))) false) (c .before .before .before .before .before .before .before .before .before .before .before .before .before .before .before .before .before .before .before .before .before .before .before .before .before .before .before .before .before .before .before .before .before .before .before .before .loop .t)
+kept-counted : (c : tie.After-after-kept Inv-loop2 μ-loop2 Inv-loop μ-loop) → let l = (c .before .before .before .before .before .before .before .before .before .before .before .before .before .before .before .before .before .before .before .before .before .before .before .before .before .before .before .before .before .before .before .before .before .before .read-line .result) in (c .after-kept .result) ≡ oneUnsent (natural (l .a)) (getD (c .before .before .before .before .before .before .before .before .before .before .before .before .before .before .before .before .before .before .before .before .before .before .before .before .before .before .before .before .before .before .before .before .before .before .before .before .before .loop .p .arrived) (indexOf (natural (l .a))) false) (c .before .before .before .before .before .before .before .before .before .before .before .before .before .before .before .before .before .before .before .before .before .before .before .before .before .before .before .before .before .before .before .before .before .before .before .before .before .loop .t)
 kept-counted c =
-    let l = (c .before .before .before .before .before .before .before .before .before .before .before .before .before .before .before .before .before .before .before .before .before .before .before .before .before .before .before .before .before .before .before .before .before .read-line .result) in
-    let side = (c .before .before .before .before .before .before .before .before .before .before .before .before .before .before .before .before .before .before .before .before .before .before .before .before .before .before .before .before .before .before .number .ensures) ∙ ap natural (toZ-ofZ (fits32 (l .a) (c .before .before .before .before .before .before .before .before .before .before .before .before .before .before .before .before .before .before .before .before .before .before .before .before .before .before .before .before .before .before .before .struct-told .given .1 .0 .1))) in
+    let l = (c .before .before .before .before .before .before .before .before .before .before .before .before .before .before .before .before .before .before .before .before .before .before .before .before .before .before .before .before .before .before .before .before .before .before .read-line .result) in
+    let side = (c .before .before .before .before .before .before .before .before .before .before .before .before .before .before .before .before .before .before .before .before .before .before .before .before .before .before .before .before .before .before .before .number .ensures) ∙ ap natural (toZ-ofZ (fits32 (l .a) (c .before .before .before .before .before .before .before .before .before .before .before .before .before .before .before .before .before .before .before .before .before .before .before .before .before .before .before .before .before .before .before .before .struct-told .given .1 .0 .1))) in
     let place = (c .before .before .index .ensures .0) ∙ ap indexOf side in
-    (c .after-kept .ensures) ∙ (λ j. oneUnsent (side j) (getD (c .before .before .before .before .before .before .before .before .before .before .before .before .before .before .before .before .before .before .before .before .before .before .before .before .before .before .before .before .before .before .before .before .before .before .before .before .loop .p .arrived) (place j) false) (c .before .before .before .before .before .before .before .before .before .before .before .before .before .before .before .before .before .before .before .before .before .before .before .before .before .before .before .before .before .before .before .before .before .before .before .before .loop .t))
+    (c .after-kept .ensures) ∙ (λ j. oneUnsent (side j) (getD (c .before .before .before .before .before .before .before .before .before .before .before .before .before .before .before .before .before .before .before .before .before .before .before .before .before .before .before .before .before .before .before .before .before .before .before .before .before .loop .p .arrived) (place j) false) (c .before .before .before .before .before .before .before .before .before .before .before .before .before .before .before .before .before .before .before .before .before .before .before .before .before .before .before .before .before .before .before .before .before .before .before .before .before .loop .t))
 
-edit-kept : (c : tie.After-after-kept Inv-loop2 μ-loop2 Inv-loop μ-loop) {q : State} {u : Tallies} {a : Answer} → let p = (c .before .before .before .before .before .before .before .before .before .before .before .before .before .before .before .before .before .before .before .before .before .before .before .before .before .before .before .before .before .before .before .before .before .before .before .before .loop .p) in let l = (c .before .before .before .before .before .before .before .before .before .before .before .before .before .before .before .before .before .before .before .before .before .before .before .before .before .before .before .before .before .before .before .before .before .read-line .result) in let d = decided (c .before .before .before .before .before .before .before .decide-edit .result) in
+edit-kept : (c : tie.After-after-kept Inv-loop2 μ-loop2 Inv-loop μ-loop) {q : State} {u : Tallies} {a : Answer} → let p = (c .before .before .before .before .before .before .before .before .before .before .before .before .before .before .before .before .before .before .before .before .before .before .before .before .before .before .before .before .before .before .before .before .before .before .before .before .before .loop .p) in let l = (c .before .before .before .before .before .before .before .before .before .before .before .before .before .before .before .before .before .before .before .before .before .before .before .before .before .before .before .before .before .before .before .before .before .before .read-line .result) in let d = decided (c .before .before .before .before .before .before .before .decide-edit .result) in
     q ≡ record { head = d .head; base = p .base; draft = p .draft; values = set (p .values) (c .before .before .before .before .before .before .before .before .before .before .before .before .before .before .before .before .before .before .before .before .before .spot .result) (d .value); arrived = p .arrived; confirmed = p .confirmed; lower = p .lower; gap = p .gap; upper = p .upper; firm = p .firm; edits = set (p .edits) (c .before .before .before .before .before .before .before .before .before .before .before .before .before .before .before .before .before .before .before .before .capped .result) (d .entry) }
-    → u ≡ (c .after-kept .result) → a ≡ d .answer → Turned (isDraw (l .op)) (doneEdit (l .op)) (lineIn l) p q (c .before .before .before .before .before .before .before .before .before .before .before .before .before .before .before .before .before .before .before .before .before .before .before .before .before .before .before .before .before .before .before .before .before .before .before .before .loop .t) u a (c .before .before .before .before .before .before .before .before .before .before .before .before .before .before .before .before .before .before .before .before .before .before .before .before .before .before .before .before .if1 .first) (c .before .before .before .before .before .before .before .before .before .before .before .before .before .before .before .before .before .before .before .before .before .before .before .before .before .before .before .before .if1 .width)
+    → u ≡ (c .after-kept .result) → a ≡ d .answer → Turned (isDraw (l .op)) (doneEdit (l .op)) (lineIn l) p q (c .before .before .before .before .before .before .before .before .before .before .before .before .before .before .before .before .before .before .before .before .before .before .before .before .before .before .before .before .before .before .before .before .before .before .before .before .before .loop .t) u a (c .before .before .before .before .before .before .before .before .before .before .before .before .before .before .before .before .before .before .before .before .before .before .before .before .before .before .before .before .before .if1 .first) (c .before .before .before .before .before .before .before .before .before .before .before .before .before .before .before .before .before .before .before .before .before .before .before .before .before .before .before .before .before .if1 .width)
 edit-kept c e v g = edit-turned (c .before .before .before .before) true (c .before .before .before .if3 .taken) e (v ∙ kept-counted c) g
 
 turned2 : (c : tie.Joined2 Inv-loop2 μ-loop2 Inv-loop μ-loop) → Turned (isDraw (c .before .before .before .before .before .before .read-line .result .op)) (doneEdit (c .before .before .before .before .before .before .read-line .result .op)) (lineIn (c .before .before .before .before .before .before .read-line .result)) (c .before .before .before .before .before .before .before .before .before .loop .p) (c .if2 .p) (c .before .before .before .before .before .before .before .before .before .loop .t) (c .if2 .t) (c .if2 .answer) (c .before .if1 .first) (c .before .if1 .width)
 turned2 c =
     on (c .if2 .came)
-    (λ w. edit-kept (record { before = record { before = record { before = record { before = record { before = record { before = record { before = record { before = record { before = record { before = record { before = record { before = record { before = record { before = record { before = record { before = record { before = record { before = record { before = record { before = record { before = record { before = record { before = record { before = record { before = record { before = record { before = record { before = (c .before); if2 = w .0 }; h2 = w .1 }; struct-told2 = w .2 }; seat2 = w .3 }; seen2 = w .4 }; struct-told3 = w .5 }; spot = w .6 }; capped = w .7 }; p2 = w .8 }; decide-edit-arg = w .9 }; decide-edit-arg2 = w .10 }; decide-edit-arg3 = w .11 }; decide-edit-arg4 = w .12 }; links = w .13 }; decide-edit-arg5 = w .14 }; struct-told4 = w .15 }; struct-told5 = w .16 }; struct-told6 = w .17 }; struct-told7 = w .18 }; struct-told8 = w .19 }; decide-edit = w .20 }; head = w .21 }; struct-told9 = w .22 }; entry = w .23 }; if3 = w .24 }; index = w .25 }; flag = w .26 }; after-kept = w .27 }) (w .28) (w .29) (w .30))
+    (λ w. edit-kept (record { before = record { before = record { before = record { before = record { before = record { before = record { before = record { before = record { before = record { before = record { before = record { before = record { before = record { before = record { before = record { before = record { before = record { before = record { before = record { before = record { before = record { before = record { before = record { before = record { before = record { before = record { before = record { before = record { before = (c .before); if2 = w .0 }; h2 = w .1 }; struct-told2 = w .2 }; named2 = w .3 }; place2 = w .4 }; seen2 = w .5 }; struct-told3 = w .6 }; spot = w .7 }; capped = w .8 }; p2 = w .9 }; decide-edit-arg = w .10 }; decide-edit-arg2 = w .11 }; decide-edit-arg3 = w .12 }; decide-edit-arg4 = w .13 }; links = w .14 }; decide-edit-arg5 = w .15 }; struct-told4 = w .16 }; struct-told5 = w .17 }; struct-told6 = w .18 }; struct-told7 = w .19 }; struct-told8 = w .20 }; decide-edit = w .21 }; head = w .22 }; struct-told9 = w .23 }; entry = w .24 }; if3 = w .25 }; index = w .26 }; flag = w .27 }; after-kept = w .28 }) (w .29) (w .30) (w .31))
     (λ z. on z
-    (λ w. edit-turned (record { before = record { before = record { before = record { before = record { before = record { before = record { before = record { before = record { before = record { before = record { before = record { before = record { before = record { before = record { before = record { before = record { before = record { before = record { before = record { before = record { before = record { before = record { before = record { before = (c .before); if2 = w .0 }; h2 = w .1 }; struct-told2 = w .2 }; seat2 = w .3 }; seen2 = w .4 }; struct-told3 = w .5 }; spot = w .6 }; capped = w .7 }; p2 = w .8 }; decide-edit-arg = w .9 }; decide-edit-arg2 = w .10 }; decide-edit-arg3 = w .11 }; decide-edit-arg4 = w .12 }; links = w .13 }; decide-edit-arg5 = w .14 }; struct-told4 = w .15 }; struct-told5 = w .16 }; struct-told6 = w .17 }; struct-told7 = w .18 }; struct-told8 = w .19 }; decide-edit = w .20 }; head = w .21 }; struct-told9 = w .22 }; entry = w .23 }) false ((w .24) .left) (w .25) (w .26) (w .27))
+    (λ w. edit-turned (record { before = record { before = record { before = record { before = record { before = record { before = record { before = record { before = record { before = record { before = record { before = record { before = record { before = record { before = record { before = record { before = record { before = record { before = record { before = record { before = record { before = record { before = record { before = record { before = record { before = (c .before); if2 = w .0 }; h2 = w .1 }; struct-told2 = w .2 }; named2 = w .3 }; place2 = w .4 }; seen2 = w .5 }; struct-told3 = w .6 }; spot = w .7 }; capped = w .8 }; p2 = w .9 }; decide-edit-arg = w .10 }; decide-edit-arg2 = w .11 }; decide-edit-arg3 = w .12 }; decide-edit-arg4 = w .13 }; links = w .14 }; decide-edit-arg5 = w .15 }; struct-told4 = w .16 }; struct-told5 = w .17 }; struct-told6 = w .18 }; struct-told7 = w .19 }; struct-told8 = w .20 }; decide-edit = w .21 }; head = w .22 }; struct-told9 = w .23 }; entry = w .24 }) false ((w .25) .left) (w .26) (w .27) (w .28))
     (λ w. passed-by (turned1 (c .before)) (ne-eqb _ 5 (w .0 .left)) (w .1) (w .2) (w .3) refl refl))
 
 -- ---- a replay
@@ -308,39 +310,36 @@ turned2 c =
 abbrev settled : replaying-decision.Decision → replaying-decision.Decision
 settled d = record { amount = toZ w32 (ofZ w32 (d .amount)); entry = d .entry; answer = d .answer }
 
-replay-arm : (c : tie.After-entry2 Inv-loop2 μ-loop2 Inv-loop μ-loop) → let p = (c .before .before .before .before .before .before .before .before .before .before .before .before .before .before .before .before .before .if2 .p) in let d = (c .before .before .decide-replay .result) in
-    let q = replaying.stored p (c .before .before .before .before .before .before .before .before .before .before .point-of .result) (c .before .before .before .before .before .before .before .before .before .before .before .before .before .before .seat3 .result) (settled d) in
-    Made (some (replay (c .before .before .before .before .before .before .before .before .before .before .before .before .before .before .before .before .before .before .before .before .before .before .before .read-line .result .a))) p q (d .answer) [] × Sized q
+replay-arm : (c : tie.After-entry2 Inv-loop2 μ-loop2 Inv-loop μ-loop) → let p = (c .before .before .before .before .before .before .before .before .before .before .before .before .before .before .before .before .before .before .before .if2 .p) in let d = (c .before .before .decide-replay .result) in
+    let q = replaying.stored p (c .before .before .before .before .before .before .before .before .before .before .point-of .result) (c .before .before .before .before .before .before .before .before .before .before .before .before .before .before .before .place3 .result) (settled d) in
+    Made (some (replay (c .before .before .before .before .before .before .before .before .before .before .before .before .before .before .before .before .before .before .before .before .before .before .before .before .before .read-line .result .a))) p q (d .answer) [] × Sized q
 replay-arm c =
-    let p = (c .before .before .before .before .before .before .before .before .before .before .before .before .before .before .before .before .before .if2 .p) in
-    let l = (c .before .before .before .before .before .before .before .before .before .before .before .before .before .before .before .before .before .before .before .before .before .before .before .read-line .result) in
+    let p = (c .before .before .before .before .before .before .before .before .before .before .before .before .before .before .before .before .before .before .before .if2 .p) in
+    let l = (c .before .before .before .before .before .before .before .before .before .before .before .before .before .before .before .before .before .before .before .before .before .before .before .before .before .read-line .result) in
     let d = (c .before .before .decide-replay .result) in
-    let sound = (c .before .before .before .before .before .before .before .before .before .before .before .before .before .before .before .before .before .before .before .before .before .before .before .before .before .before .before .before .before .before .before .before .before .before .args .sound) in
-    let k = turned2 (c .before .before .before .before .before .before .before .before .before .before .before .before .before .before .before .before .before) in
-    let off = off-replay _ (c .before .before .before .before .before .before .before .before .before .before .before .before .before .before .before .before .if4 .taken) in
-    let to-n = toZ-ofZ (fits32 (l .a) (c .before .before .before .before .before .before .before .before .before .before .before .before .before .before .before .before .before .before .before .before .before .struct-told .given .1 .0 .1)) in
-    let standing = getD (p .edits) (c .before .before .before .before .before .before .before .before .before .before .before .before .before .before .seat3 .result) noRecord in
-    let slot = (c .before .before .before .before .before .before .before .before .before .before .before .before .before .before .seat3 .ensures .0) ∙ ap (seatOf (p .head)) to-n in
-    let seat = (c .before .before .before .before .before .before .before .before .before .before .before .before .earlier-seat .ensures .0) ∙ ap (λ j. placeOf (replaying.earlierAt (p .head) j standing)) to-n in
-    let point = point-decided p (l .a) slot ((c .before .before .before .before .before .before .before .before .before .before .point-of .ensures .0) ∙ ap (λ j. replaying.pointOf (replaying.standingAt (p .head) j standing .measure)) to-n) in
-    let g = replay-decided sound p (l .a) slot seat (ap (λ j. j + 1) (settled-few p (c .before .before .before .before .before .before .before .before .before .before .before .before .before .before .before .before .before .if2 .t) (k .tallied)))
-    ((c .before .before .decide-replay .ensures) ∙ (λ j. replaying.replayFrom (testedBy sound (c .before .before .before .before .before .before .before .before .before .before .before .before .before .before .before .before .before .before .before .before .before .before .before .before .before .before .loop .links)) (p .head) (p .lower) (p .gap) (p .upper) (p .draft) (p .arrived) (to-n j) standing (getD (p .edits) (c .before .before .before .before .before .before .before .before .before .before .before .before .earlier-seat .result) noRecord) (min (c .before .before .before .before .before .before .before .before .before .before .before .before .before .before .before .before .before .if2 .t .settled) 256 + 1)))
-    (λ e. still (λ s. Linked (c .before .before .before .before .before .before .before .before .before .before .before .before .before .before .before .before .before .before .before .before .before .before .before .before .before .before .loop .links) (s .lower) (s .upper) 0 (min (s .head .rules) 64)) k off (c .before .before .before .before .before .before .before .before .before .before .before .before .before .before .before .before .before .before .before .before .before .before .before .before .before .before .loop .inv .linked)) in
-    let held = replay-held p sound (still (Sound sound) k off (on-line (c .before .before .before .before .before .before .before .before .before .before .before .before .before .before .before .before .before .before .before .before .before .before .before .before .before) .0)) (l .a) in
+    let sound = (c .before .before .before .before .before .before .before .before .before .before .before .before .before .before .before .before .before .before .before .before .before .before .before .before .before .before .before .before .before .before .before .before .before .before .before .before .args .sound) in
+    let k = turned2 (c .before .before .before .before .before .before .before .before .before .before .before .before .before .before .before .before .before .before .before) in
+    let off = off-replay _ (c .before .before .before .before .before .before .before .before .before .before .before .before .before .before .before .before .before .before .if4 .taken) in
+    let named = (c .before .before .before .before .before .before .before .before .before .before .before .before .before .before .before .before .named3 .ensures .0) ∙ ap (namedAt (p .head)) (toZ-ofZ (fits32 (l .a) (c .before .before .before .before .before .before .before .before .before .before .before .before .before .before .before .before .before .before .before .before .before .before .before .struct-told .given .1 .0 .1))) in
+    let slot = (c .before .before .before .before .before .before .before .before .before .before .before .before .before .before .before .place3 .ensures .0) ∙ ap placeOf named in
+    let point = point-decided p (l .a) named (c .before .before .before .before .before .before .before .before .before .before .before .before .before .before .before .place3 .ensures .0) (c .before .before .before .before .before .before .before .before .before .before .point-of .ensures .0) in
+    let g = replay-decided sound p (l .a) named (c .before .before .before .before .before .before .before .before .before .before .before .before .before .before .before .place3 .ensures .0) (c .before .before .before .before .before .before .before .before .before .before .before .before .before .earlier .ensures .0) (c .before .before .before .before .before .before .before .before .before .before .before .before .place4 .ensures .0) (ap (λ j. j + 1) (settled-few p (c .before .before .before .before .before .before .before .before .before .before .before .before .before .before .before .before .before .before .before .if2 .t) (k .tallied))) (c .before .before .decide-replay .ensures)
+    (λ e. still (λ s. Linked (c .before .before .before .before .before .before .before .before .before .before .before .before .before .before .before .before .before .before .before .before .before .before .before .before .before .before .before .before .loop .links) (s .lower) (s .upper) 0 (min (s .head .rules) 64)) k off (c .before .before .before .before .before .before .before .before .before .before .before .before .before .before .before .before .before .before .before .before .before .before .before .before .before .before .before .before .loop .inv .linked)) in
+    let held = replay-held p sound (still (Sound sound) k off (on-line (c .before .before .before .before .before .before .before .before .before .before .before .before .before .before .before .before .before .before .before .before .before .before .before .before .before .before .before) .0)) (l .a) in
     let amount = toZ-ofZ (fits32 (d .amount) (c .before .struct-told10 .given .0 .1)) in
-    (meets-made _ p _ (rw (amount, point, slot, g ∙ held) (replay-meets p (k .sized) (l .a))), replay-sized p (c .before .before .before .before .before .before .before .before .before .before .point-of .result) (c .before .before .before .before .before .before .before .before .before .before .before .before .before .before .seat3 .result) (settled d) (k .sized))
+    (meets-made _ p _ (rw (amount, point, slot, g ∙ held) (replay-meets p (k .sized) (l .a))), replay-sized p (c .before .before .before .before .before .before .before .before .before .before .point-of .result) (c .before .before .before .before .before .before .before .before .before .before .before .before .before .before .before .place3 .result) (settled d) (k .sized))
 
-replay-turned : (c : tie.After-after-replay Inv-loop2 μ-loop2 Inv-loop μ-loop) {q : State} {u : Tallies} {a : Answer} → let d = (c .before .before .before .decide-replay .result) in q ≡ replaying.stored (c .before .before .before .before .before .before .before .before .before .before .before .before .before .before .before .before .before .before .if2 .p) (c .before .before .before .before .before .before .before .before .before .before .before .point-of .result) (c .before .before .before .before .before .before .before .before .before .before .before .before .before .before .before .seat3 .result) (settled d) → u ≡ (c .after-replay .result) → a ≡ d .answer
-    → Turned (isDraw (c .before .before .before .before .before .before .before .before .before .before .before .before .before .before .before .before .before .before .before .before .before .before .before .before .read-line .result .op)) (doneReplay (c .before .before .before .before .before .before .before .before .before .before .before .before .before .before .before .before .before .before .before .before .before .before .before .before .read-line .result .op)) (lineIn (c .before .before .before .before .before .before .before .before .before .before .before .before .before .before .before .before .before .before .before .before .before .before .before .before .read-line .result)) (c .before .before .before .before .before .before .before .before .before .before .before .before .before .before .before .before .before .before .before .before .before .before .before .before .before .before .before .loop .p) q (c .before .before .before .before .before .before .before .before .before .before .before .before .before .before .before .before .before .before .before .before .before .before .before .before .before .before .before .loop .t) u a (c .before .before .before .before .before .before .before .before .before .before .before .before .before .before .before .before .before .before .before .if1 .first) (c .before .before .before .before .before .before .before .before .before .before .before .before .before .before .before .before .before .before .before .if1 .width)
+replay-turned : (c : tie.After-after-replay Inv-loop2 μ-loop2 Inv-loop μ-loop) {q : State} {u : Tallies} {a : Answer} → let d = (c .before .before .before .decide-replay .result) in q ≡ replaying.stored (c .before .before .before .before .before .before .before .before .before .before .before .before .before .before .before .before .before .before .before .before .if2 .p) (c .before .before .before .before .before .before .before .before .before .before .before .point-of .result) (c .before .before .before .before .before .before .before .before .before .before .before .before .before .before .before .before .place3 .result) (settled d) → u ≡ (c .after-replay .result) → a ≡ d .answer
+    → Turned (isDraw (c .before .before .before .before .before .before .before .before .before .before .before .before .before .before .before .before .before .before .before .before .before .before .before .before .before .before .read-line .result .op)) (doneReplay (c .before .before .before .before .before .before .before .before .before .before .before .before .before .before .before .before .before .before .before .before .before .before .before .before .before .before .read-line .result .op)) (lineIn (c .before .before .before .before .before .before .before .before .before .before .before .before .before .before .before .before .before .before .before .before .before .before .before .before .before .before .read-line .result)) (c .before .before .before .before .before .before .before .before .before .before .before .before .before .before .before .before .before .before .before .before .before .before .before .before .before .before .before .before .before .loop .p) q (c .before .before .before .before .before .before .before .before .before .before .before .before .before .before .before .before .before .before .before .before .before .before .before .before .before .before .before .before .before .loop .t) u a (c .before .before .before .before .before .before .before .before .before .before .before .before .before .before .before .before .before .before .before .before .before .if1 .first) (c .before .before .before .before .before .before .before .before .before .before .before .before .before .before .before .before .before .before .before .before .before .if1 .width)
 replay-turned c e v g =
     let m = replay-arm (c .before) in
-    let k = turned2 (c .before .before .before .before .before .before .before .before .before .before .before .before .before .before .before .before .before .before) in
-    taken k (eq-eqb _ 8 (c .before .before .before .before .before .before .before .before .before .before .before .before .before .before .before .before .before .if4 .taken)) (off-replay _ (c .before .before .before .before .before .before .before .before .before .before .before .before .before .before .before .before .before .if4 .taken)) e (v ∙ (c .after-replay .ensures)) g refl refl (rw (line-replay (c .before .before .before .before .before .before .before .before .before .before .before .before .before .before .before .before .before .before .before .before .before .before .before .before .read-line .result) (c .before .before .before .before .before .before .before .before .before .before .before .before .before .before .before .before .before .if4 .taken)) (m .0)) (λ x. alike refl refl refl) (m .1) (tallied-made _ (m .0) (c .before .before .before .before .before .before .before .before .before .before .before .before .before .before .before .before .before .before .if2 .t) (k .tallied))
+    let k = turned2 (c .before .before .before .before .before .before .before .before .before .before .before .before .before .before .before .before .before .before .before .before) in
+    taken k (eq-eqb _ 8 (c .before .before .before .before .before .before .before .before .before .before .before .before .before .before .before .before .before .before .before .if4 .taken)) (off-replay _ (c .before .before .before .before .before .before .before .before .before .before .before .before .before .before .before .before .before .before .before .if4 .taken)) e (v ∙ (c .after-replay .ensures)) g refl refl (rw (line-replay (c .before .before .before .before .before .before .before .before .before .before .before .before .before .before .before .before .before .before .before .before .before .before .before .before .before .before .read-line .result) (c .before .before .before .before .before .before .before .before .before .before .before .before .before .before .before .before .before .before .before .if4 .taken)) (m .0)) (λ x. alike refl refl refl) (m .1) (tallied-made _ (m .0) (c .before .before .before .before .before .before .before .before .before .before .before .before .before .before .before .before .before .before .before .before .if2 .t) (k .tallied))
 
 turned4 : (c : tie.Joined4 Inv-loop2 μ-loop2 Inv-loop μ-loop) → Turned (isDraw (c .before .before .before .before .before .before .before .read-line .result .op)) (doneReplay (c .before .before .before .before .before .before .before .read-line .result .op)) (lineIn (c .before .before .before .before .before .before .before .read-line .result)) (c .before .before .before .before .before .before .before .before .before .before .loop .p) (c .if4 .p) (c .before .before .before .before .before .before .before .before .before .before .loop .t) (c .if4 .t) (c .if4 .answer) (c .before .before .if1 .first) (c .before .before .if1 .width)
 turned4 c =
     on (c .if4 .came)
-    (λ w. replay-turned (record { before = record { before = record { before = record { before = record { before = record { before = record { before = record { before = record { before = record { before = record { before = record { before = record { before = record { before = record { before = record { before = record { before = record { before = (c .before); if4 = w .0 }; h3 = w .1 }; seat3 = w .2 }; standing = w .3 }; earlier-seat = w .4 }; seen3 = w .5 }; point-of = w .6 }; p3 = w .7 }; decide-replay-arg = w .8 }; decide-replay-arg2 = w .9 }; decide-replay-arg3 = w .10 }; links2 = w .11 }; decide-replay-arg4 = w .12 }; decide-replay-arg5 = w .13 }; decide-replay = w .14 }; struct-told10 = w .15 }; entry2 = w .16 }; after-replay = w .17 }) (w .18) (w .19) (w .20))
+    (λ w. replay-turned (record { before = record { before = record { before = record { before = record { before = record { before = record { before = record { before = record { before = record { before = record { before = record { before = record { before = record { before = record { before = record { before = record { before = record { before = record { before = record { before = (c .before); if4 = w .0 }; h3 = w .1 }; named3 = w .2 }; place3 = w .3 }; standing = w .4 }; earlier = w .5 }; place4 = w .6 }; seen3 = w .7 }; point-of = w .8 }; p3 = w .9 }; decide-replay-arg = w .10 }; decide-replay-arg2 = w .11 }; decide-replay-arg3 = w .12 }; links2 = w .13 }; decide-replay-arg4 = w .14 }; decide-replay-arg5 = w .15 }; decide-replay = w .16 }; struct-told10 = w .17 }; entry2 = w .18 }; after-replay = w .19 }) (w .20) (w .21) (w .22))
     (λ w. passed-by (turned2 (c .before)) (ne-eqb _ 8 (w .0 .left)) (w .1) (w .2) (w .3) refl refl)
 
 -- ---- a send
@@ -378,98 +377,112 @@ turned5 c =
 
 -- ---- a call on the frame
 
-move-arm : (c : tie.After-confirmed Inv-loop2 μ-loop2 Inv-loop μ-loop) → let p = (c .before .before .before .before .before .before .before .before .before .before .before .before .before .before .before .before .before .before .if5 .p) in let r = (c .before .before .before .before .before .before .before .move-frame .result) in
-    Made (some (moveCall (c .before .before .before .before .before .before .before .before .before .before .before .before .before .before .before .before .before .before .before .before .before .before .before .before .before .before .read-line .result .op) (c .before .before .before .before .before .before .before .before .before .before .before .before .before .before .before .before .before .before .before .before .before .before .before .before .before .before .read-line .result .a))) p (around (r .frame) (p .lower) (p .gap) (p .upper) (p .firm) (p .edits)) (r .answer) []
+-- the state with what was lent as the call left it
+abbrev moved-state : tie.After-make-move Inv-loop2 μ-loop2 Inv-loop μ-loop → State
+moved-state c =
+    let p = (c .before .before .before .before .before .before .before .before .before .before .before .before .before .before .before .before .if5 .p) in
+    let x = (c .make-move .last .1) in
+    record { head = (c .make-move .result .head); base = x .0; draft = x .1 .0; values = x .1 .1 .0; arrived = x .1 .1 .1 .0; confirmed = x .1 .1 .1 .1 .0; lower = p .lower; gap = p .gap; upper = p .upper; firm = p .firm; edits = p .edits }
+
+move-arm : (c : tie.After-make-move Inv-loop2 μ-loop2 Inv-loop μ-loop) → let l = (c .before .before .before .before .before .before .before .before .before .before .before .before .before .before .before .before .before .before .before .before .before .before .before .before .read-line .result) in Made (some (moveCall (l .op) (l .a))) (c .before .before .before .before .before .before .before .before .before .before .before .before .before .before .before .before .if5 .p) (moved-state c) (c .make-move .result .answer) []
 move-arm c =
-    let p = (c .before .before .before .before .before .before .before .before .before .before .before .before .before .before .before .before .before .before .if5 .p) in
-    let t = (c .before .before .before .before .before .before .before .before .before .before .before .before .before .before .before .before .before .before .if5 .t) in
-    let l = (c .before .before .before .before .before .before .before .before .before .before .before .before .before .before .before .before .before .before .before .before .before .before .before .before .before .before .read-line .result) in
-    let k = turned5 (c .before .before .before .before .before .before .before .before .before .before .before .before .before .before .before .before .before .before) .tallied in
-    let z = toZ-ofZ (fits32 (l .a) (c .before .before .before .before .before .before .before .before .before .before .before .before .before .before .before .before .before .before .before .before .before .before .before .before .struct-told .given .1 .0 .1)) in
-    let i = (c .before .before .before .before .before .before .before .before .before .before .before .before .before .before .index3 .ensures .0) ∙ ap indexOf ((c .before .before .before .before .before .before .before .before .before .before .before .before .before .before .before .before .before .before .before .before .before .before .before .number .ensures) ∙ ap natural z) in
-    let m = subst (λ x. Moves (moveCall (l .op) x) (frameOf p) (Counts (frameOf p) (natural x) (getD (t .unsent) (c .before .before .before .before .before .before .before .before .before .before .before .before .before .before .index3 .result) 0) (t .waiting)) (c .before .before .before .before .before .before .before .move-frame .result)) z (c .before .before .before .before .before .before .before .move-frame .ensures) in
+    let p = (c .before .before .before .before .before .before .before .before .before .before .before .before .before .before .before .before .if5 .p) in
+    let t = (c .before .before .before .before .before .before .before .before .before .before .before .before .before .before .before .before .if5 .t) in
+    let l = (c .before .before .before .before .before .before .before .before .before .before .before .before .before .before .before .before .before .before .before .before .before .before .before .before .read-line .result) in
+    let k = turned5 (c .before .before .before .before .before .before .before .before .before .before .before .before .before .before .before .before) .tallied in
+    let z = toZ-ofZ (fits32 (l .a) (c .before .before .before .before .before .before .before .before .before .before .before .before .before .before .before .before .before .before .before .before .before .before .struct-told .given .1 .0 .1)) in
+    let i = (c .before .before .before .before .before .before .before .before .before .before .before .before .index3 .ensures .0) ∙ ap indexOf ((c .before .before .before .before .before .before .before .before .before .before .before .before .before .before .before .before .before .before .before .before .before .number .ensures) ∙ ap natural z) in
+    let x = (c .make-move .last .1) in
+    let m = subst (λ y. Moves (moveCall (l .op) y) (frameOf p) (Counts (frameOf p) (natural y) (getD (t .unsent) (c .before .before .before .before .before .before .before .before .before .before .before .before .index3 .result) 0) (t .waiting)) (movedTo (c .make-move .result) (x .0) (x .1 .0) (x .1 .1 .0) (x .1 .1 .1 .0) (x .1 .1 .1 .1 .0))) z (c .make-move .ensures) in
     meets-made (moveCall (l .op) (l .a)) p _ (m (p .lower) (p .gap) (p .upper) (p .firm) (p .edits) (unsent-is p t k (natural (l .a)) i, k .counted .waiting))
 
-move-sized : (c : tie.After-confirmed Inv-loop2 μ-loop2 Inv-loop μ-loop) → let p = (c .before .before .before .before .before .before .before .before .before .before .before .before .before .before .before .before .before .before .if5 .p) in let r = (c .before .before .before .before .before .before .before .move-frame .result) in Sized (around (r .frame) (p .lower) (p .gap) (p .upper) (p .firm) (p .edits))
+move-sized : (c : tie.After-lengths Inv-loop2 μ-loop2 Inv-loop μ-loop) → Sized (moved-state (c .before .before .before .before .before .before))
 move-sized c =
-    let z = (turned5 (c .before .before .before .before .before .before .before .before .before .before .before .before .before .before .before .before .before .before) .sized) in
-    let t = (c .before .before .before .before .before .before .before .move-frame .ok .1 .1 .0) in
-    let u = t .1 .1 in
-    let b = u .1 .0 in
-    let d = u .1 .1 .0 in
-    let v = u .1 .1 .1 .0 in
-    let a = u .1 .1 .1 .1 .0 in
-    let f = u .1 .1 .1 .1 .1 .0 in
-    record { base = search needs; draft = search needs; values = search needs; arrived = search needs; confirmed = search needs; lower = z .lower; gap = z .gap; upper = z .upper; firm = z .firm; edits = z .edits }
+    let z = (turned5 (c .before .before .before .before .before .before .before .before .before .before .before .before .before .before .before .before .before .before .before .before .before .before) .sized) in
+    let n = (c .lengths .ensures) in
+    record { base = n .0; draft = n .1; values = n .2; arrived = n .3; confirmed = n .4; lower = z .lower; gap = z .gap; upper = z .upper; firm = z .firm; edits = z .edits }
 
-move-turned : (c : tie.After-after-move Inv-loop2 μ-loop2 Inv-loop μ-loop) {q : State} {u : Tallies} {a : Answer} → let r = (c .before .before .before .before .before .before .before .before .move-frame .result) in let p = (c .before .before .before .before .before .before .before .before .before .before .before .before .before .before .before .before .before .before .before .if5 .p) in q ≡ around (r .frame) (p .lower) (p .gap) (p .upper) (p .firm) (p .edits) → u ≡ (c .after-move .result) → a ≡ r .answer
-    → Turned (isDraw (c .before .before .before .before .before .before .before .before .before .before .before .before .before .before .before .before .before .before .before .before .before .before .before .before .before .before .before .read-line .result .op)) (doneMoves (c .before .before .before .before .before .before .before .before .before .before .before .before .before .before .before .before .before .before .before .before .before .before .before .before .before .before .before .read-line .result .op)) (lineIn (c .before .before .before .before .before .before .before .before .before .before .before .before .before .before .before .before .before .before .before .before .before .before .before .before .before .before .before .read-line .result)) (c .before .before .before .before .before .before .before .before .before .before .before .before .before .before .before .before .before .before .before .before .before .before .before .before .before .before .before .before .before .before .loop .p) q (c .before .before .before .before .before .before .before .before .before .before .before .before .before .before .before .before .before .before .before .before .before .before .before .before .before .before .before .before .before .before .loop .t) u a (c .before .before .before .before .before .before .before .before .before .before .before .before .before .before .before .before .before .before .before .before .before .before .if1 .first) (c .before .before .before .before .before .before .before .before .before .before .before .before .before .before .before .before .before .before .before .before .before .before .if1 .width)
+move-turned : (c : tie.After-after-move Inv-loop2 μ-loop2 Inv-loop μ-loop) {q : State} {u : Tallies} {a : Answer} → q ≡ moved-state (c .before .before .before .before .before .before .before .before) → u ≡ (c .after-move .result) → a ≡ (c .before .before .before .before .before .before .before .before .make-move .result .answer)
+    → Turned (isDraw (c .before .before .before .before .before .before .before .before .before .before .before .before .before .before .before .before .before .before .before .before .before .before .before .before .before .before .before .before .before .before .before .before .read-line .result .op)) (doneMoves (c .before .before .before .before .before .before .before .before .before .before .before .before .before .before .before .before .before .before .before .before .before .before .before .before .before .before .before .before .before .before .before .before .read-line .result .op)) (lineIn (c .before .before .before .before .before .before .before .before .before .before .before .before .before .before .before .before .before .before .before .before .before .before .before .before .before .before .before .before .before .before .before .before .read-line .result)) (c .before .before .before .before .before .before .before .before .before .before .before .before .before .before .before .before .before .before .before .before .before .before .before .before .before .before .before .before .before .before .before .before .before .before .before .loop .p) q (c .before .before .before .before .before .before .before .before .before .before .before .before .before .before .before .before .before .before .before .before .before .before .before .before .before .before .before .before .before .before .before .before .before .before .before .loop .t) u a (c .before .before .before .before .before .before .before .before .before .before .before .before .before .before .before .before .before .before .before .before .before .before .before .before .before .before .before .if1 .first) (c .before .before .before .before .before .before .before .before .before .before .before .before .before .before .before .before .before .before .before .before .before .before .before .before .before .before .before .if1 .width)
 move-turned c e v g =
-    let p = (c .before .before .before .before .before .before .before .before .before .before .before .before .before .before .before .before .before .before .before .if5 .p) in
-    let l = (c .before .before .before .before .before .before .before .before .before .before .before .before .before .before .before .before .before .before .before .before .before .before .before .before .before .before .before .read-line .result) in
-    let r = (c .before .before .before .before .before .before .before .before .move-frame .result) in
-    let y = sym (c .before .before .before .before .before .before .before .before .before .before .before .before .before .before .before .before .before .before .moves .ensures) ∙ (c .before .before .before .before .before .before .before .before .before .before .before .before .before .before .before .before .before .if7 .taken) in
-    let k = turned5 (c .before .before .before .before .before .before .before .before .before .before .before .before .before .before .before .before .before .before .before) in
-    let m = move-arm (c .before) in
-    let n : Made (lineIn l) p (around (r .frame) (p .lower) (p .gap) (p .upper) (p .firm) (p .edits)) (r .answer) [] = rw (line-moves l y) m in
+    let p = (c .before .before .before .before .before .before .before .before .before .before .before .before .before .before .before .before .before .before .before .before .before .before .before .before .if5 .p) in
+    let l = (c .before .before .before .before .before .before .before .before .before .before .before .before .before .before .before .before .before .before .before .before .before .before .before .before .before .before .before .before .before .before .before .before .read-line .result) in
+    let r = (c .before .before .before .before .before .before .before .before .make-move .result) in
+    let y = sym (c .before .before .before .before .before .before .before .before .before .before .before .before .before .before .before .before .before .before .before .before .before .before .before .moves .ensures) ∙ (c .before .before .before .before .before .before .before .before .before .before .before .before .before .before .before .before .before .before .before .before .before .before .if7 .taken) in
+    let k = turned5 (c .before .before .before .before .before .before .before .before .before .before .before .before .before .before .before .before .before .before .before .before .before .before .before .before) in
+    let m = move-arm (c .before .before .before .before .before .before .before .before) in
+    let n : Made (lineIn l) p (moved-state (c .before .before .before .before .before .before .before .before)) (r .answer) [] = rw (line-moves l y) m in
     taken k y (off-moves (l .op) y) e
-    (v ∙ (c .after-move .ensures) ∙ ap (λ x. cond (isAccepted (r .answer)) x (c .before .before .before .before .before .before .before .before .before .before .before .before .before .before .before .before .before .before .before .if5 .t)) (move-counts (l .op) (l .a) p (c .before .before .before .before .before .before .before .before .before .before .before .before .before .before .before .before .before .before .before .if5 .t) y)) g refl refl
-    n (λ x. move-rules (l .op) (l .a) p _ (line-moves l y) refl refl n) (move-sized (c .before)) (tallied-made _ m (c .before .before .before .before .before .before .before .before .before .before .before .before .before .before .before .before .before .before .before .if5 .t) (k .tallied))
+    (v ∙ (c .after-move .ensures) ∙ ap (λ x. cond (isAccepted (r .answer)) x (c .before .before .before .before .before .before .before .before .before .before .before .before .before .before .before .before .before .before .before .before .before .before .before .before .if5 .t)) (move-counts (l .op) (l .a) p (c .before .before .before .before .before .before .before .before .before .before .before .before .before .before .before .before .before .before .before .before .before .before .before .before .if5 .t) y)) g refl refl
+    n (λ x. move-rules (l .op) (l .a) p _ (line-moves l y) refl refl n) (move-sized (c .before .before)) (tallied-made _ m (c .before .before .before .before .before .before .before .before .before .before .before .before .before .before .before .before .before .before .before .before .before .before .before .before .if5 .t) (k .tallied))
 
 turned7 : (c : tie.Joined7 Inv-loop2 μ-loop2 Inv-loop μ-loop) → Turned (isDraw (c .before .before .before .before .before .before .before .before .before .before .read-line .result .op)) (doneMoves (c .before .before .before .before .before .before .before .before .before .before .read-line .result .op)) (lineIn (c .before .before .before .before .before .before .before .before .before .before .read-line .result)) (c .before .before .before .before .before .before .before .before .before .before .before .before .before .loop .p) (c .if7 .p) (c .before .before .before .before .before .before .before .before .before .before .before .before .before .loop .t) (c .if7 .t) (c .if7 .answer) (c .before .before .before .before .before .if1 .first) (c .before .before .before .before .before .if1 .width)
 turned7 c =
     on (c .if7 .came)
-    (λ w. move-turned (record { before = record { before = record { before = record { before = record { before = record { before = record { before = record { before = record { before = record { before = record { before = record { before = record { before = record { before = record { before = record { before = record { before = record { before = (c .before); if7 = w .0 }; h5 = w .1 }; index3 = w .2 }; unsent2 = w .3 }; old-base = w .4 }; old-draft = w .5 }; old-values = w .6 }; old-arrived = w .7 }; old-confirmed = w .8 }; move-frame = w .9 }; g = w .10 }; head2 = w .11 }; base = w .12 }; draft = w .13 }; values = w .14 }; arrived = w .15 }; confirmed = w .16 }; after-move = w .17 }) (w .18) (w .19) (w .20))
+    (λ w. move-turned (record { before = record { before = record { before = record { before = record { before = record { before = record { before = record { before = record { before = record { before = record { before = record { before = record { before = record { before = record { before = record { before = record { before = record { before = record { before = record { before = record { before = record { before = record { before = (c .before); if7 = w .0 }; h5 = w .1 }; index3 = w .2 }; unsent2 = w .3 }; base = w .4 }; draft = w .5 }; values = w .6 }; arrived = w .7 }; confirmed = w .8 }; base2 = w .9 }; draft2 = w .10 }; values2 = w .11 }; arrived2 = w .12 }; confirmed2 = w .13 }; make-move = w .14 }; base3 = w .15 }; draft3 = w .16 }; values3 = w .17 }; arrived3 = w .18 }; confirmed3 = w .19 }; lengths = w .20 }; head2 = w .21 }; after-move = w .22 }) (w .23) (w .24) (w .25))
     (λ w. passed-by (turned5 (c .before .before)) (sym (c .before .moves .ensures) ∙ (w .0 .left)) (w .1) (w .2) (w .3) refl refl)
 
 -- ---- a call that draws up the plan
 
-draw-arm : (c : tie.After-q Inv-loop2 μ-loop2 Inv-loop μ-loop) → let r = (c .before .draw-up .result) in Made (lineIn (c .before .before .before .before .before .before .before .before .before .before .before .before .before .before .before .before .before .read-line .result)) (c .before .before .before .before .before .before .before .if7 .p) (r .state) (r .answer) []
+-- what was decided is the call's drawing in this state, and the places are those of its stores
+draw-is : (c : tie.After-entry3 Inv-loop2 μ-loop2 Inv-loop μ-loop) → let p = (c .before .before .before .before .before .before .before .before .before .before .before .before .before .before .before .before .before .if7 .p) in let l = (c .before .before .before .before .before .before .before .before .before .before .before .before .before .before .before .before .before .before .before .before .before .before .before .before .before .before .before .read-line .result) in
+    ((c .before .before .decide-draw .result) ≡ drawDecision (l .op) (l .a) (l .b) (l .c) (l .d) (p .head) (p .lower) (p .gap) (p .upper) (p .values) (entryOf p))
+draw-is c =
+    let p = (c .before .before .before .before .before .before .before .before .before .before .before .before .before .before .before .before .before .if7 .p) in
+    let l = (c .before .before .before .before .before .before .before .before .before .before .before .before .before .before .before .before .before .before .before .before .before .before .before .before .before .before .before .read-line .result) in
+    let t = (c .before .before .before .before .before .before .before .before .before .before .before .before .before .before .before .before .before .before .before .before .before .before .before .before .before .struct-told .given) in
+    let a = toZ-ofZ (fits32 (l .a) (t .1 .0 .1)) in
+    let b = toZ-ofZ (fits32 (l .b) (t .1 .1 .0 .1)) in
+    let k = toZ-ofZ (fits32 (l .c) (t .1 .1 .1 .0 .1)) in
+    let d = toZ-ofZ (fits32 (l .d) (t .1 .1 .1 .1 .0 .1)) in
+    (c .before .before .decide-draw .ensures) ∙ (λ j. drawDecision (l .op) (a j) (b j) (k j) (d j) (p .head) (p .lower) (p .gap) (p .upper) (p .values) (entryOf p))
+
+-- the drawing as it is stored
+abbrev drawing : Drawing → Drawing
+drawing d = record { head = d .head; entry = record { value = toZ w32 (ofZ w32 (d .entry .value)); lower = d .entry .lower; gap = toZ w32 (ofZ w32 (d .entry .gap)); upper = d .entry .upper; firm = d .entry .firm }; answer = d .answer }
+
+-- and the state with it
+abbrev drawn-state : State → ℕ → ℕ → Drawing → State
+drawn-state p spot slot d =
+    record { head = d .head; base = p .base; draft = p .draft; values = set (p .values) spot (d .entry .value); arrived = p .arrived; confirmed = p .confirmed; lower = set (p .lower) slot (d .entry .lower); gap = set (p .gap) slot (d .entry .gap); upper = set (p .upper) slot (d .entry .upper); firm = set (p .firm) slot (d .entry .firm); edits = p .edits }
+
+draw-arm : (c : tie.After-struct-told15 Inv-loop2 μ-loop2 Inv-loop μ-loop) → let p = (c .before .before .before .before .before .before .before .before .before .before .before .before .before .before .before .before .before .before .before .if7 .p) in let d = (c .before .before .before .before .decide-draw .result) in let q = drawn-state p (c .before .before .before .before .before .before .before .before .before .before .before .before .before .before .before .capped2 .result) (c .before .before .before .before .before .before .before .before .before .before .before .before .before .before .capped3 .result) (drawing d) in
+    Made (lineIn (c .before .before .before .before .before .before .before .before .before .before .before .before .before .before .before .before .before .before .before .before .before .before .before .before .before .before .before .before .before .read-line .result)) p q (d .answer) [] × Sized q
 draw-arm c =
-    let p = (c .before .before .before .before .before .before .before .if7 .p) in
-    let l = (c .before .before .before .before .before .before .before .before .before .before .before .before .before .before .before .before .before .read-line .result) in
-    let t = (c .before .before .before .before .before .before .before .before .before .before .before .before .before .before .before .struct-told .given) in
-    let e = line-draws l (sym (c .before .before .before .before .before .before .draws .ensures) ∙ (c .before .before .before .before .before .if8 .taken)) in
-    rw e (performs-made _ p (c .before .draw-up .result) (rw (← toZ-ofZ (fits32 (l .a) (t .1 .0 .1)), ← toZ-ofZ (fits32 (l .b) (t .1 .1 .0 .1)), ← toZ-ofZ (fits32 (l .c) (t .1 .1 .1 .0 .1)), ← toZ-ofZ (fits32 (l .d) (t .1 .1 .1 .1 .0 .1))) (c .before .draw-up .ensures)))
+    let p = (c .before .before .before .before .before .before .before .before .before .before .before .before .before .before .before .before .before .before .before .if7 .p) in
+    let l = (c .before .before .before .before .before .before .before .before .before .before .before .before .before .before .before .before .before .before .before .before .before .before .before .before .before .before .before .before .before .read-line .result) in
+    let d = (c .before .before .before .before .decide-draw .result) in
+    let z = turned7 (c .before .before .before .before .before .before .before .before .before .before .before .before .before .before .before .before .before .before .before) .sized in
+    let e = line-draws l (sym (c .before .before .before .before .before .before .before .before .before .before .before .before .before .before .before .before .before .before .draws .ensures) ∙ (c .before .before .before .before .before .before .before .before .before .before .before .before .before .before .before .before .before .if8 .taken)) in
+    let value = toZ-ofZ (fits32 (d .entry .value) (c .before .struct-told14 .given .0 .1)) in
+    let gap = toZ-ofZ (fits32 (d .entry .gap) (c .struct-told15 .given .1 .1 .0 .1)) in
+    let m : Made (some (drawCall (l .op) (l .a) (l .b) (l .c) (l .d))) p (drawn-state p (c .before .before .before .before .before .before .before .before .before .before .before .before .before .before .before .capped2 .result) (c .before .before .before .before .before .before .before .before .before .before .before .before .before .before .capped3 .result) (drawing d)) (d .answer) [] =
+    meets-made _ p _ (rw (value, gap, (c .before .before .before .before .before .before .before .before .before .before .before .before .before .before .before .capped2 .ensures), (c .before .before .before .before .before .before .before .before .before .before .before .before .before .before .capped3 .ensures), draw-is (c .before .before)) (draw-decided (l .op) (l .a) (l .b) (l .c) (l .d) p z)) in
+    (rw e m, rw ((c .before .before .before .before .before .before .before .before .before .before .before .before .before .before .before .capped2 .ensures), (c .before .before .before .before .before .before .before .before .before .before .before .before .before .before .capped3 .ensures)) (drawn-sized p (drawing d) z))
 
--- what owning a result tells of its state
-drawn-sized : (r : Answered) (xs : List Val) → shadow (the-state.the-field .row .own ((the-answered.the-type .to r) .0) xs) → Sized (r .state)
-drawn-sized r xs t =
-    let u = t .1 .1 in
-    let b = u .1 .0 in
-    let d = u .1 .1 .0 in
-    let v = u .1 .1 .1 .0 in
-    let a = u .1 .1 .1 .1 .0 in
-    let f = u .1 .1 .1 .1 .1 .0 in
-    let l = u .1 .1 .1 .1 .1 .1 .0 in
-    let g = u .1 .1 .1 .1 .1 .1 .1 .0 in
-    let h = u .1 .1 .1 .1 .1 .1 .1 .1 .0 in
-    let i = u .1 .1 .1 .1 .1 .1 .1 .1 .1 .0 in
-    let e = u .1 .1 .1 .1 .1 .1 .1 .1 .1 .1 in
-    record { base = search needs; draft = search needs; values = search needs; arrived = search needs; confirmed = search needs; lower = search needs; gap = search needs; upper = search needs; firm = search needs; edits = search unmapped }
-
-draw-turned : (c : tie.After-q Inv-loop2 μ-loop2 Inv-loop μ-loop) {q : State} {a : Answer} → let r = (c .before .draw-up .result) in q ≡ r .state → a ≡ r .answer → Turned (isDraw (c .before .before .before .before .before .before .before .before .before .before .before .before .before .before .before .before .before .read-line .result .op)) (doneDraws (c .before .before .before .before .before .before .before .before .before .before .before .before .before .before .before .before .before .read-line .result .op)) (lineIn (c .before .before .before .before .before .before .before .before .before .before .before .before .before .before .before .before .before .read-line .result)) (c .before .before .before .before .before .before .before .before .before .before .before .before .before .before .before .before .before .before .before .before .loop .p) q (c .before .before .before .before .before .before .before .before .before .before .before .before .before .before .before .before .before .before .before .before .loop .t) (c .before .before .before .before .before .before .before .if7 .t) a (c .before .before .before .before .before .before .before .before .before .before .before .before .if1 .first) (c .before .before .before .before .before .before .before .before .before .before .before .before .if1 .width)
+draw-turned : (c : tie.After-struct-told15 Inv-loop2 μ-loop2 Inv-loop μ-loop) {q : State} {a : Answer} → let d = (c .before .before .before .before .decide-draw .result) in q ≡ drawn-state (c .before .before .before .before .before .before .before .before .before .before .before .before .before .before .before .before .before .before .before .if7 .p) (c .before .before .before .before .before .before .before .before .before .before .before .before .before .before .before .capped2 .result) (c .before .before .before .before .before .before .before .before .before .before .before .before .before .before .capped3 .result) (drawing d) → a ≡ d .answer
+    → Turned (isDraw (c .before .before .before .before .before .before .before .before .before .before .before .before .before .before .before .before .before .before .before .before .before .before .before .before .before .before .before .before .before .read-line .result .op)) (doneDraws (c .before .before .before .before .before .before .before .before .before .before .before .before .before .before .before .before .before .before .before .before .before .before .before .before .before .before .before .before .before .read-line .result .op)) (lineIn (c .before .before .before .before .before .before .before .before .before .before .before .before .before .before .before .before .before .before .before .before .before .before .before .before .before .before .before .before .before .read-line .result)) (c .before .before .before .before .before .before .before .before .before .before .before .before .before .before .before .before .before .before .before .before .before .before .before .before .before .before .before .before .before .before .before .before .loop .p) q (c .before .before .before .before .before .before .before .before .before .before .before .before .before .before .before .before .before .before .before .before .before .before .before .before .before .before .before .before .before .before .before .before .loop .t) (c .before .before .before .before .before .before .before .before .before .before .before .before .before .before .before .before .before .before .before .if7 .t) a (c .before .before .before .before .before .before .before .before .before .before .before .before .before .before .before .before .before .before .before .before .before .before .before .before .if1 .first) (c .before .before .before .before .before .before .before .before .before .before .before .before .before .before .before .before .before .before .before .before .before .before .before .before .if1 .width)
 draw-turned c e g =
-    let l = (c .before .before .before .before .before .before .before .before .before .before .before .before .before .before .before .before .before .read-line .result) in
-    let y = sym (c .before .before .before .before .before .before .draws .ensures) ∙ (c .before .before .before .before .before .if8 .taken) in
-    let k = turned7 (c .before .before .before .before .before .before .before) in
+    let l = (c .before .before .before .before .before .before .before .before .before .before .before .before .before .before .before .before .before .before .before .before .before .before .before .before .before .before .before .before .before .read-line .result) in
+    let y = sym (c .before .before .before .before .before .before .before .before .before .before .before .before .before .before .before .before .before .before .draws .ensures) ∙ (c .before .before .before .before .before .before .before .before .before .before .before .before .before .before .before .before .before .if8 .taken) in
+    let k = turned7 (c .before .before .before .before .before .before .before .before .before .before .before .before .before .before .before .before .before .before .before) in
     let m = draw-arm c in
-    taken k y (off-draws (l .op) y) e refl g refl refl m (λ x. absurd (is-yes (sym (sym y ∙ x)))) (drawn-sized (c .before .draw-up .result) (c .before .draw-up .ok .0 .0) (c .before .draw-up .ok .1 .1 .0)) (draw-counts (l .op) (l .a) (l .b) (l .c) (l .d) (c .before .before .before .before .before .before .before .if7 .t) y (line-draws l y) m (k .tallied))
+    taken k y (off-draws (l .op) y) e refl g refl refl (m .0) (λ x. absurd (is-yes (sym (sym y ∙ x)))) (m .1) (draw-counts (l .op) (l .a) (l .b) (l .c) (l .d) (c .before .before .before .before .before .before .before .before .before .before .before .before .before .before .before .before .before .before .before .if7 .t) y (line-draws l y) (m .0) (k .tallied))
 
 turned8 : (c : tie.Joined8 Inv-loop2 μ-loop2 Inv-loop μ-loop) → Turned (isDraw (c .before .before .before .before .before .before .before .before .before .before .before .before .read-line .result .op)) (doneDraws (c .before .before .before .before .before .before .before .before .before .before .before .before .read-line .result .op)) (lineIn (c .before .before .before .before .before .before .before .before .before .before .before .before .read-line .result)) (c .before .before .before .before .before .before .before .before .before .before .before .before .before .before .before .loop .p) (c .if8 .p) (c .before .before .before .before .before .before .before .before .before .before .before .before .before .before .before .loop .t) (c .before .before .if7 .t) (c .if8 .answer) (c .before .before .before .before .before .before .before .if1 .first) (c .before .before .before .before .before .before .before .if1 .width)
 turned8 c =
     on (c .if8 .came)
-    (λ w. draw-turned (record { before = record { before = record { before = record { before = record { before = record { before = (c .before); if8 = w .0 }; struct-told11 = w .1 }; struct-told12 = w .2 }; struct-told13 = w .3 }; draw-up = w .4 }; q = w .5 }) (w .11) (w .13))
+    (λ w. draw-turned (record { before = record { before = record { before = record { before = record { before = record { before = record { before = record { before = record { before = record { before = record { before = record { before = record { before = record { before = record { before = record { before = record { before = record { before = (c .before); if8 = w .0 }; h6 = w .1 }; capped2 = w .2 }; capped3 = w .3 }; p4 = w .4 }; decide-draw-arg = w .5 }; decide-draw-arg2 = w .6 }; decide-draw-arg3 = w .7 }; decide-draw-arg4 = w .8 }; decide-draw-arg5 = w .9 }; struct-told11 = w .10 }; struct-told12 = w .11 }; struct-told13 = w .12 }; decide-draw = w .13 }; head3 = w .14 }; entry3 = w .15 }; struct-told14 = w .16 }; struct-told15 = w .17 }) (w .22) (w .24))
     (λ w. passed-by (turned7 (c .before .before)) (sym (c .before .draws .ensures) ∙ (w .0 .left)) (w .1) refl (w .3) refl refl)
 
 -- the links are those of the rules that it leaves
-draw-links : (c : tie.After-indexed2 Inv-loop2 μ-loop2 Inv-loop μ-loop) {q : State} {k : List ℕ} → q ≡ (c .before .before .before .before .before .before .draw-up .result .state) → k ≡ (c .indexed2 .result) → Linked k (q .lower) (q .upper) 0 (min (q .head .rules) 64)
+draw-links : (c : tie.After-indexed2 Inv-loop2 μ-loop2 Inv-loop μ-loop) {q : State} {k : List ℕ} → q ≡ drawn-state (c .before .before .before .before .before .before .before .before .before .before .before .before .before .before .before .before .before .before .before .before .before .before .before .if7 .p) (c .before .before .before .before .before .before .before .before .before .before .before .before .before .before .before .before .before .before .before .capped2 .result) (c .before .before .before .before .before .before .before .before .before .before .before .before .before .before .before .before .before .before .capped3 .result) (drawing (c .before .before .before .before .before .before .before .before .decide-draw .result)) → k ≡ (c .indexed2 .result) → Linked k (q .lower) (q .upper) 0 (min (q .head .rules) 64)
 draw-links c e g = rw (e, g) (c .indexed2 .ensures)
 
 links-now : (c : tie.Joined8 Inv-loop2 μ-loop2 Inv-loop μ-loop) → Linked (c .if8 .links) (c .if8 .p .lower) (c .if8 .p .upper) 0 (min (c .if8 .p .head .rules) 64)
 links-now c =
     on (c .if8 .came)
-    (λ w. draw-links (record { before = record { before = record { before = record { before = record { before = record { before = record { before = record { before = record { before = record { before = record { before = (c .before); if8 = w .0 }; struct-told11 = w .1 }; struct-told12 = w .2 }; struct-told13 = w .3 }; draw-up = w .4 }; q = w .5 }; h6 = w .6 }; p4 = w .7 }; indexed-arg3 = w .8 }; indexed-arg4 = w .9 }; indexed2 = w .10 }) (w .11) (w .12))
+    (λ w. draw-links (record { before = record { before = record { before = record { before = record { before = record { before = record { before = record { before = record { before = record { before = record { before = record { before = record { before = record { before = record { before = record { before = record { before = record { before = record { before = record { before = record { before = record { before = (c .before); if8 = w .0 }; h6 = w .1 }; capped2 = w .2 }; capped3 = w .3 }; p4 = w .4 }; decide-draw-arg = w .5 }; decide-draw-arg2 = w .6 }; decide-draw-arg3 = w .7 }; decide-draw-arg4 = w .8 }; decide-draw-arg5 = w .9 }; struct-told11 = w .10 }; struct-told12 = w .11 }; struct-told13 = w .12 }; decide-draw = w .13 }; head3 = w .14 }; entry3 = w .15 }; struct-told14 = w .16 }; struct-told15 = w .17 }; p5 = w .18 }; indexed-arg3 = w .19 }; indexed-arg4 = w .20 }; indexed2 = w .21 }) (w .22) (w .23))
     (λ w. subst (λ k. Linked k (c .if8 .p .lower) (c .if8 .p .upper) 0 (min (c .if8 .p .head .rules) 64)) (sym (w .2)) (linked-still (turned8 c .ruled (sym (c .before .draws .ensures) ∙ (w .0 .left))) (c .before .before .before .before .before .before .before .before .before .before .before .before .before .before .before .loop .inv .linked)))
 
 -- ---- any line
@@ -585,20 +598,74 @@ add-end c = let f = end-fits (c .before) in omega (arith, f)
 number-requires : tie.Need-number-requires Inv-loop2 μ-loop2 Inv-loop μ-loop
 number-requires c κs = search needs
 
-seat-requires : tie.Need-seat-requires Inv-loop2 μ-loop2 Inv-loop μ-loop
-seat-requires c κs = search needs
-
-seat-requires-2 : tie.Need-seat-requires-2 Inv-loop2 μ-loop2 Inv-loop μ-loop
-seat-requires-2 c κs = search needs
-
-seat-requires-3 : tie.Need-seat-requires-3 Inv-loop2 μ-loop2 Inv-loop μ-loop
-seat-requires-3 c κs = search needs
-
-earlier-seat-requires : tie.Need-earlier-seat-requires Inv-loop2 μ-loop2 Inv-loop μ-loop
-earlier-seat-requires c κs = search needs
-
 point-of-requires : tie.Need-point-of-requires Inv-loop2 μ-loop2 Inv-loop μ-loop
 point-of-requires c κs = search needs
+
+named-requires : tie.Need-named-requires Inv-loop2 μ-loop2 Inv-loop μ-loop
+named-requires c κs = search needs
+
+place-requires : tie.Need-place-requires Inv-loop2 μ-loop2 Inv-loop μ-loop
+place-requires c κs = search needs
+
+named-requires-2 : tie.Need-named-requires-2 Inv-loop2 μ-loop2 Inv-loop μ-loop
+named-requires-2 c κs = search needs
+
+place-requires-2 : tie.Need-place-requires-2 Inv-loop2 μ-loop2 Inv-loop μ-loop
+place-requires-2 c κs = search needs
+
+named-requires-3 : tie.Need-named-requires-3 Inv-loop2 μ-loop2 Inv-loop μ-loop
+named-requires-3 c κs = search needs
+
+place-requires-3 : tie.Need-place-requires-3 Inv-loop2 μ-loop2 Inv-loop μ-loop
+place-requires-3 c κs = search needs
+
+earlier-requires : tie.Need-earlier-requires Inv-loop2 μ-loop2 Inv-loop μ-loop
+earlier-requires c κs = search needs
+
+place-requires-4 : tie.Need-place-requires-4 Inv-loop2 μ-loop2 Inv-loop μ-loop
+place-requires-4 c κs = search needs
+
+make-move-requires : tie.Need-make-move-requires Inv-loop2 μ-loop2 Inv-loop μ-loop
+make-move-requires c κs = search needs
+
+lengths-requires : tie.Need-lengths-requires Inv-loop2 μ-loop2 Inv-loop μ-loop
+lengths-requires c κs = search needs
+
+capped-requires-2 : tie.Need-capped-requires-2 Inv-loop2 μ-loop2 Inv-loop μ-loop
+capped-requires-2 c κs = search needs
+
+capped-requires-3 : tie.Need-capped-requires-3 Inv-loop2 μ-loop2 Inv-loop μ-loop
+capped-requires-3 c κs = search needs
+
+decide-draw-requires : tie.Need-decide-draw-requires Inv-loop2 μ-loop2 Inv-loop μ-loop
+decide-draw-requires c κs = search needs
+
+mul-value-2 : tie.Need-mul-value-2 Inv-loop2 μ-loop2 Inv-loop μ-loop
+mul-value-2 c = omega (arith, (c .before .before .before .before .before .before .before .before .before .before .before .before .before .before .before .capped2 .ensures))
+
+element-set-from-value-2 : tie.Need-element-set-from-value-2 Inv-loop2 μ-loop2 Inv-loop μ-loop
+element-set-from-value-2 c = omega (arith, (c .before .before .before .before .before .before .before .before .before .before .before .before .before .before .before .capped2 .ensures))
+
+mul-p : tie.Need-mul-p Inv-loop2 μ-loop2 Inv-loop μ-loop
+mul-p c = omega (arith, (c .before .before .before .before .before .before .before .before .before .before .before .before .before .before .capped3 .ensures))
+
+element-write-p-2 : tie.Need-element-write-p-2 Inv-loop2 μ-loop2 Inv-loop μ-loop
+element-write-p-2 c = omega (arith, (c .before .before .before .before .before .before .before .before .before .before .before .before .before .before .capped3 .ensures))
+
+mul-gap : tie.Need-mul-gap Inv-loop2 μ-loop2 Inv-loop μ-loop
+mul-gap c = omega (arith, (c .before .before .before .before .before .before .before .before .before .before .before .before .before .before .capped3 .ensures))
+
+element-set-from-gap : tie.Need-element-set-from-gap Inv-loop2 μ-loop2 Inv-loop μ-loop
+element-set-from-gap c = omega (arith, (c .before .before .before .before .before .before .before .before .before .before .before .before .before .before .capped3 .ensures))
+
+mul-p-2 : tie.Need-mul-p-2 Inv-loop2 μ-loop2 Inv-loop μ-loop
+mul-p-2 c = omega (arith, (c .before .before .before .before .before .before .before .before .before .before .before .before .before .before .capped3 .ensures))
+
+element-write-p-3 : tie.Need-element-write-p-3 Inv-loop2 μ-loop2 Inv-loop μ-loop
+element-write-p-3 c = omega (arith, (c .before .before .before .before .before .before .before .before .before .before .before .before .before .before .capped3 .ensures))
+
+element-write-p-4 : tie.Need-element-write-p-4 Inv-loop2 μ-loop2 Inv-loop μ-loop
+element-write-p-4 c = omega (arith, (c .before .before .before .before .before .before .before .before .before .before .before .before .before .before .capped3 .ensures))
 
 mul-seen : tie.Need-mul-seen Inv-loop2 μ-loop2 Inv-loop μ-loop
 mul-seen c = omega arith
@@ -671,10 +738,10 @@ element-set-from-amount c = omega arith
 
 mul-entry-2 : tie.Need-mul-entry-2 Inv-loop2 μ-loop2 Inv-loop μ-loop
 mul-entry-2 c =
-    omega (arith, (c .before .before .before .before .before .before .before .before .before .before .before .before .before .before .seat3 .ensures .1))
+    omega (arith, (c .before .before .before .before .before .before .before .before .before .before .before .before .before .before .before .place3 .ensures .1))
 
 element-set-from-entry-2 : tie.Need-element-set-from-entry-2 Inv-loop2 μ-loop2 Inv-loop μ-loop
-element-set-from-entry-2 c = (c .before .before .before .before .before .before .before .before .before .before .before .before .before .before .seat3 .ensures .1)
+element-set-from-entry-2 c = (c .before .before .before .before .before .before .before .before .before .before .before .before .before .before .before .place3 .ensures .1)
 
 after-replay-requires : tie.Need-after-replay-requires Inv-loop2 μ-loop2 Inv-loop μ-loop
 after-replay-requires c κs = search needs
@@ -747,17 +814,11 @@ mul-unsent-2 c = omega arith
 element-copy-out-unsent-2 : tie.Need-element-copy-out-unsent-2 Inv-loop2 μ-loop2 Inv-loop μ-loop
 element-copy-out-unsent-2 c = omega arith
 
-move-frame-requires : tie.Need-move-frame-requires Inv-loop2 μ-loop2 Inv-loop μ-loop
-move-frame-requires c κs = search needs
-
 after-move-requires : tie.Need-after-move-requires Inv-loop2 μ-loop2 Inv-loop μ-loop
 after-move-requires c κs = search needs
 
 draws-requires : tie.Need-draws-requires Inv-loop2 μ-loop2 Inv-loop μ-loop
 draws-requires c κs = search needs
-
-draw-up-requires : tie.Need-draw-up-requires Inv-loop2 μ-loop2 Inv-loop μ-loop
-draw-up-requires c κs = search needs
 
 indexed-requires-2 : tie.Need-indexed-requires-2 Inv-loop2 μ-loop2 Inv-loop μ-loop
 indexed-requires-2 c κs = search needs
@@ -844,11 +905,13 @@ go-spec =
     read-line-requires
     add-end
     number-requires
-    seat-requires
+    named-requires
+    place-requires
     mul-seen
     element-copy-out-seen
     read-requires
-    seat-requires-2
+    named-requires-2
+    place-requires-2
     mul-seen-2
     element-copy-out-seen-2
     spot-requires
@@ -861,10 +924,12 @@ go-spec =
     index-requires
     element-copy-out-flag
     after-kept-requires
-    seat-requires-3
+    named-requires-3
+    place-requires-3
     mul-standing
     element-copy-out-standing
-    earlier-seat-requires
+    earlier-requires
+    place-requires-4
     mul-seen-3
     element-copy-out-seen-3
     point-of-requires
@@ -895,10 +960,22 @@ go-spec =
     index-requires-3
     mul-unsent-2
     element-copy-out-unsent-2
-    move-frame-requires
+    make-move-requires
+    lengths-requires
     after-move-requires
     draws-requires
-    draw-up-requires
+    capped-requires-2
+    capped-requires-3
+    decide-draw-requires
+    mul-value-2
+    element-set-from-value-2
+    mul-p
+    element-write-p-2
+    mul-gap
+    element-set-from-gap
+    mul-p-2
+    element-write-p-3
+    element-write-p-4
     indexed-requires-2
     add-put
     mul-put

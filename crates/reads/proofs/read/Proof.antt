@@ -2,10 +2,7 @@ use mathlib.Core.Path.{ap, sym, _∙_}
 use borrow.Author.Tests.{eq-eqb, ne-eqb}
 use mir.Facts.{toZ-ofZ}
 use Rattle.protocol.specs.Lists.{natural}
-use Rattle.heads.specs.Heads.{namedAt}
-use Rattle.figures.specs.Reads.{fateAnswer}
 use Rattle.reads.specs.Readings.{showReading, alone}
-use Rattle.heads.proofs.named.Reads as named-reads
 use borrow.Author.Needs.{needs}
 use Rattle.reads.proofs.read.Statement.{statement}
 use Rattle.reads.proofs.read.Tie as tie
@@ -27,16 +24,12 @@ returns c =
     let s = (c .before .before .before) in
     (c .show-reading .ensures) ∙ ap (showReading (s .args .h)) ((c .before .number .ensures) ∙ ap natural (toZ-ofZ (s .fits .a))) ∙ sym (rw (eq-eqb _ 12 (c .before .before .if1 .taken)))
 
-named-requires : tie.Need-named-requires
-named-requires c κs = search needs
-
 fate-answer-requires : tie.Need-fate-answer-requires
 fate-answer-requires c κs = search needs
 
 returns-2 : tie.Need-returns-2
 returns-2 c =
-    let s = (c .before .before .before .before) in
-    ap alone ((c .fate-answer .ensures) ∙ ap (λ i. fateAnswer i (s .args .seen)) ((c .before .named .ensures .0) ∙ ap (namedAt (s .args .h)) (toZ-ofZ (s .fits .a)))) ∙ sym (rw (ne-eqb _ 12 (c .before .before .before .if1 .left), eq-eqb _ 13 (c .before .before .if2 .taken)))
+    ap alone (c .fate-answer .ensures) ∙ sym (rw (ne-eqb _ 12 (c .before .before .if1 .left), eq-eqb _ 13 (c .before .if2 .taken)))
 
 left-answer-requires : tie.Need-left-answer-requires
 left-answer-requires c κs = search needs
@@ -56,7 +49,6 @@ read-spec =
     number-requires
     show-reading-requires
     returns
-    named-requires
     fate-answer-requires
     returns-2
     left-answer-requires

@@ -2,31 +2,32 @@ use native.Mathlib.Omega.{arith}
 use Prim.Native.Nat.{_+_, min}
 use mathlib.Core.Bool.{false}
 use mathlib.Core.Path.{_≡_, ap, _∙_}
-use lib.ListN.{getD, replicate}
 use mir.Facts.{toZ-ofZ}
 use Rattle.exact.proofs.Ints.{fits32}
 use Rattle.protocol.specs.Lists.{count}
 use Rattle.protocol.specs.Plan.{isSettled}
-use Rattle.rules.specs.Rules.{testedBy}
 use Rattle.rules.proofs.Links.{unlinked}
-use Rattle.heads.specs.Heads.{placeOf, seatOf}
-use Rattle.records.specs.Records.{keptOf, noRecord}
+use Rattle.heads.specs.Heads.{placeOf, namedAt}
+use Rattle.records.specs.Records.{keptOf}
 use Rattle.state.proofs.Views.{owned-sized}
-use Rattle.settling.specs.Replays.{pointOf, standingAt, earlierAt, replayFrom}
 use Rattle.replay.proofs.Replays.{replay-decided, point-decided, replay-meets}
 use borrow.Author.Needs.{needs}
 use Rattle.replay.proofs.replay.Statement.{statement}
 use Rattle.replay.proofs.replay.Tie as tie
 use Rattle.replay.proofs.replay.Reads as reads
 use Rattle.replay.proofs.replay.Lts as lts
-use Rattle.heads.proofs.seat.Reads as seat-reads
+use Rattle.heads.proofs.named.Reads as named-reads
+use Rattle.heads.proofs.place.Reads as place-reads
 use Rattle.records.proofs.count.Reads as count-reads
 use Rattle.settling.proofs.decide_replay.Reads as decide-replay-reads
-use Rattle.settling.proofs.earlier_seat.Reads as earlier-seat-reads
+use Rattle.settling.proofs.earlier.Reads as earlier-reads
 use Rattle.settling.proofs.point_of.Reads as point-of-reads
 
-seat-requires : tie.Need-seat-requires
-seat-requires c κs = search needs
+named-requires : tie.Need-named-requires
+named-requires c κs = search needs
+
+place-requires : tie.Need-place-requires
+place-requires c κs = search needs
 
 mul-standing : tie.Need-mul-standing
 mul-standing c = search needs
@@ -34,8 +35,11 @@ mul-standing c = search needs
 element-copy-out-standing : tie.Need-element-copy-out-standing
 element-copy-out-standing c = search needs
 
-earlier-seat-requires : tie.Need-earlier-seat-requires
-earlier-seat-requires c κs = search needs
+earlier-requires : tie.Need-earlier-requires
+earlier-requires c κs = search needs
+
+place-requires-2 : tie.Need-place-requires-2
+place-requires-2 c κs = search needs
 
 mul-seen : tie.Need-mul-seen
 mul-seen c = search needs
@@ -60,38 +64,35 @@ element-set-from-amount c = search needs
 
 mul-entry : tie.Need-mul-entry
 mul-entry c =
-    omega (arith, (c .before .before .before .before .before .before .before .before .before .before .before .before .before .before .before .before .seat .ensures .1))
+    omega (arith, (c .before .before .before .before .before .before .before .before .before .before .before .before .before .before .before .before .before .place .ensures .1))
 
 element-set-from-entry : tie.Need-element-set-from-entry
 element-set-from-entry c =
-    (c .before .before .before .before .before .before .before .before .before .before .before .before .before .before .before .before .seat .ensures .1)
+    (c .before .before .before .before .before .before .before .before .before .before .before .before .before .before .before .before .before .place .ensures .1)
 
 returns : tie.Need-returns
 returns c =
-    let s = (c .before .before .before .before .before .before .before .before .before .before .before .before .before .before .before .before .before .before) in
-    let a = s .args in
-    let p = a .t1 in
-    let to-n = toZ-ofZ (s .fits .n) in
-    let standing = getD (p .edits) ((c .before .before .before .before .before .before .before .before .before .before .before .before .before .before .before .before .seat .result)) noRecord in
-    let slot = (c .before .before .before .before .before .before .before .before .before .before .before .before .before .before .before .before .seat .ensures .0) ∙ ap (seatOf (p .head)) to-n in
-    let seat = (c .before .before .before .before .before .before .before .before .before .before .before .before .before .before .earlier-seat .ensures .0) ∙ ap (λ j. placeOf (earlierAt (p .head) j standing)) to-n in
+    let s = (c .before .before .before .before .before .before .before .before .before .before .before .before .before .before .before .before .before .before .before .before) in
+    let p = s .args .t1 in
+    let n = s .args .n in
+    let named = (c .before .before .before .before .before .before .before .before .before .before .before .before .before .before .before .before .before .before .named .ensures .0) ∙ ap (namedAt (p .head)) (toZ-ofZ (s .fits .n)) in
     let few = (c .before .before .before .before .before .before .before .before .before .before .count .ensures .1) in
     let all = (c .before .before .before .before .before .before .before .before .before .before .count .ensures .0) in
     let place : min ((c .before .before .before .before .before .before .before .before .before .before .count .result)) 256 + 1 ≡ count isSettled (keptOf (p .head) (p .edits)) + 1 = omega (arith, few, all) in
-    let point = point-decided p (a .n) slot ((c .before .before .before .before .before .before .before .before .before .before .before .before .point-of .ensures .0) ∙ ap (λ j. pointOf (standingAt (p .head) j standing .measure)) to-n) in
-    let d = replay-decided false p (a .n) slot seat place
-    ((c .before .before .decide-replay .ensures) ∙ (λ j. replayFrom (testedBy false (replicate 161 0)) (p .head) (p .lower) (p .gap) (p .upper) (p .draft) (p .arrived) (to-n j) standing (getD (p .edits) ((c .before .before .before .before .before .before .before .before .before .before .before .before .before .before .earlier-seat .result)) noRecord) (min ((c .before .before .before .before .before .before .before .before .before .before .count .result)) 256 + 1)))
-    (unlinked _ _ _ _) in
-    rw (toZ-ofZ (fits32 ((c .before .before .decide-replay .result .amount)) ((c .before .struct-told .given .0 .1))), point, slot, d) (replay-meets p (owned-sized p (s .good .0)) (a .n))
+    let point = point-decided p n named ((c .before .before .before .before .before .before .before .before .before .before .before .before .before .before .before .before .before .place .ensures .0)) ((c .before .before .before .before .before .before .before .before .before .before .before .before .point-of .ensures .0)) in
+    let d = replay-decided false p n named ((c .before .before .before .before .before .before .before .before .before .before .before .before .before .before .before .before .before .place .ensures .0)) ((c .before .before .before .before .before .before .before .before .before .before .before .before .before .before .before .earlier .ensures .0)) ((c .before .before .before .before .before .before .before .before .before .before .before .before .before .before .place2 .ensures .0)) place ((c .before .before .decide-replay .ensures)) (unlinked _ _ _ _) in
+    rw (toZ-ofZ (fits32 ((c .before .before .decide-replay .result .amount)) ((c .before .struct-told .given .0 .1))), point, (c .before .before .before .before .before .before .before .before .before .before .before .before .before .before .before .before .before .place .ensures .0) ∙ ap placeOf named, d) (replay-meets p (owned-sized p (s .good .0)) n)
 
 pub replay-spec : {M : Type 1} → statement M
 replay-spec =
     tie.close
     (tie.spec
-    seat-requires
+    named-requires
+    place-requires
     mul-standing
     element-copy-out-standing
-    earlier-seat-requires
+    earlier-requires
+    place-requires-2
     mul-seen
     element-copy-out-seen
     point-of-requires

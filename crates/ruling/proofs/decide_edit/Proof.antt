@@ -4,7 +4,6 @@ use mathlib.Core.Path.{ap, _∙_}
 use mir.Facts.{toZ-ofZ}
 use Rattle.exact.proofs.Ints.{fits32}
 use Rattle.protocol.specs.Lists.{natural}
-use Rattle.heads.specs.Heads.{namedAt}
 use Rattle.records.specs.Records.{recordOf}
 use Rattle.rules.specs.Rules.{testedBy}
 use Rattle.ruling.specs.Edits.{spotOf, editRuling, editDecision}
@@ -14,7 +13,6 @@ use Rattle.ruling.proofs.decide_edit.Tie as tie
 use Rattle.ruling.proofs.decide_edit.Reads as reads
 use Rattle.ruling.proofs.decide_edit.Lts as lts
 use Rattle.exact.proofs.number.Reads as number-reads
-use Rattle.heads.proofs.named.Reads as named-reads
 use Rattle.ruling.proofs.decided.Reads as decided-reads
 use Rattle.ruling.proofs.spot.Reads as spot-reads
 
@@ -26,9 +24,6 @@ mul-old c = search needs
 
 element-copy-out-old : tie.Need-element-copy-out-old
 element-copy-out-old c = search needs
-
-named-requires : tie.Need-named-requires
-named-requires c κs = search needs
 
 number-requires : tie.Need-number-requires
 number-requires c κs = search needs
@@ -44,21 +39,20 @@ decided-requires c κs = search needs
 
 returns : tie.Need-returns
 returns c =
-    let s = (c .before .before .before .before .before .before .before .before) in
+    let s = (c .before .before .before .before .before .before .before) in
     let a = s .args in
     let to-s = toZ-ofZ (s .fits .s) in
     let to-m = toZ-ofZ (s .fits .m) in
     let client = toZ-ofZ (s .fits .client) in
     let after = toZ-ofZ (s .fits .after) in
     let constant = toZ-ofZ (s .fits .constant) in
-    let i = (c .before .before .before .before .named .ensures .0) ∙ ap (namedAt (a .h)) after in
     let side = (c .before .before .before .number .ensures) ∙ ap natural to-s in
     let measure = (c .before .before .number2 .ensures) ∙ ap natural to-m in
     let kind = (c .before .number3 .ensures) ∙ ap natural (toZ-ofZ (s .fits .kind)) in
-    let spot = (c .before .before .before .before .before .before .before .spot .ensures .0) ∙ (λ j. spotOf (natural (to-s j)) (natural (to-m j))) in
-    let old = toZ-ofZ (fits32 (getD (a .values .now) (c .before .before .before .before .before .before .before .spot .result) (pos 0)) (c .before .before .before .before .before .before .old .given)) ∙ ap (λ j. getD (a .values .now) j (pos 0)) spot in
+    let spot = (c .before .before .before .before .before .before .spot .ensures .0) ∙ (λ j. spotOf (natural (to-s j)) (natural (to-m j))) in
+    let old = toZ-ofZ (fits32 (getD (a .values .now) (c .before .before .before .before .before .before .spot .result) (pos 0)) (c .before .before .before .before .before .old .given)) ∙ ap (λ j. getD (a .values .now) j (pos 0)) spot in
     (c .decided .ensures)
-    ∙ (λ j. editDecision (a .h) (editRuling (testedBy (a .sound) (a .links .now)) (a .h) (a .lower .now) (a .gap .now) (a .upper .now) (a .firm .now) (a .values .now) (recordOf (i j) (a .seen)) (side j) (client j) (after j) (measure j) (kind j) (constant j)) (old j) (side j) (natural (client j)) (natural (after j)) (measure j))
+    ∙ (λ j. editDecision (a .h) (editRuling (testedBy (a .sound) (a .links .now)) (a .h) (a .lower .now) (a .gap .now) (a .upper .now) (a .firm .now) (a .values .now) (recordOf (a .i) (a .seen)) (side j) (client j) (after j) (measure j) (kind j) (constant j)) (old j) (side j) (natural (client j)) (natural (after j)) (measure j))
 
 pub decide-edit-spec : {M : Type 1} → statement M
 decide-edit-spec =
@@ -67,7 +61,6 @@ decide-edit-spec =
     spot-requires
     mul-old
     element-copy-out-old
-    named-requires
     number-requires
     number-requires-2
     number-requires-3

@@ -4,31 +4,21 @@ use lib.ListN.{getD}
 use mathlib.Core.Path.{_≡_, ap, _∙_}
 use mir.Facts.{toZ-ofZ}
 use Rattle.exact.proofs.Ints.{fits32}
-use Rattle.heads.specs.Heads.{endIn, keptIn, positionOf, namedAt}
 use Rattle.records.specs.Records.{recordOf}
 use Rattle.rules.specs.Rules.{testedBy}
-use Rattle.settling.specs.Replays.{pointOf, replayOutcome, replayDecision}
+use Rattle.settling.specs.Replays.{replayOutcome, replayDecision}
 use borrow.Author.Needs.{needs}
 use Rattle.settling.proofs.decide_replay.Statement.{statement}
 use Rattle.settling.proofs.decide_replay.Tie as tie
 use Rattle.settling.proofs.decide_replay.Reads as reads
 use Rattle.settling.proofs.decide_replay.Lts as lts
-use Rattle.heads.proofs.named.Reads as named-reads
-use Rattle.heads.proofs.position.Reads as position-reads
 use Rattle.heads.proofs.unset.Reads as unset-reads
-use Rattle.records.proofs.found.Reads as found-reads
 use Rattle.rows.proofs.capped.Reads as capped-reads
 use Rattle.settling.proofs.decided.Reads as decided-reads
-use Rattle.settling.proofs.point.Reads as point-reads
+use Rattle.settling.proofs.point_of.Reads as point-of-reads
 
-named-requires : tie.Need-named-requires
-named-requires c κs = search needs
-
-found-requires : tie.Need-found-requires
-found-requires c κs = search needs
-
-point-requires : tie.Need-point-requires
-point-requires c κs = search needs
+point-of-requires : tie.Need-point-of-requires
+point-of-requires c κs = search needs
 
 mul-old : tie.Need-mul-old
 mul-old c = search needs
@@ -38,9 +28,6 @@ element-copy-out-old c = search needs
 
 unset-requires : tie.Need-unset-requires
 unset-requires c κs = search needs
-
-position-requires : tie.Need-position-requires
-position-requires c κs = search needs
 
 capped-requires : tie.Need-capped-requires
 capped-requires c κs = search needs
@@ -56,29 +43,21 @@ decided-requires c κs = search needs
 
 returns : tie.Need-returns
 returns c =
-    let s = (c .before .before .before .before .before .before .before .before .before) in
-    let a = s .args in
-    let i = (c .before .before .before .before .before .before .before .before .named .ensures .0) ∙ ap (namedAt (a .h)) (toZ-ofZ (s .fits .n)) in
-    let e = (c .before .before .before .before .before .before .before .found .ensures) ∙ ap (λ j. recordOf j (a .standing)) i in
-    let point = (c .before .before .before .before .before .before .point .ensures .0) ∙ ap (λ r. pointOf (r .measure)) e in
-    let old = toZ-ofZ (fits32 (getD (a .draft .now) ((c .before .before .before .before .before .before .point .result)) (pos 0)) ((c .before .before .before .before .before .old .given))) ∙ ap (λ j. getD (a .draft .now) j (pos 0)) point in
-    let earlier = (c .before .before .position .ensures .0) ∙ ap (λ r. positionOf (endIn (a .h)) (keptIn (a .h)) (r .earlier)) e in
-    let missing = (c .before .before .before .unset .ensures .0) in
+    let a = (c .before .before .before .before .before .before .args) in
+    let old = toZ-ofZ (fits32 (getD (a .draft .now) ((c .before .before .before .before .before .point-of .result)) (pos 0)) ((c .before .before .before .before .old .given))) ∙ ap (λ j. getD (a .draft .now) j (pos 0)) ((c .before .before .before .before .before .point-of .ensures .0)) in
+    let missing = (c .before .before .unset .ensures .0) in
     let place = ap (λ j. j + 1) ((c .before .capped .ensures)) in
     (c .decided .ensures)
-    ∙ (λ j. replayDecision (replayOutcome (testedBy (a .sound) (a .links .now)) (a .h) (a .lower .now) (a .gap .now) (a .upper .now) (a .draft .now) (missing j) (recordOf (i j) (a .standing)) (recordOf (earlier j) (a .seen)) (old j)) (a .standing) (old j) (place j))
+    ∙ (λ j. replayDecision (replayOutcome (testedBy (a .sound) (a .links .now)) (a .h) (a .lower .now) (a .gap .now) (a .upper .now) (a .draft .now) (missing j) (recordOf (a .i) (a .standing)) (recordOf (a .j) (a .seen)) (old j)) (a .standing) (old j) (place j))
 
 pub decide-replay-spec : {M : Type 1} → statement M
 decide-replay-spec =
     tie.close
     (tie.spec
-    named-requires
-    found-requires
-    point-requires
+    point-of-requires
     mul-old
     element-copy-out-old
     unset-requires
-    position-requires
     capped-requires
     cast-decided
     add-decided
