@@ -128,6 +128,15 @@ fn fates(kept: usize) -> String {
 const MALFORMED: &str = "measure 1234567890\nedit 1 5 0 1 2\nedit 1 5 0 1 2 1\r\nmesure 5\n\nedit  1 5 0 1 2 1\nreplay -0\nshow 1 2\n\
                          rule 1 07 2 0\nopen \nedit 1 5 0 1 2 1 1\n";
 
+/// The kitchens of the examples, as they are, from the first line to the last.
+const KITCHENS: [(&str, &str); 5] = [
+    ("document", include_str!("../../examples/document.sheet")),
+    ("door", include_str!("../../examples/door.sheet")),
+    ("firm", include_str!("../../examples/firm.sheet")),
+    ("island", include_str!("../../examples/island.sheet")),
+    ("three-sides", include_str!("../../examples/three-sides.sheet")),
+];
+
 fn counted(count: usize, what: &str) -> String {
     format!("{count} {what}{}", if count == 1 { "" } else { "s" })
 }
@@ -205,10 +214,14 @@ fn growth() -> Vec<(&'static str, Vec<Workload>)> {
         let (setup, body) = cycles(count, 64, 8, 4);
         sides.push(Workload::new(&format!("joins, {count} sides, 64 edits"), setup, body));
     }
-    let run = vec![
-        Workload::new("run of an empty sheet", String::new(), String::new()),
-        Workload::new("run of one line", String::new(), "left".into()),
+    let mut run = vec![
+        Workload::new("an empty sheet", String::new(), String::new()),
+        Workload::new("one line", String::new(), "left".into()),
+        Workload::new("a plan drawn up, 32 measures, 64 rules", String::new(), drawn(32, 64, false)),
     ];
+    for (name, sheet) in KITCHENS {
+        run.push(Workload::new(&format!("examples/{name}, {} lines", sheet.lines().count()), String::new(), sheet.to_string()));
+    }
     vec![("rules", rules), ("kept edits", kept), ("sides", sides), ("a whole run", run)]
 }
 
