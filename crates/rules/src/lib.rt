@@ -61,7 +61,7 @@ fn less_by(low: i32, g: i32, high: i32) -> bool
 // Links between the rules, by which those that name a measure are found without a look at the others: at 128 + m the first rule that names
 // measure m, from 1 to 32; at i the next after rule i that names its lower measure, at 64 + i the same for its upper one. The number of
 // rules where there is none.
-pub type Links = [u32; 161];
+pub type Links = [u8; 161];
 
 // A measure from 1 to 32 as it is; 0 for any other.
 fn listed(m: u32) -> usize
@@ -78,7 +78,7 @@ pub fn indexed<'a>(lower: &'a [u32; 64], upper: &'a [u32; 64], k: u32) -> Links
     ensures { λ r. ⌜ Linked r (now (lower .entry)) (now (upper .entry)) 0 (min k 64) ⌝ }
 {
     let end = rows::capped(k, 64);
-    let none = end as u32;
+    let none = end as u8;
     let mut links = [none; 161];
     let mut i = end;
     while 0 < i {
@@ -89,13 +89,13 @@ pub fn indexed<'a>(lower: &'a [u32; 64], upper: &'a [u32; 64], k: u32) -> Links
         let above = links[b];
         links[i] = below;
         links[64 + i] = above;
-        links[a] = i as u32;
-        links[b] = i as u32;
+        links[a] = i as u8;
+        links[b] = i as u8;
     }
     links
 }
 
-fn wide(x: u32) -> usize
+fn wide(x: u8) -> usize
     ensures { λ r. ⌜ r ≡ x ⌝ }
 {
     x as usize

@@ -58,20 +58,11 @@ listed-requires-2 c κs = search needs
 add-b : tie.Need-add-b Inv-loop μ-loop
 add-b c = omega arith
 
-mul-below : tie.Need-mul-below Inv-loop μ-loop
-mul-below c = omega arith
-
 array-read-below : tie.Need-array-read-below Inv-loop μ-loop
 array-read-below c = omega arith
 
-mul-above : tie.Need-mul-above Inv-loop μ-loop
-mul-above c = omega arith
-
 array-read-above : tie.Need-array-read-above Inv-loop μ-loop
 array-read-above c = omega arith
-
-mul-links : tie.Need-mul-links Inv-loop μ-loop
-mul-links c = omega arith
 
 array-write-links : tie.Need-array-write-links Inv-loop μ-loop
 array-write-links c = omega arith
@@ -79,26 +70,17 @@ array-write-links c = omega arith
 add-links : tie.Need-add-links Inv-loop μ-loop
 add-links c = omega arith
 
-mul-links-2 : tie.Need-mul-links-2 Inv-loop μ-loop
-mul-links-2 c = omega arith
-
 array-write-links-2 : tie.Need-array-write-links-2 Inv-loop μ-loop
 array-write-links-2 c = omega arith
 
 cast-links : tie.Need-cast-links Inv-loop μ-loop
 cast-links c = omega arith
 
-mul-links-3 : tie.Need-mul-links-3 Inv-loop μ-loop
-mul-links-3 c = omega arith
-
 array-write-links-3 : tie.Need-array-write-links-3 Inv-loop μ-loop
 array-write-links-3 c = omega arith
 
 cast-links-2 : tie.Need-cast-links-2 Inv-loop μ-loop
 cast-links-2 c = omega arith
-
-mul-links-4 : tie.Need-mul-links-4 Inv-loop μ-loop
-mul-links-4 c = omega arith
 
 array-write-links-4 : tie.Need-array-write-links-4 Inv-loop μ-loop
 array-write-links-4 c = omega arith
@@ -141,20 +123,14 @@ indexed-spec =
     element-copy-out-listed-2
     listed-requires-2
     add-b
-    mul-below
     array-read-below
-    mul-above
     array-read-above
-    mul-links
     array-write-links
     add-links
-    mul-links-2
     array-write-links-2
     cast-links
-    mul-links-3
     array-write-links-3
     cast-links-2
-    mul-links-4
     array-write-links-4
     loop-less
     loop-again

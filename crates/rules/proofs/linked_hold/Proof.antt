@@ -62,9 +62,6 @@ value-with-requires c κs = search needs
 add-wide : tie.Need-add-wide Inv-loop μ-loop
 add-wide c = omega arith
 
-mul-wide : tie.Need-mul-wide Inv-loop μ-loop
-mul-wide c = omega arith
-
 element-copy-out-wide : tie.Need-element-copy-out-wide Inv-loop μ-loop
 element-copy-out-wide c = omega arith
 
@@ -128,7 +125,6 @@ linked-hold-spec =
     μ-loop
     value-with-requires
     add-wide
-    mul-wide
     element-copy-out-wide
     wide-requires
     loop-holds
