@@ -23,11 +23,11 @@ fateOf Waiting = model.waiting
 fateOf Accepted = model.accepted
 fateOf Revoked = model.revoked
 
--- what an array of edits reads past its end
 -- the same with another fate
 abbrev pub withFate : EditRecord → Fate → EditRecord
 withFate e f = record { change = e .change; fate = f; side = e .side; client = e .client; earlier = e .earlier; measure = e .measure; place = e .place; replied = e .replied }
 
+-- what an array of edits reads past its end
 abbrev pub noRecord : EditRecord
 noRecord = record { change = Set (pos 0); fate = Unsent; side = 0; client = 0; earlier = 0; measure = 0; place = 0; replied = false }
 
