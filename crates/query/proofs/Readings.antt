@@ -8,10 +8,12 @@ use mathlib.Core.List.{List, [], _∷_, _++_}
 use borrow.Author.Tests.{eqb-true, eqb-false, eq-eqb, ne-eqb, lt-ltb, le-leb}
 use lib.Dec.{eqb, ltb, eqb·suc-zero}
 use lib.IntN.{ℤ, pos}
-use lib.ListN.{length, getD, set, take, drop, length-set}
+use lib.ListN.{length, getD, set, take, drop, length-set, length-append}
 use Rattle.protocol.specs.Lists.{natural, oneTo, tally, count}
 use Rattle.protocol.specs.Plan.{Kept, fateNumber, isOpen, sideAt, lookup, unsentOf, pending}
-use Rattle.protocol.specs.Calls.{show, fine, refused, first, checks, further, gives, step, fateIn, leftIn, shown, ok}
+use Rattle.protocol.specs.Calls.{show, fine, refused, first, checks, further, gives, step, fateIn, leftIn, shown, shownBy, no, ok}
+use Rattle.protocol.specs.Calls as model
+use Rattle.protocol.specs.Plan as model-plan
 use Rattle.protocol.proofs.Laws.{cases, range, yes-is, is-yes, tally-same}
 use Rattle.rows.specs.Rows.{span, row, copied, copiedIn}
 use Rattle.rows.proofs.Spans.{getD-set, getD-other, below}
@@ -167,3 +169,25 @@ filled vs at n buffer h k =
 pub front : (i n : ℕ) (f : ℕ → ℤ) (rest : List ℤ) → take n (span i n f ++ rest) ≡ span i n f
 front i zero f rest = refl
 front i (suc n) f rest = ap {B = List ℤ} (λ xs. f i ∷ xs) (front (suc i) n f rest)
+
+-- ---- the part that show hands back is the front of the buffer that it leaves
+
+front-of : (vs rest : List ℤ) → take (length vs) (vs ++ rest) ≡ vs
+front-of [] rest = refl
+front-of (v ∷ vs) rest = ap {B = List ℤ} (λ xs. v ∷ xs) (front-of vs rest)
+
+told-front : (a : model.Answer) (buffer : List ℤ) → take (length (shownBy a buffer .part)) (shownBy a buffer .buffer) ≡ shownBy a buffer .part
+told-front (no k) buffer = refl
+told-front (ok vs) buffer = front-of vs (drop (length vs) buffer)
+
+told-room : (a : model.Answer) (buffer : List ℤ) → length (shownBy a buffer .part) ≤ length (shownBy a buffer .buffer)
+told-room (no k) buffer = omega arith
+told-room (ok vs) buffer = let e = length-append vs (drop (length vs) buffer) in omega (arith, e)
+
+pub shown-front : (s : ℤ) (p : model-plan.Plan) (buffer : List ℤ) → take (length (shown s p buffer .part)) (shown s p buffer .buffer) ≡ shown s p buffer .part
+unfolding shown
+shown-front s p buffer = told-front (step (show s (length buffer)) p .answer) buffer
+
+pub shown-room : (s : ℤ) (p : model-plan.Plan) (buffer : List ℤ) → length (shown s p buffer .part) ≤ length (shown s p buffer .buffer)
+unfolding shown
+shown-room s p buffer = told-room (step (show s (length buffer)) p .answer) buffer

@@ -49,21 +49,29 @@ fn fill(values: &[i32; 256], at: usize, n: usize, buffer: &mut [i32])
     rows::copy(buffer, values, at, 0, n);
 }
 
-// The side's values in the front of the lent buffer, and that part handed back; the refusal number, 0 if accepted, beside it.
-// A refusal hands back an empty part. That the rest of the buffer is untouched is fill's promise: of a slice that went into the
-// result no contract can speak.
-pub fn show<'a>(p: State, s: i32, buffer: &'a mut [i32], refusal: &mut u32) -> &'a mut [i32]
-    ensures { λ r. ⌜ (now (refusal .exit) ≡ shown s (view p) (now (buffer .entry)) .refusal) × (now r ≡ shown s (view p) (now (buffer .entry)) .part) ⌝ }
+// The side's values in the front of the lent buffer, the rest untouched; gives how many there are. The refusal number, 0 if accepted, goes into the
+// number lent beside it; a refusal gives 0 and leaves the buffer as it was. All of show's work is done here, where a contract can speak of the whole
+// buffer: of a slice that went into the result, as in show, none can.
+pub fn show_in(p: State, s: i32, buffer: &mut [i32], refusal: &mut u32) -> usize
+    ensures { λ r. ⌜ (r ≡ length (shown s (view p) (now (buffer .entry)) .part)) × (now (refusal .exit) ≡ shown s (view p) (now (buffer .entry)) .refusal) × (now (buffer .exit) ≡ shown s (view p) (now (buffer .entry)) .buffer) ⌝ }
 {
     let h = p.head;
     let side = exact::number(s);
     let k = figures::show_refusal(h, side, buffer.len());
     *refusal = k;
     if k != 0 {
-        return &mut buffer[..0];
+        return 0;
     }
     let n = rows::capped(h.measures, 32);
     let at = heads::offset(side);
-    fill(&p.values, at, n, &mut buffer[..]);
+    fill(&p.values, at, n, buffer);
+    n
+}
+
+// The same, with the filled part handed back (01, "Which form to use where"); a refusal hands back an empty part.
+pub fn show<'a>(p: State, s: i32, buffer: &'a mut [i32], refusal: &mut u32) -> &'a mut [i32]
+    ensures { λ r. ⌜ (now (refusal .exit) ≡ shown s (view p) (now (buffer .entry)) .refusal) × (now r ≡ shown s (view p) (now (buffer .entry)) .part) ⌝ }
+{
+    let n = show_in(p, s, &mut buffer[..], refusal);
     &mut buffer[..n]
 }
