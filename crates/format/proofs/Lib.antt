@@ -1,3 +1,4 @@
 pub mod Digits
 pub mod Inverse
 pub mod Texts
+pub mod Longest

@@ -1,4 +1,5 @@
 pub mod Numbers
 pub mod Lines
 pub mod Sheets
+pub mod Longest
 pub mod Samples

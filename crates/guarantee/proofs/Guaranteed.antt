@@ -1,6 +1,6 @@
 -- The guarantee, proved from the invariant. Assumes nothing.
 use Prim.Native.Nat.{ℕ, suc, _+_, _<_, _≤_}
-use mathlib.Core.Path.{_≡_, refl, sym, ap, _∙_}
+use mathlib.Core.Path.{_≡_, refl, sym, ap, subst, _∙_}
 use mathlib.Core.Logic.{_⊎_, inl, inr}
 use mathlib.Core.Bool.{Bool, true, false, not, cond, _&&_, _||_}
 use mathlib.Core.List.{List, [], _∷_}
@@ -15,6 +15,7 @@ use Rattle.protocol.specs.History.{Settling, History, empty, entered, recorded,
 use Rattle.guarantee.specs.Runs.{closes, edits, reads, isOk, accepts, following, noting, end, quiet, taken, run, Trace, begun, called}
 use Rattle.guarantee.specs.Guarantee.{Able, Stuck, Underway, Completed, Installed, Guarantee, ForEveryList, ForEveryTrace}
 use Rattle.protocol.proofs.Laws.{on, decide, cases, yes-is, no-is, is-yes, is-no, both, which, or-right, neither, none-yes, range, in-range, Fine, Pass, passed, pass, tally-zero, tally-some, tally-none, count-snoc, length-snoc, all-nth}
+use Rattle.protocol.proofs.Refusals.{AnswerAgreed, answer-agreed}
 use Rattle.guarantee.proofs.Kept.{none-open, open-count, settled-count, none-unsent, first-waiting, fate-found, verdict, Reported}
 use Rattle.guarantee.proofs.Left.{unarrived, unconfirmed, sum}
 use Rattle.guarantee.specs.Holding.{Holding}
@@ -423,6 +424,7 @@ guaranteed p h sound =
       whole-shown = λ w room. rw (only whole (p .mode) w) (shows (p .content) (h .values) (g .alone (or-right (is blank (p .mode)) _ w)) (when-whole w .stage .0) room);
       refused-keeps = λ c k. keeps c p h k;
       reading-keeps = λ c k. reading c p h k;
+      agreed = λ c k e. subst AnswerAgreed e (answer-agreed c p);
       told-left = says p;
       able = λ a. able-with p h sound a;
       number = λ a. number (p .mode) (p .content) h t a;

@@ -9,7 +9,7 @@ use lib.Dec.{T, leb}
 use lib.IntN.{ℤ, pos}
 use Rattle.protocol.specs.Lists.{bit, oneTo, natural, all, snoc}
 use Rattle.protocol.specs.Plan.{Plan, blank, whole, split, is, active, holds, sideAt}
-use Rattle.protocol.specs.Calls.{Call, edit, install, show, fate-of, left, no, ok, leftIn, step}
+use Rattle.protocol.specs.Calls.{Call, isRefusal, edit, install, show, fate-of, left, no, ok, leftIn, step}
 use Rattle.protocol.specs.History.{History, Settling, closed, budget, isLate, listed, times, settledAs, replayed, EachHolds}
 use Rattle.guarantee.specs.Runs.{closes, edits, reads, accepts, following, noting, end, quiet, closings, taken, fromBlank, Trace}
 
@@ -71,6 +71,8 @@ pub record Guarantee (p : Plan) (h : History) : Type 0 where
   -- A refused call leaves plan and history, and so does one that only reads.
   pub refused-keeps : (c : Call) → T (not (accepts p c)) → (following p c ≡ p) × (noting p h c ≡ h)
   pub reading-keeps : (c : Call) → T (reads c) → (following p c ≡ p) × (noting p h c ≡ h)
+  -- A refusal is on the agreed list (condition 1).
+  pub agreed : (c : Call) (k : ℕ) → step c p .answer ≡ no k → T (isRefusal k)
   -- The call left gives the number left.
   pub told-left : step left p .answer ≡ ok (pos (leftIn p) ∷ [])
   -- While the plan is joining or closing, some closing move is accepted.

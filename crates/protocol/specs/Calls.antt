@@ -5,7 +5,7 @@ use mathlib.Core.List.{List, [], _∷_, _++_, map}
 use lib.ListN.{length, drop}
 use lib.Dec.{eqb, leb, ltb}
 use lib.IntN.{ℤ, pos}
-use Rattle.protocol.specs.Lists.{bit, none, oneTo, neg, within, natural, isZero, count, snoc, modify}
+use Rattle.protocol.specs.Lists.{bit, none, oneTo, neg, within, natural, isZero, count, any, snoc, modify}
 use Rattle.protocol.specs.Plan.{measureLimit, ruleLimit, gapLimit, sideLimit, keptLimit, clientLimit, numberLimit, Rule, Change, kindOf, Edit, Fate, unsent, waiting, accepted, revoked, fateNumber, isUnsent, isWaiting, isOpen, isSettled, Kept, Side, Mode, blank, whole, split, joining, closing, is, active, Content, Plan, inRange, holds, firmlyNamed, allowed, made, fits, effective, sideAt, lookup, unsentOf, pending, sidesThat}
 
 -- ---- the fourteen calls with their numbers, which may be any whole numbers; show also has the length of the lent buffer
@@ -143,6 +143,19 @@ no40 d = 40 unless none (sidesThat (λ s. not (sideAt d s .confirmed)) d)
 
 abbrev pub no41 : List ℤ → ℕ → Check
 no41 vs room = 41 unless leb (length vs) room
+
+-- the agreed list; 51 and 52 are the sheet's own
+
+abbrev pub refusals : List ℕ
+refusals =
+    11 ∷ 12 ∷ 13 ∷ 14 ∷ 15 ∷ 16 ∷ 17
+    ∷ 21
+    ∷ 22 ∷ 23 ∷ 24 ∷ 25 ∷ 26 ∷ 27 ∷ 30 ∷ 28 ∷ 29
+    ∷ 31 ∷ 32 ∷ 33 ∷ 34 ∷ 35 ∷ 36 ∷ 37 ∷ 38 ∷ 39 ∷ 40
+    ∷ 41 ∷ []
+
+abbrev pub isRefusal : ℕ → Bool
+isRefusal k = any (eqb k) refusals
 
 -- ---- the checks of each call, in their order
 
