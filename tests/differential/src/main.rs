@@ -3,7 +3,7 @@
 //!
 //! differential [SEED [LINES [LISTS]]]
 //!
-//! The environment's COUNTER may name the counter program, which is then run on some of the sheets.
+//! The environment's COUNTER names the counter program, which is run on some of the sheets.
 
 mod book;
 mod call;
@@ -44,6 +44,10 @@ fn main() -> ExitCode {
     let seed = argument(1, 1);
     let lines = argument(2, 1_500_000);
     let lists = argument(3, 2_000);
+    let Ok(program) = std::env::var("COUNTER") else {
+        eprintln!("differential: COUNTER names no program");
+        return ExitCode::from(2);
+    };
     println!("seed {seed}, {lines} lines, {lists} lists");
     let mut passed = 0u64;
     let mut failed = 0u64;
@@ -114,25 +118,23 @@ fn main() -> ExitCode {
         tally.lists, tally.moves, tally.late, tally.installs, tally.prefixes
     );
 
-    if let Ok(program) = std::env::var("COUNTER") {
-        let mut broken = 0;
-        for index in 0..COUNTER_SHEETS {
-            let mut random = Random::item(seed, index);
-            let sheet = sheets::sheet(&mut random);
-            match counter::check(&program, &mut random, &sheet) {
-                Ok(()) => passed += 1,
-                Err(what) => {
-                    failed += 1;
-                    broken += 1;
-                    println!("sheet {index}: {what}");
-                    if broken == FAILURES_SHOWN {
-                        break;
-                    }
+    let mut broken = 0;
+    for index in 0..COUNTER_SHEETS {
+        let mut random = Random::item(seed, index);
+        let sheet = sheets::sheet(&mut random);
+        match counter::check(&program, &mut random, &sheet) {
+            Ok(()) => passed += 1,
+            Err(what) => {
+                failed += 1;
+                broken += 1;
+                println!("sheet {index}: {what}");
+                if broken == FAILURES_SHOWN {
+                    break;
                 }
             }
         }
-        println!("counter program run on {COUNTER_SHEETS} sheets");
     }
+    println!("counter program run on {COUNTER_SHEETS} sheets");
 
     println!("{passed} passed, {failed} failed");
     if failed == 0 && passed > 0 {
