@@ -1,4 +1,5 @@
 pub mod Digits
 pub mod Inverse
 pub mod Texts
+pub mod Refusals
 pub mod Longest

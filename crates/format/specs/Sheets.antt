@@ -1,14 +1,14 @@
 -- The answers to a sheet, and the buffer that they are put into (01, "The sheet program"). Assumes nothing.
 use Prim.Native.Nat.{ℕ, _+_, _*_, _-_}
-use mathlib.Core.Bool.{Bool, true, false, cond}
+use mathlib.Core.Bool.{Bool, true, false, cond, _||_}
 use mathlib.Core.List.{List, [], _∷_, _++_}
 use mathlib.Core.Option.{Option, none, some}
-use lib.Dec.{leb, ltb}
+use lib.Dec.{eqb, leb, ltb}
 use lib.IntN.{ℤ}
 use lib.ListN.{length, drop}
 use Rattle.protocol.specs.Lists.{bit}
 use Rattle.protocol.specs.Plan.{Plan}
-use Rattle.protocol.specs.Calls.{Call, Answer, no, ok, Stepped, step, start}
+use Rattle.protocol.specs.Calls.{Call, isRefusal, Answer, no, ok, Stepped, step, start}
 use Rattle.format.specs.Numbers.{digits, written, nought}
 use Rattle.format.specs.Lines.{lineFeed, space, lines, lineCall}
 
@@ -36,6 +36,10 @@ stepOf (some c) p = step c p
 
 unfoldable pub turn : List ℕ → Plan → Stepped
 turn l p = stepOf (lineCall l) p
+
+-- the agreed list of refusals, with the sheet's own
+abbrev pub isSheetRefusal : ℕ → Bool
+isSheetRefusal k = isRefusal k || (eqb k 51 || eqb k 52)
 
 -- one answer for each line
 unfoldable pub answers : Plan → List (List ℕ) → List (List ℕ)

@@ -1,6 +1,7 @@
 // The plan as others use it: a blank plan and the fourteen calls of document 01, by value, with no precondition. Each promises
 // `Meets call p r` (state/specs/Meets): its answer and the plan after it are those of the protocol's `step`, and a refusal hands the
-// state back as it was. show promises `shown` of the buffer that it is lent. What every list of them guarantees is proofs/Promised.
+// state back as it was. show_in promises `shown` of the whole buffer that it is lent, refused too; show is show_in with the filled part handed back.
+// What every list of them guarantees is proofs/Promised.
 pub use state::Answer;
 pub use state::Answered;
 pub use state::State;
@@ -21,7 +22,8 @@ pub use reconcile::send;
 pub use reconcile::stop;
 pub use replay::replay;
 
-// Reading: show s, fate n, left.
+// Reading: show s (as a part, or as a count of values), fate n, left.
 pub use query::fate;
 pub use query::left;
 pub use query::show;
+pub use query::show_in;
