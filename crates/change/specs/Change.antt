@@ -12,7 +12,7 @@ use Rattle.change.specs.declared.Applied.{Applied}
 use Rattle.change.specs.declared.Applied.the-variants.{InRange, OutOfRange}
 
 abbrev pub viewChange : Change → model.Change
-viewChange (Set k) = record { kind = model.set; constant = k }
+viewChange (Set k) = record { kind = model.assign; constant = k }
 viewChange (Add k) = record { kind = model.add; constant = k }
 viewChange (Multiply k) = record { kind = model.multiply; constant = k }
 viewChange (Divide k) = record { kind = model.divide; constant = k }

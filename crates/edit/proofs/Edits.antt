@@ -26,7 +26,7 @@ use Rattle.records.specs.declared.EditRecord.{EditRecord}
 use Rattle.records.specs.declared.Fate.the-variants.{Unsent}
 use Rattle.heads.specs.declared.Head.{Head}
 use Rattle.state.specs.declared.State.{State}
-use Rattle.heads.specs.Heads.{modeOf, single, sidesIn, offsetOf, measuresIn, keptIn, endIn, placeOf, namedAt}
+use Rattle.heads.specs.Heads.{modeOf, single, sidesIn, offsetOf, measuresIn, keptIn, endIn, slotAt, namedAt}
 use Rattle.records.specs.Records.{keptAt, logOf, keptOf, noRecord}
 use Rattle.state.specs.View.{view, sideOf, rulesOf}
 use Rattle.state.specs.Parts.{namedIn}
@@ -82,12 +82,12 @@ decision-same test test′ p s client n m kind k h =
 
 -- the decision that the code makes, with the rules' own links, is the one in the state
 pub edit-decided : (sound : Bool) (p : State) (s client n m kind k : ℤ) {i seat : ℕ} {links : List ℕ} {d : Decision}
-    → i ≡ namedAt (p .head) n → seat ≡ placeOf i
+    → i ≡ namedAt (p .head) n → seat ≡ slotAt i
     → d ≡ editFrom (testedBy sound links) (p .head) (p .lower) (p .gap) (p .upper) (p .firm) (p .values) i (getD (p .edits) seat noRecord) s client n m kind k
     → LinkedIf sound links (p .lower) (p .upper) (min (p .head .rules) 64)
     → d ≡ editIn sound p s client n m kind k
 edit-decided sound p s client n m kind k {links = links} i-is seat-is d-is linked =
-    let seat = seat-is ∙ ap placeOf i-is in
+    let seat = seat-is ∙ ap slotAt i-is in
     d-is ∙ (λ j. editFrom (testedBy sound links) (p .head) (p .lower) (p .gap) (p .upper) (p .firm) (p .values) (i-is j) (getD (p .edits) (seat j) noRecord) s client n m kind k)
     ∙ decision-same (testedBy sound links) (testedIn sound) p s client n m kind k (λ d o. tested-linked sound links (natural m) (p .lower) (p .gap) (p .upper) _ _ linked)
 

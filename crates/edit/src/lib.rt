@@ -10,7 +10,7 @@ pub fn edit(p: State, s: i32, client: i32, after: i32, m: i32, kind: i32, consta
 {
     let h = p.head;
     let named = heads::named(h, after);
-    let seat = heads::place(named);
+    let seat = heads::slot(named);
     let seen = p.edits[seat];
     let spot = ruling::spot(s, m);
     let slot = rows::capped(h.kept, 255);

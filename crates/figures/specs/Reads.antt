@@ -4,7 +4,7 @@ use mathlib.Core.Bool.{Bool, false, not, cond, _||_}
 use mathlib.Core.List.{List, [], _∷_}
 use lib.Dec.{eqb, leb, ltb}
 use lib.ListN.{getD, set, replicate}
-use Rattle.protocol.specs.Lists.{bit, oneTo, tally}
+use Rattle.protocol.specs.Lists.{bit, oneTo, countTo}
 use Rattle.protocol.specs.Plan.{fateNumber, blank, joining, is, active, unsentOf}
 use Rattle.protocol.specs.Calls.{Check, _unless_}
 use Rattle.records.specs.declared.EditRecord.{EditRecord}
@@ -22,7 +22,7 @@ showChecks h s room = (31 unless not (is blank (modeOf (h .mode)))) ∷ (21 unle
 
 -- how many of n sides have no first log yet or unsent edits
 abbrev pub pendingIn : List Bool → List ℕ → ℕ → ℕ
-pendingIn arrived unsent n = tally (λ s. not (getD arrived (indexOf s) false) || ltb 0 (getD unsent (indexOf s) 0)) n
+pendingIn arrived unsent n = countTo (λ s. not (getD arrived (indexOf s) false) || ltb 0 (getD unsent (indexOf s) 0)) n
 
 -- how many edits each of the first n sides has unsent, in an array of 8
 unfoldable pub unsentCounts : Head → List EditRecord → ℕ → List ℕ

@@ -10,15 +10,15 @@ use lib.Dec.{T, eqb, leb, ltb, leb→le, ltb→lt, le→leb, eqb→eq, nltb→le
 use lib.IntN.{ℤ, pos, negsuc}
 use lib.ListN.{length, length-append, length-map}
 use lib.Signed.{mag, leZ}
-use Rattle.protocol.specs.Lists.{bit, tally, natural, neg, within, count, all, any, snoc, nth, modify}
+use Rattle.protocol.specs.Lists.{bit, countTo, natural, neg, within, count, all, any, snoc, nth, modify}
 use Rattle.protocol.specs.Plan as plan
 use Rattle.protocol.specs.Plan.{measureLimit, valueLimit, ruleLimit, sideLimit, keptLimit, numberLimit, Kept, Side, Mode, Content, Plan, whole, is, inRange, isSettled, isOpen, applied, made, fits, effective, value, absentSide, sideAt, lookup, fateNumber, sidesThat}
-use Rattle.protocol.specs.Calls.{Call, measure, rule, open-plan, split-side, edit, join, send, replay, stop, confirm, install, show, fate-of, left, Verdict, fine, refused, first, checks, further, changeOf, editOf, ruleOf, apart, firstValues, reset, onValues, hasArrived, hasConfirmed, freshSide, sent, settled, outcome, update, nextPlace, replayable, after, gives, leftIn, leftOf, fateIn, isRefusal, refusals, Answer, no, ok, Stepped, stepBy, step}
+use Rattle.protocol.specs.Calls.{Call, measure, rule, open-plan, split-side, edit, join, send, replay, stop, confirm, install, show, fate-of, left, Verdict, fine, refused, first, checks, further, changeOf, editOf, ruleOf, apart, firstValues, reset, onValues, hasArrived, hasConfirmed, freshSide, markSent, settled, outcome, update, nextPlace, replayable, after, gives, leftIn, leftOf, fateIn, isRefusal, refusals, Answer, no, ok, Stepped, stepBy, step}
 use Rattle.protocol.proofs.Laws.{cases, yes-is, is-yes, both, and-in, Fine, Pass, passed, length-snoc, length-modify, all-snoc, all-map, all-modify, all-kept}
 use Rattle.protocol.proofs.Refusals.{AnswerAgreed, answer-agreed}
 use Rattle.format.specs.Numbers.{digits, written}
 use Rattle.format.specs.Lines.{lineCall}
-use Rattle.format.specs.Sheets.{spaced, text, stepOf, turn}
+use Rattle.format.specs.Sheets.{spaced, text, stepOf, lineStep}
 use Rattle.format.specs.Longest.{numberWidth, longestAnswer}
 use Rattle.format.proofs.Digits.{length-most}
 use Rattle.format.proofs.Texts.{written-pos, written-below, spaced-more, text-no, text-ok, text-done}
@@ -78,9 +78,9 @@ module _ {A : Type 0} where
   count-most p [] = omega arith
   count-most p (x ∷ xs) = let i = count-most p xs in cases (p x) (λ e. rw e (omega arith)) (λ e. rw e (omega arith))
 
-tally-most : (f : ℕ → Bool) (n : ℕ) → tally f n ≤ n
-tally-most f zero = omega arith
-tally-most f (suc n) = let i = tally-most f n in cases (f (suc n)) (λ e. rw e (omega arith)) (λ e. rw e (omega arith))
+count-to-most : (f : ℕ → Bool) (n : ℕ) → countTo f n ≤ n
+count-to-most f zero = omega arith
+count-to-most f (suc n) = let i = count-to-most f n in cases (f (suc n)) (λ e. rw e (omega arith)) (λ e. rw e (omega arith))
 
 length-update : (n : ℕ) (f : Kept → Kept) (ks : List Kept) → length (update n f ks) ≡ length ks
 length-update n f [] = refl
@@ -118,8 +118,8 @@ row-made vs m ch t r =
 side-row : (d : Content) (s : ℕ) → Narrow d → T (isRow (sideAt d s .values))
 side-row d s g = nth-all isSideRow absentSide (d .sides) s tt (g .values)
 
-sent-place : (s : ℕ) (k : Kept) → shortPlace (sent s k) ≡ shortPlace k
-sent-place s k = cases (plan.isUnsent k && eqb (k .edit .side) s) (λ e. rw e) (λ e. rw e)
+mark-sent-place : (s : ℕ) (k : Kept) → shortPlace (markSent s k) ≡ shortPlace k
+mark-sent-place s k = cases (plan.isUnsent k && eqb (k .edit .side) s) (λ e. rw e) (λ e. rw e)
 
 replayable-fits : (d : Content) (n : ℕ) → T (replayable d n) → T (fits (lookup n (d .kept) .edit .measure) (lookup n (d .kept) .edit .change) (d .draft))
 unfolding replayable effective
@@ -202,8 +202,8 @@ narrow-after (send s) m d g k = record {
   draft = g .draft;
   sides = rw (length-modify (natural s) hasArrived (d .sides)) (g .sides);
   values = rw (all-kept isSideRow (natural s) hasArrived (d .sides) (λ x. refl)) (g .values);
-  kept = rw (length-map (d .kept) (sent (natural s))) (g .kept);
-  places = rw (all-map shortPlace (sent (natural s)) (d .kept) (sent-place (natural s))) (g .places);
+  kept = rw (length-map (d .kept) (markSent (natural s))) (g .kept);
+  places = rw (all-map shortPlace (markSent (natural s)) (d .kept) (mark-sent-place (natural s))) (g .places);
 }
 narrow-after (replay n) m d g k = record {
   rules = g .rules;
@@ -266,9 +266,9 @@ fate-row n (k ∷ ks) t =
 
 left-most : (m : Mode) (d : Content) → Narrow d → leftIn (record { mode = m; content = d }) ≤ 274
 left-most m d g =
-    let a = tally-most (plan.pending d) (length (d .sides)) in
+    let a = count-to-most (plan.pending d) (length (d .sides)) in
     let b = count-most isOpen (d .kept) in
-    let c = tally-most (λ s. not (sideAt d s .confirmed)) (length (d .sides)) in
+    let c = count-to-most (λ s. not (sideAt d s .confirmed)) (length (d .sides)) in
     let j : bit (is plan.joining m) ≤ 1 = cases (is plan.joining m) (λ e. rw e (omega arith)) (λ e. rw e (omega arith)) in
     let l : leftOf m d ≤ 274 = omega (arith, g .sides, g .kept) in
     cases (plan.active m) (λ e. rw e l) (λ e. rw e (omega arith))
@@ -347,16 +347,16 @@ longest-step c p g = by (first (checks c p)) (answer-agreed c p)
 
 -- of every line, whether it can be read or not
 module _ (l : List ℕ) (p : Plan) (g : Narrow (p .content)) where
-  pub narrow-line : Narrow (turn l p .plan .content)
-  unfolding turn
+  pub narrow-line : Narrow (lineStep l p .plan .content)
+  unfolding lineStep
   narrow-line = by (lineCall l)
     where
       by : (c : Option Call) → Narrow (stepOf c p .plan .content)
       by none = g
       by (some c) = narrow-step c p g
 
-  pub longest : length (text (turn l p .answer)) ≤ longestAnswer
-  unfolding turn
+  pub longest : length (text (lineStep l p .answer)) ≤ longestAnswer
+  unfolding lineStep
   longest = by (lineCall l)
     where
       by : (c : Option Call) → length (text (stepOf c p .answer)) ≤ longestAnswer

@@ -10,7 +10,7 @@ use Rattle.protocol.specs.Calls.{Call, isRefusal, Answer, no, ok, step}
 use Rattle.protocol.proofs.Laws.{or-left}
 use Rattle.protocol.proofs.Refusals.{AnswerAgreed, answer-agreed}
 use Rattle.format.specs.Lines.{lineCall}
-use Rattle.format.specs.Sheets.{stepOf, turn, isSheetRefusal}
+use Rattle.format.specs.Sheets.{stepOf, lineStep, isSheetRefusal}
 
 abbrev LineAgreed : Answer → Type 0
 LineAgreed (no k) = T (isSheetRefusal k)
@@ -20,8 +20,8 @@ wider : (a : Answer) → AnswerAgreed a → LineAgreed a
 wider (no k) t = or-left (isRefusal k) (eqb k 51 || eqb k 52) t
 wider (ok xs) t = tt
 
-pub line-agreed : (l : List ℕ) (p : Plan) (k : ℕ) → turn l p .answer ≡ no k → T (isSheetRefusal k)
-unfolding turn
+pub line-agreed : (l : List ℕ) (p : Plan) (k : ℕ) → lineStep l p .answer ≡ no k → T (isSheetRefusal k)
+unfolding lineStep
 line-agreed l p k e = subst LineAgreed e (by (lineCall l))
   where
     by : (c : Option Call) → LineAgreed (stepOf c p .answer)

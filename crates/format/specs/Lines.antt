@@ -36,13 +36,13 @@ words (b ∷ bs) = cond (eqb b space) ([] ∷ words bs) (grow b (words bs))
 
 -- a call that still takes numbers, one at a time
 pub data Shape : Type 0 where
-  given : Call → Shape
+  complete : Call → Shape
   takes : (ℤ → Shape) → Shape
 
 -- the call with exactly the numbers that it takes
 abbrev pub filled : Shape → List ℤ → Option Call
-filled (given c) [] = some c
-filled (given c) (x ∷ xs) = none
+filled (complete c) [] = some c
+filled (complete c) (x ∷ xs) = none
 filled (takes f) [] = none
 filled (takes f) (x ∷ xs) = filled (f x) xs
 
@@ -58,20 +58,20 @@ n asks s = record { name = n; shape = s }
 -- A sheet's show always has room for every measure.
 abbrev pub forms : List Form
 forms =
-    ((109 ∷ 101 ∷ 97 ∷ 115 ∷ 117 ∷ 114 ∷ 101 ∷ []) asks takes (λ v. given (measure v)))
-    ∷ ((114 ∷ 117 ∷ 108 ∷ 101 ∷ []) asks takes (λ a. takes (λ c. takes (λ b. takes (λ f. given (rule a c b f))))))
-    ∷ ((111 ∷ 112 ∷ 101 ∷ 110 ∷ []) asks given open-plan)
-    ∷ ((115 ∷ 112 ∷ 108 ∷ 105 ∷ 116 ∷ []) asks takes (λ s. given (split-side s)))
-    ∷ ((101 ∷ 100 ∷ 105 ∷ 116 ∷ []) asks takes (λ s. takes (λ client. takes (λ n. takes (λ m. takes (λ kind. takes (λ k. given (edit s client n m kind k))))))))
-    ∷ ((106 ∷ 111 ∷ 105 ∷ 110 ∷ []) asks given join)
-    ∷ ((115 ∷ 101 ∷ 110 ∷ 100 ∷ []) asks takes (λ s. given (send s)))
-    ∷ ((114 ∷ 101 ∷ 112 ∷ 108 ∷ 97 ∷ 121 ∷ []) asks takes (λ n. given (replay n)))
-    ∷ ((115 ∷ 116 ∷ 111 ∷ 112 ∷ []) asks given stop)
-    ∷ ((99 ∷ 111 ∷ 110 ∷ 102 ∷ 105 ∷ 114 ∷ 109 ∷ []) asks takes (λ s. given (confirm s)))
-    ∷ ((105 ∷ 110 ∷ 115 ∷ 116 ∷ 97 ∷ 108 ∷ 108 ∷ []) asks given install)
-    ∷ ((115 ∷ 104 ∷ 111 ∷ 119 ∷ []) asks takes (λ s. given (show s measureLimit)))
-    ∷ ((102 ∷ 97 ∷ 116 ∷ 101 ∷ []) asks takes (λ n. given (fate-of n)))
-    ∷ ((108 ∷ 101 ∷ 102 ∷ 116 ∷ []) asks given left)
+    ((109 ∷ 101 ∷ 97 ∷ 115 ∷ 117 ∷ 114 ∷ 101 ∷ []) asks takes (λ v. complete (measure v)))
+    ∷ ((114 ∷ 117 ∷ 108 ∷ 101 ∷ []) asks takes (λ a. takes (λ c. takes (λ b. takes (λ f. complete (rule a c b f))))))
+    ∷ ((111 ∷ 112 ∷ 101 ∷ 110 ∷ []) asks complete open-plan)
+    ∷ ((115 ∷ 112 ∷ 108 ∷ 105 ∷ 116 ∷ []) asks takes (λ s. complete (split-side s)))
+    ∷ ((101 ∷ 100 ∷ 105 ∷ 116 ∷ []) asks takes (λ s. takes (λ client. takes (λ n. takes (λ m. takes (λ kind. takes (λ k. complete (edit s client n m kind k))))))))
+    ∷ ((106 ∷ 111 ∷ 105 ∷ 110 ∷ []) asks complete join)
+    ∷ ((115 ∷ 101 ∷ 110 ∷ 100 ∷ []) asks takes (λ s. complete (send s)))
+    ∷ ((114 ∷ 101 ∷ 112 ∷ 108 ∷ 97 ∷ 121 ∷ []) asks takes (λ n. complete (replay n)))
+    ∷ ((115 ∷ 116 ∷ 111 ∷ 112 ∷ []) asks complete stop)
+    ∷ ((99 ∷ 111 ∷ 110 ∷ 102 ∷ 105 ∷ 114 ∷ 109 ∷ []) asks takes (λ s. complete (confirm s)))
+    ∷ ((105 ∷ 110 ∷ 115 ∷ 116 ∷ 97 ∷ 108 ∷ 108 ∷ []) asks complete install)
+    ∷ ((115 ∷ 104 ∷ 111 ∷ 119 ∷ []) asks takes (λ s. complete (show s measureLimit)))
+    ∷ ((102 ∷ 97 ∷ 116 ∷ 101 ∷ []) asks takes (λ n. complete (fate-of n)))
+    ∷ ((108 ∷ 101 ∷ 102 ∷ 116 ∷ []) asks complete left)
     ∷ []
 
 -- ---- reading

@@ -19,14 +19,14 @@ unfolding written
 spaced [] = []
 spaced (x ∷ xs) = space ∷ written x ++ spaced xs
 
-abbrev pub given : List ℤ → List ℕ
-given [] = space ∷ nought ∷ []
-given (x ∷ xs) = spaced (x ∷ xs)
+abbrev pub numbersText : List ℤ → List ℕ
+numbersText [] = space ∷ nought ∷ []
+numbersText (x ∷ xs) = spaced (x ∷ xs)
 
 unfoldable pub text : Answer → List ℕ
 unfolding digits written
 text (no k) = 110 ∷ 111 ∷ space ∷ digits k ++ (lineFeed ∷ [])
-text (ok xs) = 111 ∷ 107 ∷ given xs ++ (lineFeed ∷ [])
+text (ok xs) = 111 ∷ 107 ∷ numbersText xs ++ (lineFeed ∷ [])
 
 -- ---- a line made on a plan
 
@@ -34,18 +34,18 @@ abbrev pub stepOf : Option Call → Plan → Stepped
 stepOf none p = record { answer = no 51; plan = p }
 stepOf (some c) p = step c p
 
-unfoldable pub turn : List ℕ → Plan → Stepped
-turn l p = stepOf (lineCall l) p
+unfoldable pub lineStep : List ℕ → Plan → Stepped
+lineStep l p = stepOf (lineCall l) p
 
 -- the agreed list of refusals, with the sheet's own
 abbrev pub isSheetRefusal : ℕ → Bool
 isSheetRefusal k = isRefusal k || (eqb k 51 || eqb k 52)
 
 -- one answer for each line
-unfoldable pub answers : Plan → List (List ℕ) → List (List ℕ)
-unfolding turn text
-answers p [] = []
-answers p (l ∷ ls) = let r = turn l p in text (r .answer) ∷ answers (r .plan) ls
+unfoldable pub answerLines : Plan → List (List ℕ) → List (List ℕ)
+unfolding lineStep text
+answerLines p [] = []
+answerLines p (l ∷ ls) = let r = lineStep l p in text (r .answer) ∷ answerLines (r .plan) ls
 
 -- ---- the answers to a sheet
 
@@ -56,8 +56,8 @@ abbrev pub tooLong : List ℕ → Bool
 tooLong sheet = ltb sheetLimit (length sheet)
 
 unfoldable pub replies : List ℕ → List (List ℕ)
-unfolding text answers lines
-replies sheet = cond (tooLong sheet) (text (no 52) ∷ []) (answers start (lines sheet))
+unfolding text answerLines lines
+replies sheet = cond (tooLong sheet) (text (no 52) ∷ []) (answerLines start (lines sheet))
 
 -- ---- the buffer
 

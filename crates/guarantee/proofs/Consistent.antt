@@ -9,12 +9,12 @@ use borrow.Author.Tests.{eq-eqb, eqb-true, eqb-false}
 use lib.ListN.{length, length-map}
 use lib.Dec.{T, T-not, not-T, eqb, eqb→eq}
 use lib.IntN.{ℤ, pos, negsuc}
-use Rattle.protocol.specs.Lists.{bit, none, oneTo, natural, count, all, snoc, nth, modify}
+use Rattle.protocol.specs.Lists.{bit, isNone, oneTo, natural, count, all, snoc, nth, modify}
 use Rattle.protocol.specs.Plan.{Edit, fateNumber, isUnsent, isWaiting, isOpen, isSettled, Kept, Side, Mode, blank, whole, split, joining, closing, is, active, Content, made, absentSide, sideAt, lookup, unsentOf, pending, sidesThat}
-use Rattle.protocol.specs.Calls.{Call, measure, rule, open-plan, split-side, edit, join, send, replay, stop, confirm, install, show, fate-of, left, apart, checks, further, no25, editOf, ruleOf, changeOf, reset, onValues, hasArrived, hasConfirmed, sent, replayable, outcome, nextPlace, after, gives}
+use Rattle.protocol.specs.Calls.{Call, measure, rule, open-plan, split-side, edit, join, send, replay, stop, confirm, install, show, fate-of, left, apart, checks, further, no25, editOf, ruleOf, changeOf, reset, onValues, hasArrived, hasConfirmed, markSent, replayable, outcome, nextPlace, after, gives}
 use Rattle.protocol.specs.History.{Entry, edited, History, lastSent, closed, budget, times, replayed, EachHolds, entered}
 use Rattle.guarantee.specs.Guarantee.{InOrder}
-use Rattle.protocol.proofs.Laws.{on, decide, cases, yes-is, is-yes, is-no, both, and-in, which, or-right, or-left, not-not, range, in-range, same-no, Pass, tally-zero, count-map, count-snoc, length-snoc, length-modify, nth-same, nth-other, all-snoc}
+use Rattle.protocol.proofs.Laws.{on, decide, cases, yes-is, is-yes, is-no, both, and-in, which, or-right, or-left, not-not, range, in-range, same-no, Pass, count-to-zero, count-map, count-snoc, length-snoc, length-modify, nth-same, nth-other, all-snoc}
 use Rattle.guarantee.proofs.Kept.{editsOf, editsIn, edits-snoc, edits-sent, edits-settle, edit-found, settle-part, lookup-same, lookup-other, lookup-number, lookup-new, lookup-old, lookup-sent, open-sent, unsent-sent, unsent-other, Within, within-snoc, within-lookup, Rising, rising-le, rising-snoc, bounds, Named, named-sent, named-settle, named-snoc, Reported, reported-snoc, reported-sent, reported-settle, fresh-open, settled-count}
 use Rattle.guarantee.proofs.Left.{unarrived, unconfirmed, sum, sendTo, pending-sent, pending-others, send-sum, settled-shut, unsent-settled, settled-settled, replayTo, replay-sum, stop-sum, confirmTo, arrived-confirmed, confirm-sum, newKept, editTo, pending-edited, arrived-edited, confirmed-edited, pending-not-edited, edit-sum, joinTo, side-joined, join-sum}
 use Rattle.guarantee.specs.Holding.{Holding}
@@ -28,7 +28,7 @@ SideOk blank x u = Unit {0}
 SideOk whole x u = Unit {0}
 SideOk split x u = Unit {0}
 SideOk joining x u = T (not (x .confirmed))
-SideOk closing x u = T (x .arrived) × T (not (x .confirmed) || none u)
+SideOk closing x u = T (x .arrived) × T (not (x .confirmed) || isNone u)
 
 -- an edit that was replied to while split is sent with its side's first log
 abbrev pub Logged : Content → Type 0
@@ -122,7 +122,7 @@ module _ (m : Mode) (d : Content) (h : History) (t : Parted d h) (a : Active m d
           progress = record {
             draft = a .progress .draft;
             each = a .progress .each;
-            places = count-map isSettled (sent s) (d .kept) (λ k. ap not (open-sent s k)) ∙ a .progress .places;
+            places = count-map isSettled (markSent s) (d .kept) (λ k. ap not (open-sent s k)) ∙ a .progress .places;
           };
         },
       )
@@ -143,7 +143,7 @@ earlier-settled m d h t a told n logs still =
     (λ z. inl z)
     (λ r.
     let w = range (h .sides) (k .edit .side) (within-lookup (h .sides) (d .kept) e (rw (t .kept) (t .ground .within)) r) in
-    let here = tally-zero (unarrived d) (length (d .sides)) (k .edit .side) logs (w .0) (omega (arith, w .1, t .sides)) in
+    let here = count-to-zero (unarrived d) (length (d .sides)) (k .edit .side) logs (w .0) (omega (arith, w .1, t .sides)) in
     let gone = not-T (isUnsent k) (λ u. T-not (unarrived d (k .edit .side)) here (a .logged e u r)) in
     let shut : isOpen k ≡ false = shut-by (isUnsent k) (isWaiting k) gone still in
     let once : times e (h .settlings) ≡ 1 = ap (λ x. x .2) (rw shut at (told e)) in
@@ -212,12 +212,12 @@ module _ (d : Content) (h : History) (t : Parted d h) where
   stop-active a xs z = record {
     left = let fall = stop-sum d (h .sides) in omega (arith, a .left);
     late = a .late;
-    sides = λ x p q. (not-not (sideAt d x .arrived) (tally-zero (unarrived d) (length (d .sides)) x z p (omega (arith, t .sides))), or-left (not (sideAt d x .confirmed)) _ (a .sides x p q));
+    sides = λ x p q. (not-not (sideAt d x .arrived) (count-to-zero (unarrived d) (length (d .sides)) x z p (omega (arith, t .sides))), or-left (not (sideAt d x .confirmed)) _ (a .sides x p q));
     logged = a .logged;
     progress = a .progress;
   }
 
-  pub confirm-active : Active closing d h → (z : ℤ) (xs : List ℤ) → T (oneTo (length (d .sides)) (natural z)) → T (unconfirmed d (natural z)) → T (none (unsentOf (natural z) (d .kept)))
+  pub confirm-active : Active closing d h → (z : ℤ) (xs : List ℤ) → T (oneTo (length (d .sides)) (natural z)) → T (unconfirmed d (natural z)) → T (isNone (unsentOf (natural z) (d .kept)))
       → Parted (confirmTo d (natural z)) (entered (confirm z) xs h) × Active closing (confirmTo d (natural z)) (entered (confirm z) xs h)
   unfolding entered
   confirm-active a z xs has not-yet sent-all =
@@ -361,7 +361,7 @@ within-more n (e ∷ es) w = let i = range n (e .side) (w .0) in (in-range (suc 
 
 -- the earlier edit of a call that passes 25
 earlier-ok : (ks : List Kept) (client n : ℤ) → T (no25 (lookup (natural n) ks) client n .passes) → (natural n ≡ 0) ⊎ T (lookup (natural n) ks .replied)
-earlier-ok ks client (pos n) h = which (none n) _ h (λ z. inl (eqb→eq n 0 z)) (λ k. inr (both (lookup n ks .replied) _ k .0))
+earlier-ok ks client (pos n) h = which (isNone n) _ h (λ z. inl (eqb→eq n 0 z)) (λ k. inr (both (lookup n ks .replied) _ k .0))
 earlier-ok ks client (negsuc n) h = inl refl
 
 module _ (d : Content) (h : History) where

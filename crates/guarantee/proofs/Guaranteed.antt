@@ -8,13 +8,13 @@ use native.Mathlib.Omega.{arith}
 use lib.ListN.{length, length-map}
 use lib.Dec.{T, T-not, not-T, eqb, eqb→eq, leb, nltb→le}
 use lib.IntN.{ℤ, pos}
-use Rattle.protocol.specs.Lists.{bit, natural, tally, count, all, snoc}
+use Rattle.protocol.specs.Lists.{bit, natural, countTo, count, all, snoc}
 use Rattle.protocol.specs.Plan.{Fate, unsent, waiting, accepted, revoked, fateNumber, fateIs, Kept, isWaiting, isOpen, Mode, blank, whole, split, joining, closing, is, active, Content, Plan, holds, sideAt, absentSide, lookup, unsentOf, pending, sidesThat}
 use Rattle.protocol.specs.Calls.{Call, measure, rule, open-plan, split-side, edit, join, send, replay, stop, confirm, install, show, fate-of, left, apart, Verdict, fine, refused, first, checks, further, editOf, after, gives, leftIn, Answer, no, ok, stepBy, step, start}
 use Rattle.protocol.specs.History.{Settling, History, empty, entered, recorded, lastSent, closed, budget, isLate, listed, times, settledAs}
 use Rattle.guarantee.specs.Runs.{closes, edits, reads, isOk, accepts, following, noting, end, quiet, taken, run, Trace, begun, called}
 use Rattle.guarantee.specs.Guarantee.{Able, Stuck, Underway, Completed, Installed, Guarantee, ForEveryList, ForEveryTrace}
-use Rattle.protocol.proofs.Laws.{on, decide, cases, yes-is, no-is, is-yes, is-no, both, which, or-right, neither, none-yes, range, in-range, Fine, Pass, passed, pass, tally-zero, tally-some, tally-none, count-snoc, length-snoc, all-nth}
+use Rattle.protocol.proofs.Laws.{on, decide, cases, yes-is, no-is, is-yes, is-no, both, which, or-right, neither, is-none-yes, range, in-range, Fine, Pass, passed, pass, count-to-zero, count-to-some, count-to-none, count-snoc, length-snoc, all-nth}
 use Rattle.protocol.proofs.Refusals.{AnswerAgreed, answer-agreed}
 use Rattle.guarantee.proofs.Kept.{none-open, open-count, settled-count, none-unsent, first-waiting, fate-found, verdict, Reported}
 use Rattle.guarantee.proofs.Left.{unarrived, unconfirmed, sum}
@@ -125,7 +125,7 @@ module _ (m : Mode) (d : Content) (h : History) (t : Parted d h) (a : Active m d
   -- where no side is pending
   module _ (z : (s : ℕ) → 0 < s → s ≤ h .sides → T (not (pending d s))) where
     logs-in : sidesThat (unarrived d) d ≡ 0
-    logs-in = tally-none (unarrived d) (length (d .sides)) (λ s p q. neither (unarrived d s) _ (z s p (omega (arith, t .sides))) .0)
+    logs-in = count-to-none (unarrived d) (length (d .sides)) (λ s p q. neither (unarrived d s) _ (z s p (omega (arith, t .sides))) .0)
 
     nothing-unsent : (s : ℕ) → 0 < s → s ≤ h .sides → unsentOf s (d .kept) ≡ 0
     nothing-unsent s p q = let k = nltb→le 0 (unsentOf s (d .kept)) (neither (unarrived d s) _ (z s p q) .1) in omega arith
@@ -134,19 +134,19 @@ module _ (m : Mode) (d : Content) (h : History) (t : Parted d h) (a : Active m d
   unfolding checks further
   at-rest on-way z w =
       which (is joining m) (is closing m) on-way
-      (λ j. (stop, tt, taken-if stop (plan m d) (j, (none-yes _ (logs-in z), (none-yes _ w, tt)))))
-      (λ k. on (tally-some (unconfirmed d) (h .sides))
-      (λ e. (install, tt, taken-if install (plan m d) (k, (none-yes _ (rw (← (t .sides)) at e), (none-yes _ w, tt)))))
-      (λ q. (confirm (pos (q .0)), tt, taken-if (confirm (pos (q .0))) (plan m d) (k, (in-range _ (q .0) (q .1) (omega (arith, q .2, t .sides)), (q .3, (none-yes _ (nothing-unsent z (q .0) (q .1) (q .2)), tt)))))))
+      (λ j. (stop, tt, taken-if stop (plan m d) (j, (is-none-yes _ (logs-in z), (is-none-yes _ w, tt)))))
+      (λ k. on (count-to-some (unconfirmed d) (h .sides))
+      (λ e. (install, tt, taken-if install (plan m d) (k, (is-none-yes _ (rw (← (t .sides)) at e), (is-none-yes _ w, tt)))))
+      (λ q. (confirm (pos (q .0)), tt, taken-if (confirm (pos (q .0))) (plan m d) (k, (in-range _ (q .0) (q .1) (omega (arith, q .2, t .sides)), (q .3, (is-none-yes _ (nothing-unsent z (q .0) (q .1) (q .2)), tt)))))))
 
   pub able : T (active m) → Able (plan m d)
   unfolding checks further
-  able on-way = on (tally-some (pending d) (h .sides))
+  able on-way = on (count-to-some (pending d) (h .sides))
       (λ e.
-      let z : (s : ℕ) → 0 < s → s ≤ h .sides → T (not (pending d s)) = λ s p q. tally-zero (pending d) (h .sides) s e p q in
+      let z : (s : ℕ) → 0 < s → s ≤ h .sides → T (not (pending d s)) = λ s p q. count-to-zero (pending d) (h .sides) s e p q in
       on (first-waiting 1 (d .kept) (d .next) (rw (t .kept) (t .ground .rising)))
       (λ w. at-rest on-way z w)
-      (λ q. (replay (pos (q .0)), tt, taken-if (replay (pos (q .0))) (plan m d) (on-way, (none-yes _ (logs-in z), (q .2, (q .3, tt)))))))
+      (λ q. (replay (pos (q .0)), tt, taken-if (replay (pos (q .0))) (plan m d) (on-way, (is-none-yes _ (logs-in z), (q .2, (q .3, tt)))))))
       (λ q. (send (pos (q .0)), tt, taken-if (send (pos (q .0))) (plan m d) (on-way, (in-range _ (q .0) (q .1) (omega (arith, q .2, t .sides)), (q .3, tt)))))
 
 able-with : (p : Plan) (h : History) → Sound p h → T (active (p .mode)) → Able p
@@ -160,13 +160,13 @@ module _ (d : Content) (h : History) (t : Parted d h) (a : Active closing d h) w
       let agreed = eqb→eq (sidesThat (unconfirmed d) d) 0 (k .1 .0) in
       let waits = eqb→eq (count isWaiting (d .kept)) 0 (k .1 .1 .0) in
       let sent : (s : ℕ) → 0 < s → s ≤ h .sides → unsentOf s (d .kept) ≡ 0 = λ s p q.
-      let c = tally-zero (unconfirmed d) (length (d .sides)) s agreed p (omega (arith, t .sides)) in
+      let c = count-to-zero (unconfirmed d) (length (d .sides)) s agreed p (omega (arith, t .sides)) in
       which (not (sideAt d s .confirmed)) _ (a .sides s p q .1) (λ x. absurd (T-not (unconfirmed d s) c x)) (λ x. eqb→eq (unsentOf s (d .kept)) 0 x)
       in
       let unsent = none-unsent (h .sides) (d .kept) (rw (t .kept) (t .ground .within)) sent in
       let opened = open-count (d .kept) in
-      let owing = tally-none (pending d) (h .sides) (λ s p q. rw (yes-is (sideAt d s .arrived) (a .sides s p q .0), sent s p q) tt) in
-      let agreed′ : tally (unconfirmed d) (h .sides) ≡ 0 = rw (t .sides) at agreed in
+      let owing = count-to-none (pending d) (h .sides) (λ s p q. rw (yes-is (sideAt d s .arrived) (a .sides s p q .0), sent s p q) tt) in
+      let agreed′ : countTo (unconfirmed d) (h .sides) ≡ 0 = rw (t .sides) at agreed in
       (omega arith, omega arith)
 
 -- ---- the number left

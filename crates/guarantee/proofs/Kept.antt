@@ -11,7 +11,7 @@ use lib.Dec.{T, T-not, not-T, eqb, eqb→eq, eqb-refl}
 use lib.IntN.{pos}
 use Rattle.protocol.specs.Lists.{bit, oneTo, count, all, snoc}
 use Rattle.protocol.specs.Plan.{Edit, Fate, unsent, waiting, accepted, revoked, fateNumber, fateIs, Kept, isUnsent, isWaiting, isOpen, isSettled, absentEdit, lookup, unsentOf}
-use Rattle.protocol.specs.Calls.{sent, settled, update, fateIn}
+use Rattle.protocol.specs.Calls.{markSent, settled, update, fateIn}
 use Rattle.protocol.specs.History.{Entry, Settling, times, settledAs, listed, editIn}
 use Rattle.protocol.proofs.Laws.{on, decide, cases, bit-yes, bit-no, bit-zero, yes-is, is-yes, both, and-in, or-left, or-right, and-false, range, count-map}
 
@@ -22,12 +22,12 @@ pub edits-snoc : (ks : List Kept) (k : Kept) → editsOf (snoc ks k) ≡ snoc (e
 edits-snoc [] k = refl
 edits-snoc (x ∷ ks) k = ap {B = List Edit} (λ es. x .edit ∷ es) (edits-snoc ks k)
 
-sent-edit : (s : ℕ) (k : Kept) → sent s k .edit ≡ k .edit
-sent-edit s k = cases (isUnsent k && eqb (k .edit .side) s) (λ t. rw t) (λ t. rw t)
+mark-sent-edit : (s : ℕ) (k : Kept) → markSent s k .edit ≡ k .edit
+mark-sent-edit s k = cases (isUnsent k && eqb (k .edit .side) s) (λ t. rw t) (λ t. rw t)
 
-pub edits-sent : (s : ℕ) (ks : List Kept) → editsOf (map (sent s) ks) ≡ editsOf ks
+pub edits-sent : (s : ℕ) (ks : List Kept) → editsOf (map (markSent s) ks) ≡ editsOf ks
 edits-sent s [] = refl
-edits-sent s (k ∷ ks) = ap₂ {C = List Edit} (λ x xs. x ∷ xs) (sent-edit s k) (edits-sent s ks)
+edits-sent s (k ∷ ks) = ap₂ {C = List Edit} (λ x xs. x ∷ xs) (mark-sent-edit s k) (edits-sent s ks)
 
 -- ---- settling the edit numbered n
 
@@ -74,30 +74,30 @@ module _ (n : ℕ) (b : Bool) (place : ℕ) where
 -- ---- sending the edits of side s
 
 module _ (s : ℕ) where
-  pub open-sent : (k : Kept) → isOpen (sent s k) ≡ isOpen k
+  pub open-sent : (k : Kept) → isOpen (markSent s k) ≡ isOpen k
   open-sent k = cases (isUnsent k && eqb (k .edit .side) s) (λ t. rw t (sym (yes-is (isOpen k) (or-left (isUnsent k) (isWaiting k) (both (isUnsent k) _ (is-yes t) .0))))) (λ t. rw t)
 
   -- side s has no unsent edit after it
-  pub unsent-sent : (ks : List Kept) → unsentOf s (map (sent s) ks) ≡ 0
+  pub unsent-sent : (ks : List Kept) → unsentOf s (map (markSent s) ks) ≡ 0
   unsent-sent [] = refl
   unsent-sent (k ∷ ks) =
       let r = unsent-sent ks in
       cases (isUnsent k && eqb (k .edit .side) s) (λ t. rw t (omega arith)) (λ t. rw (t, t) (omega arith))
 
-  pub unsent-other : (x : ℕ) (ks : List Kept) → x ≢ s → unsentOf x (map (sent s) ks) ≡ unsentOf x ks
-  unsent-other x ks h = count-map (λ k. isUnsent k && eqb (k .edit .side) x) (sent s) ks by
+  pub unsent-other : (x : ℕ) (ks : List Kept) → x ≢ s → unsentOf x (map (markSent s) ks) ≡ unsentOf x ks
+  unsent-other x ks h = count-map (λ k. isUnsent k && eqb (k .edit .side) x) (markSent s) ks by
     where
-      by : (k : Kept) → (isUnsent (sent s k) && eqb (sent s k .edit .side) x) ≡ (isUnsent k && eqb (k .edit .side) x)
+      by : (k : Kept) → (isUnsent (markSent s k) && eqb (markSent s k .edit .side) x) ≡ (isUnsent k && eqb (k .edit .side) x)
       by k = cases (isUnsent k && eqb (k .edit .side) s)
           (λ t. let i = eqb→eq (k .edit .side) s (both (isUnsent k) (eqb (k .edit .side) s) (is-yes t) .1) in rw t (rw (ne-eqb (k .edit .side) x (λ j. h (sym j ∙ i))) (sym (and-false (isUnsent k)))))
           (λ t. rw t)
 
   -- side 0 is no side: what is not kept is not sent
-  pub lookup-sent : (n : ℕ) (ks : List Kept) → 0 < s → lookup n (map (sent s) ks) ≡ sent s (lookup n ks)
+  pub lookup-sent : (n : ℕ) (ks : List Kept) → 0 < s → lookup n (map (markSent s) ks) ≡ markSent s (lookup n ks)
   lookup-sent n [] p = rw (ne-eqb 0 s (λ e. omega arith))
   lookup-sent n (k ∷ ks) p =
       let ih = lookup-sent n ks p in
-      rw (sent-edit s k) (cases (eqb n (k .edit .number)) (λ t. rw t) (λ t. rw t ih))
+      rw (mark-sent-edit s k) (cases (eqb n (k .edit .number)) (λ t. rw t) (λ t. rw t ih))
 
 -- ---- unsent, waiting, both
 
@@ -258,10 +258,10 @@ lookup-snoc n (x ∷ ks) k h = let r = lookup-snoc n ks k h in cases (eqb n (x .
 pub reported-snoc : (ks : List Kept) (k : Kept) (xs : List Settling) → T (isOpen k) → Reported ks xs → Reported (snoc ks k) xs
 reported-snoc ks k xs h t n = t n ∙ sym (lookup-snoc n ks k h)
 
-verdict-sent : (s : ℕ) (k : Kept) → verdict (sent s k) ≡ verdict k
+verdict-sent : (s : ℕ) (k : Kept) → verdict (markSent s k) ≡ verdict k
 verdict-sent s k = cases (isUnsent k && eqb (k .edit .side) s) (λ t. rw t (sym (unsettled k (unsent-open k (both (isUnsent k) _ (is-yes t) .0))))) (λ t. rw t)
 
-pub reported-sent : (s : ℕ) (ks : List Kept) (xs : List Settling) → 0 < s → Reported ks xs → Reported (map (sent s) ks) xs
+pub reported-sent : (s : ℕ) (ks : List Kept) (xs : List Settling) → 0 < s → Reported ks xs → Reported (map (markSent s) ks) xs
 reported-sent s ks xs p t n = t n ∙ sym (ap verdict (lookup-sent s n ks p) ∙ verdict-sent s (lookup n ks))
 
 outcome-verdict : (b : Bool) (k : ℕ) (e : Kept) → _≡_ {A = ℕ × ℕ × ℕ} (verdict (settled b k e)) (fateNumber (settled b k e .fate), k, 1)
@@ -328,13 +328,13 @@ lookup-number n (k ∷ ks) h =
 abbrev pub Named : List Kept → Type 0
 Named ks = (n : ℕ) → (lookup n ks .edit .earlier ≡ 0) ⊎ T (lookup (lookup n ks .edit .earlier) ks .replied)
 
-sent-replied : (s : ℕ) (k : Kept) → T (k .replied) → T (sent s k .replied)
-sent-replied s k h = cases (isUnsent k && eqb (k .edit .side) s) (λ t. rw t tt) (λ t. rw t h)
+mark-sent-replied : (s : ℕ) (k : Kept) → T (k .replied) → T (markSent s k .replied)
+mark-sent-replied s k h = cases (isUnsent k && eqb (k .edit .side) s) (λ t. rw t tt) (λ t. rw t h)
 
-pub named-sent : (s : ℕ) (ks : List Kept) → 0 < s → Named ks → Named (map (sent s) ks)
-named-sent s ks p h n = rw (lookup-sent s n ks p, sent-edit s (lookup n ks)) (on (h n)
+pub named-sent : (s : ℕ) (ks : List Kept) → 0 < s → Named ks → Named (map (markSent s) ks)
+named-sent s ks p h n = rw (lookup-sent s n ks p, mark-sent-edit s (lookup n ks)) (on (h n)
     (λ e. inl e)
-    (λ r. inr (rw (lookup-sent s (lookup n ks .edit .earlier) ks p) (sent-replied s (lookup (lookup n ks .edit .earlier) ks) r))))
+    (λ r. inr (rw (lookup-sent s (lookup n ks .edit .earlier) ks p) (mark-sent-replied s (lookup (lookup n ks .edit .earlier) ks) r))))
 
 pub named-settle : (n : ℕ) (b : Bool) (place : ℕ) (ks : List Kept) → Named ks → Named (update n (settled b place) ks)
 named-settle n b place ks h m =

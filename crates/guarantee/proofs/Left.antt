@@ -8,10 +8,10 @@ use native.Mathlib.Omega.{arith}
 use borrow.Author.Tests.{eq-eqb, ne-eqb, eqb-true, eqb-false}
 use lib.ListN.{length}
 use lib.Dec.{T, eqb, lt→ltb}
-use Rattle.protocol.specs.Lists.{bit, oneTo, tally, count, snoc, modify}
+use Rattle.protocol.specs.Lists.{bit, oneTo, countTo, count, snoc, modify}
 use Rattle.protocol.specs.Plan.{Edit, unsent, isUnsent, isWaiting, isOpen, isSettled, Kept, Mode, joining, closing, is, Content, made, absentSide, sideAt, lookup, unsentOf, pending}
-use Rattle.protocol.specs.Calls.{withNext, withDraft, withSides, withKept, reset, onValues, hasArrived, hasConfirmed, sent, replayable, settled, update, nextPlace}
-use Rattle.protocol.proofs.Laws.{cases, yes-is, is-no, or-right, range, tally-same, tally-less, tally-full, count-map, count-snoc, nth-same, nth-other, nth-map, nth-field}
+use Rattle.protocol.specs.Calls.{withNext, withDraft, onSides, onKept, reset, onValues, hasArrived, hasConfirmed, markSent, replayable, settled, update, nextPlace}
+use Rattle.protocol.proofs.Laws.{cases, yes-is, is-no, or-right, range, count-to-same, count-to-less, count-to-full, count-map, count-snoc, nth-same, nth-other, nth-map, nth-field}
 use Rattle.guarantee.proofs.Kept.{count-settle, open-sent, unsent-sent, unsent-other, waiting-open, waiting-sent}
 
 abbrev pub unarrived : Content → ℕ → Bool
@@ -22,7 +22,7 @@ unconfirmed d s = not (sideAt d s .confirmed)
 
 -- the number left over n sides
 abbrev pub sum : Mode → Content → ℕ → ℕ
-sum m d n = tally (pending d) n + count isOpen (d .kept) + tally (unconfirmed d) n + bit (is joining m) + 1
+sum m d n = countTo (pending d) n + count isOpen (d .kept) + countTo (unconfirmed d) n + bit (is joining m) + 1
 
 -- ---- how much it can be
 
@@ -30,9 +30,9 @@ bit-most : (b : Bool) → bit b ≤ 1
 bit-most true = omega arith
 bit-most false = omega arith
 
-tally-most : (f : ℕ → Bool) (n : ℕ) → tally f n ≤ n
-tally-most f zero = omega arith
-tally-most f (suc n) = let r = tally-most f n in let b = bit-most (f (suc n)) in omega arith
+count-to-most : (f : ℕ → Bool) (n : ℕ) → countTo f n ≤ n
+count-to-most f zero = omega arith
+count-to-most f (suc n) = let r = count-to-most f n in let b = bit-most (f (suc n)) in omega arith
 
 pub count-most : {A : Type 0} (p : A → Bool) (xs : List A) → count p xs ≤ length xs
 count-most p [] = omega arith
@@ -40,9 +40,9 @@ count-most p (x ∷ xs) = let r = count-most p xs in let b = bit-most (p x) in o
 
 pub sum-most : (m : Mode) (d : Content) (n : ℕ) → sum m d n ≤ n + n + length (d .kept) + 2
 sum-most m d n =
-    let a = tally-most (pending d) n in
+    let a = count-to-most (pending d) n in
     let b = count-most isOpen (d .kept) in
-    let c = tally-most (unconfirmed d) n in
+    let c = count-to-most (unconfirmed d) n in
     let e = bit-most (is joining m) in
     omega arith
 
@@ -50,7 +50,7 @@ sum-most m d n =
 
 module _ (d : Content) (s : ℕ) where
   abbrev pub sendTo : Content
-  sendTo = withSides (modify s hasArrived) (withKept (map (sent s)) d)
+  sendTo = onSides (modify s hasArrived) (onKept (map (markSent s)) d)
 
   pub pending-sent : 0 < s → s ≤ length (d .sides) → pending sendTo s ≡ false
   pending-sent p q = rw (nth-same absentSide hasArrived s (d .sides) p q, unsent-sent s (d .kept))
@@ -65,9 +65,9 @@ module _ (d : Content) (s : ℕ) where
   send-sum m has owes =
       let n = length (d .sides) in
       let i = range n s has in
-      let less = tally-less (pending d) (pending sendTo) n s (i .0) (i .1) owes (is-no (pending-sent (i .0) (i .1))) (λ x k. sym (pending-others x k)) in
-      let counted = count-map isOpen (sent s) (d .kept) (open-sent s) in
-      let same = tally-same (unconfirmed sendTo) (unconfirmed d) n (λ x p q. confirmed-sent x) in
+      let less = count-to-less (pending d) (pending sendTo) n s (i .0) (i .1) owes (is-no (pending-sent (i .0) (i .1))) (λ x k. sym (pending-others x k)) in
+      let counted = count-map isOpen (markSent s) (d .kept) (open-sent s) in
+      let same = count-to-same (unconfirmed sendTo) (unconfirmed d) n (λ x p q. confirmed-sent x) in
       omega arith
 
 -- ---- replay
@@ -105,12 +105,12 @@ module _ (d : Content) (n : ℕ) where
   replayTo =
       let e = lookup n (d .kept) .edit in
       withDraft (cond (replayable d n) (made (e .measure) (e .change) (d .draft)) (d .draft))
-      (withKept (update n (settled (replayable d n) (nextPlace (d .kept)))) d)
+      (onKept (update n (settled (replayable d n) (nextPlace (d .kept)))) d)
 
   pub replay-sum : (m : Mode) → T (isWaiting (lookup n (d .kept))) → (k : ℕ) → sum m d k ≡ suc (sum m replayTo k)
   replay-sum m waits k =
       let counted = open-settled n (replayable d n) (nextPlace (d .kept)) (d .kept) waits in
-      let same = tally-same (pending replayTo) (pending d) k (λ x p q. rw (unsent-settled n (replayable d n) (nextPlace (d .kept)) (d .kept) waits x)) in
+      let same = count-to-same (pending replayTo) (pending d) k (λ x p q. rw (unsent-settled n (replayable d n) (nextPlace (d .kept)) (d .kept) waits x)) in
       omega arith
 
 -- ---- stop and confirm
@@ -120,7 +120,7 @@ module _ (d : Content) where
   stop-sum n = omega arith
 
   abbrev pub confirmTo : ℕ → Content
-  confirmTo s = withSides (modify s hasConfirmed) d
+  confirmTo s = onSides (modify s hasConfirmed) d
 
   pub arrived-confirmed : (s x : ℕ) → sideAt (confirmTo s) x .arrived ≡ sideAt d x .arrived
   arrived-confirmed s x = nth-field (λ y. y .arrived) absentSide hasConfirmed s (d .sides) x (λ y. refl)
@@ -129,8 +129,8 @@ module _ (d : Content) where
   confirm-sum m s has not-yet =
       let n = length (d .sides) in
       let i = range n s has in
-      let less = tally-less (unconfirmed d) (unconfirmed (confirmTo s)) n s (i .0) (i .1) not-yet (rw (nth-same absentSide hasConfirmed s (d .sides) (i .0) (i .1)) tt) (λ x k. rw (nth-other absentSide hasConfirmed s (d .sides) x k)) in
-      let same = tally-same (pending (confirmTo s)) (pending d) n (λ x p q. rw (arrived-confirmed s x)) in
+      let less = count-to-less (unconfirmed d) (unconfirmed (confirmTo s)) n s (i .0) (i .1) not-yet (rw (nth-same absentSide hasConfirmed s (d .sides) (i .0) (i .1)) tt) (λ x k. rw (nth-other absentSide hasConfirmed s (d .sides) x k)) in
+      let same = count-to-same (pending (confirmTo s)) (pending d) n (λ x p q. rw (arrived-confirmed s x)) in
       omega arith
 
 -- ---- an edit, in a plan that is split or joining
@@ -140,7 +140,7 @@ newKept e r = record { edit = e; fate = unsent; replied = r; place = 0 }
 
 module _ (d : Content) (e : Edit) (r : Bool) where
   abbrev pub editTo : Content
-  editTo = withNext (suc (d .next)) (withSides (modify (e .side) (onValues (made (e .measure) (e .change)))) (withKept (λ ks. snoc ks (newKept e r)) d))
+  editTo = withNext (suc (d .next)) (onSides (modify (e .side) (onValues (made (e .measure) (e .change)))) (onKept (λ ks. snoc ks (newKept e r)) d))
 
   more : (x : ℕ) → unsentOf x (editTo .kept) ≡ unsentOf x (d .kept) + bit (eqb (e .side) x)
   more x = count-snoc (λ k. isUnsent k && eqb (k .edit .side) x) (d .kept) (newKept e r)
@@ -171,12 +171,12 @@ module _ (d : Content) (e : Edit) (r : Bool) where
       let s = e .side in
       let i = range n s has in
       let counted = count-snoc isOpen (d .kept) (newKept e r) in
-      let same = tally-same (unconfirmed editTo) (unconfirmed d) n (λ x p q. ap not (confirmed-edited x)) in
-      let owing : tally (pending editTo) n ≡ bit (not (pending d s)) + tally (pending d) n = cases (pending d s)
+      let same = count-to-same (unconfirmed editTo) (unconfirmed d) n (λ x p q. ap not (confirmed-edited x)) in
+      let owing : countTo (pending editTo) n ≡ bit (not (pending d s)) + countTo (pending d) n = cases (pending d s)
       (λ o.
-      let k = tally-same (pending editTo) (pending d) n (λ x p q. cases (eqb x s) (λ j. rw (eqb-true x s j) (yes-is _ pending-edited ∙ sym o)) (λ j. pending-not-edited x (eqb-false x s j))) in
+      let k = count-to-same (pending editTo) (pending d) n (λ x p q. cases (eqb x s) (λ j. rw (eqb-true x s j) (yes-is _ pending-edited ∙ sym o)) (λ j. pending-not-edited x (eqb-false x s j))) in
       rw o (omega arith))
-      (λ o. let k = tally-less (pending editTo) (pending d) n s (i .0) (i .1) pending-edited (is-no o) pending-not-edited in rw o (omega arith))
+      (λ o. let k = count-to-less (pending editTo) (pending d) n s (i .0) (i .1) pending-edited (is-no o) pending-not-edited in rw o (omega arith))
       in
       omega arith
 
@@ -184,13 +184,13 @@ module _ (d : Content) (e : Edit) (r : Bool) where
 
 module _ (d : Content) where
   abbrev pub joinTo : Content
-  joinTo = withDraft (d .base) (withSides (map reset) d)
+  joinTo = withDraft (d .base) (onSides (map reset) d)
 
   pub side-joined : (x : ℕ) → sideAt joinTo x ≡ reset (sideAt d x)
   side-joined x = nth-map absentSide reset (d .sides) x refl
 
   pub join-sum : (n : ℕ) → sum joining joinTo n ≡ n + n + count isOpen (d .kept) + 2
   join-sum n =
-      let all-owe = tally-full (pending joinTo) n (λ x. rw (side-joined x) tt) in
-      let none-agrees = tally-full (unconfirmed joinTo) n (λ x. rw (side-joined x) tt) in
+      let all-owe = count-to-full (pending joinTo) n (λ x. rw (side-joined x) tt) in
+      let none-agrees = count-to-full (unconfirmed joinTo) n (λ x. rw (side-joined x) tt) in
       omega arith

@@ -8,7 +8,7 @@ use Rattle.protocol.specs.Plan as model
 use Rattle.heads.specs.declared.Mode.{Mode}
 use Rattle.heads.specs.declared.Mode.the-variants.{Blank, Whole, Split, Joining, Closing}
 use Rattle.heads.specs.declared.Head.{Head}
-use Rattle.protocol.specs.Lists.{tally, natural}
+use Rattle.protocol.specs.Lists.{countTo, natural}
 use lib.IntN.{ℤ}
 
 abbrev pub modeOf : Mode → model.Mode
@@ -52,19 +52,19 @@ keptIn h = min (h .kept) 256
 unfoldable pub positionOf : ℕ → ℕ → ℕ → ℕ
 positionOf e k n = cond (eqb n 0) (cond (ltb 0 k && leb e k) 1 0) (cond (ltb n e && leb (e - n) k) (suc (k - (e - n))) 0)
 
--- where the edit at a place from 1 stands; place 0 is none
-abbrev pub placeOf : ℕ → ℕ
-placeOf i = min (i - 1) 255
+-- the slot in which the edit at a place from 1 stands; place 0 is none
+abbrev pub slotAt : ℕ → ℕ
+slotAt i = min (i - 1) 255
 
 -- the place, from 1, of the kept edit that a call's number names, and where it stands
 abbrev pub namedAt : Head → ℤ → ℕ
 namedAt h n = positionOf (endIn h) (keptIn h) (natural n)
 
 abbrev pub seatOf : Head → ℤ → ℕ
-seatOf h n = placeOf (namedAt h n)
+seatOf h n = slotAt (namedAt h n)
 
 -- ---- flags
 
 -- how many of n sides have a flag that is not set
 abbrev pub unsetIn : List Bool → ℕ → ℕ
-unsetIn flags n = tally (λ s. not (getD flags (indexOf s) false)) n
+unsetIn flags n = countTo (λ s. not (getD flags (indexOf s) false)) n

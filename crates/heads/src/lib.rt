@@ -4,7 +4,7 @@ ghost use mathlib.Core.Bool.{not};
 ghost use Prim.Native.Nat.{_≤_, _<_};
 ghost use Rattle.protocol.specs.Lists.{bit};
 ghost use Rattle.protocol.specs.Plan.{modeNumber, active};
-ghost use Rattle.heads.specs.Heads.{modeOf, inMode, sidesIn, offsetOf, indexOf, endIn, keptIn, positionOf, placeOf, namedAt, unsetIn};
+ghost use Rattle.heads.specs.Heads.{modeOf, inMode, sidesIn, offsetOf, indexOf, endIn, keptIn, positionOf, slotAt, namedAt, unsetIn};
 
 // 01's modes.
 pub enum Mode {
@@ -129,9 +129,9 @@ pub fn position(h: Head, n: u32) -> usize
     0
 }
 
-// Where the edit at a place from 1 stands; place 0 has some place too.
-pub fn place(i: usize) -> usize
-    ensures { λ r. ⌜ (r ≡ placeOf i) × (r < 256) ⌝ }
+// The slot in which the edit at a place from 1 stands; place 0 has some slot too.
+pub fn slot(i: usize) -> usize
+    ensures { λ r. ⌜ (r ≡ slotAt i) × (r < 256) ⌝ }
 {
     if i == 0 {
         return 0;

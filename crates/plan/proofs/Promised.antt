@@ -22,11 +22,11 @@ blank-view : view blankState ≡ start
 blank-view = refl
 
 -- the refusal number and the part handed back tell show's answer
-told : (v : Verdict) (c : Call) (p : Plan) (buffer : List ℤ) → (refusalOf v ≡ 0 → v ≡ fine) → shownAnswer (shownBy (stepBy v c p .answer) buffer .refusal) (shownBy (stepBy v c p .answer) buffer .part) ≡ stepBy v c p .answer
+told : (v : Verdict) (c : Call) (p : Plan) (buffer : List ℤ) → (refusalOf v ≡ 0 → v ≡ fine) → shownAnswer (shownBy (stepBy v c p .answer) buffer .refusal) (shownBy (stepBy v c p .answer) buffer .front) ≡ stepBy v c p .answer
 told fine c p buffer h = refl
 told (refused k) c p buffer h = cases (eqb k 0) (λ e. absurd (subst Fine (sym (h (eqb-true k 0 e))) tt)) (λ e. rw e)
 
-shown-answer : (s : ℤ) (p : Plan) (buffer : List ℤ) → shownAnswer (shown s p buffer .refusal) (shown s p buffer .part) ≡ step (show s (length buffer)) p .answer
+shown-answer : (s : ℤ) (p : Plan) (buffer : List ℤ) → shownAnswer (shown s p buffer .refusal) (shown s p buffer .front) ≡ step (show s (length buffer)) p .answer
 unfolding shown step checks further
 shown-answer s p buffer =
     told (first (checks (show s (length buffer)) p)) (show s (length buffer)) p buffer (verdict-fine (checks (show s (length buffer)) p) _ tt refl)

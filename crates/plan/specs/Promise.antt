@@ -23,7 +23,7 @@ shownAnswer refusal part = cond (eqb refusal 0) (ok part) (no refusal)
 pub data Reached : State → History → Type 0 where
   begun : Reached blankState empty
   called : {p : State} {h : History} → Reached p h → (c : Call) (r : Answered) → Meets c p r → Reached (r .state) (recorded c (answerOf (r .answer)) h)
-  showed : {p : State} {h : History} → Reached p h → (s : ℤ) (buffer : List ℤ) (refusal : ℕ) (part : List ℤ) → refusal ≡ shown s (view p) buffer .refusal → part ≡ shown s (view p) buffer .part
+  showed : {p : State} {h : History} → Reached p h → (s : ℤ) (buffer : List ℤ) (refusal : ℕ) (part : List ℤ) → refusal ≡ shown s (view p) buffer .refusal → part ≡ shown s (view p) buffer .front
       → Reached p (recorded (show s (length buffer)) (shownAnswer refusal part) h)
 
 -- the theorem (proofs/Promised: `promised`)

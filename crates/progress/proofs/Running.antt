@@ -10,7 +10,7 @@ use lib.Dec.{leb, ltb}
 use lib.ListN.{length, take, drop, length-append, length-take, length-drop, drop-of-length-le, take-append-drop}
 use lib.Seq.{drop-drop, take-all, take-at, drop-at}
 use Rattle.format.specs.Lines.{lineFeed, lines}
-use Rattle.format.specs.Sheets.{text, turn, inFront}
+use Rattle.format.specs.Sheets.{text, lineStep, inFront}
 use Rattle.reader.specs.Cut.{upTo}
 use Rattle.reader.proofs.Cuts.{lines-over, lines-at}
 use Rattle.state.specs.declared.State.{State}
@@ -71,7 +71,7 @@ module _ (reserve : ℕ) (sheet : List ℕ) (from : ℕ) (lent : List ℕ) (star
   paused h r = ends p i false (rw (cut h) (rw (lt-ltb (length lent - at) reserve r)))
 
   -- a line made: the plan after it and its answer's bytes are the definition's
-  module _ (h : i < length sheet) (r : reserve ≤ length lent - at) (q : State) (t′ : Tallies) (bytes : List ℕ) (b : bytes ≡ text (turn line (view p) .answer)) (v : view q ≡ turn line (view p) .plan) where
+  module _ (h : i < length sheet) (r : reserve ≤ length lent - at) (q : State) (t′ : Tallies) (bytes : List ℕ) (b : bytes ≡ text (lineStep line (view p) .answer)) (v : view q ≡ lineStep line (view p) .plan) where
     room : length (drop at area) ≡ length lent - at
     room = length-drop at area ∙ ap (λ n. n - at) (g .same)
 

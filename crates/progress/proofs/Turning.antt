@@ -12,7 +12,7 @@ use lib.ListN.{length, getD, set, length-set}
 use Rattle.protocol.specs.Lists.{bit, natural, oneTo, count}
 use Rattle.protocol.specs.Plan.{modeNumber, is, blank, whole, holds, isSettled, absentSide, sideAt}
 use Rattle.protocol.specs.Calls as model
-use Rattle.protocol.specs.Calls.{Call, measure, rule, open-plan, split-side, edit, send, replay, Verdict, fine, refused, first, firstValues, withBase, withKept, checks, further, after, step, stepBy, no, ok}
+use Rattle.protocol.specs.Calls.{Call, measure, rule, open-plan, split-side, edit, send, replay, Verdict, fine, refused, first, firstValues, withBase, onKept, checks, further, after, step, stepBy, no, ok}
 use Rattle.protocol.proofs.Laws.{cases, Pass, passed, both, or-left, or-right, is-yes, yes-is, range, all-nth}
 use Rattle.guarantee.specs.Holding.{Holding}
 use Rattle.guarantee.proofs.Kept.{settled-count}
@@ -47,7 +47,7 @@ use Rattle.tally.specs.Tallies.{Tallied, isAccepted, oneUnsent, moveTally}
 use Rattle.tally.proofs.Counts.{tallyAfter, tallied-after}
 use Rattle.turns.specs.declared.Sending.{Sending}
 use Rattle.turns.specs.Moves.{sendDecision, Marked}
-use Rattle.turns.proofs.Sends.{marked-begin, marked-next, marked-passed, sent-other}
+use Rattle.turns.proofs.Sends.{marked-begin, marked-next, marked-passed, mark-sent-other}
 use Rattle.reconcile.proofs.Moves.{Named, send-decided}
 use Rattle.limits.specs.Draw.{drawCall}
 use Rattle.dispatch.specs.Rare.{moveCall}
@@ -249,7 +249,7 @@ pub move-rules : (op : ℕ) (x : ℤ) {l : Option Call} (p q : State) {a : Answe
 unfolding step after
 move-rules op x p q e b c m = record { lower = b; upper = c; count = sym (rules-length q) ∙ ap (λ y. length (y .content .rules)) (m .plan ∙ ap (λ o. stepOf o (view p) .plan) e) ∙ judged (first (checks (moveCall op x) (view p))) ∙ rules-length p }
   where
-    parted : (w : Bool) → cond w (withBase (firstValues (view p .content)) (withKept (λ ks. []) (view p .content))) (view p .content) .rules ≡ view p .content .rules
+    parted : (w : Bool) → cond w (withBase (firstValues (view p .content)) (onKept (λ ks. []) (view p .content))) (view p .content) .rules ≡ view p .content .rules
     parted true = refl
     parted false = refl
 
@@ -404,7 +404,7 @@ marking-begin s marked p z f = record { same = refl; edits = marked-begin s (p .
 module _ {s marked : ℕ} {p q : State} {j : ℕ} (k : Marking s marked p q j) (l : j < marked) where
   -- one more is marked
   pub marking-next : {q′ : State} (r : EditRecord) → q′ ≡ storing.stored q (q .head) (q .base) (q .draft) (q .values) (q .arrived) (q .confirmed) (set (q .edits) j r)
-      → ((n : ℕ) → keptAt n r ≡ model.sent s (keptAt n (getD (q .edits) j noRecord))) → Marking s marked p q′ (j + 1)
+      → ((n : ℕ) → keptAt n r ≡ model.markSent s (keptAt n (getD (q .edits) j noRecord))) → Marking s marked p q′ (j + 1)
   marking-next {q′ = q′} r e m =
       let edits : q′ .edits ≡ set (q .edits) j r = ap (λ x. x .edits) e in
       record {
@@ -417,7 +417,7 @@ module _ {s marked : ℕ} {p q : State} {j : ℕ} (k : Marking s marked p q j) (
   -- one stays as it is
   pub marking-passed : {q′ : State} → q′ ≡ q → bit (testOf (UnsentOf s) (keptAt 0 (getD (q .edits) j noRecord))) ≡ 0 → Marking s marked p q′ (j + 1)
   marking-passed e z =
-      rw e (record { same = k .same; edits = marked-passed s (p .edits) (q .edits) j (omega (arith, l, k .few)) (k .edits) (sent-other s (getD (q .edits) j noRecord) z); most = omega (arith, l); few = k .few })
+      rw e (record { same = k .same; edits = marked-passed s (p .edits) (q .edits) j (omega (arith, l, k .few)) (k .edits) (mark-sent-other s (getD (q .edits) j noRecord) z); most = omega (arith, l); few = k .few })
 
 -- all are marked
 module _ (p q : State) (i : ℕ) (b : Bool) {s marked j : ℕ} (k : Marking s marked p q j) where

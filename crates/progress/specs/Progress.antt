@@ -8,7 +8,7 @@ use lib.ListN.{length, drop}
 use Rattle.protocol.specs.Plan.{Plan}
 use Rattle.guarantee.specs.Holding.{Holding}
 use Rattle.format.specs.Lines.{lines}
-use Rattle.format.specs.Sheets.{text, turn, inFront}
+use Rattle.format.specs.Sheets.{text, lineStep, inFront}
 use Rattle.state.specs.declared.State.{State}
 use Rattle.state.specs.View.{view}
 use Rattle.progress.specs.declared.Progress.{Progress}
@@ -40,10 +40,10 @@ behindRan t r = record { bytes = t ++ r .bytes; rest = r .rest; plan = r .plan; 
 
 -- A line is begun only where `reserve` bytes are free. An answer that does not fit ends the run; the plan is then dropped.
 unfoldable pub ran : ℕ → ℕ → Plan → List (List ℕ) → Ran
-unfolding turn text
+unfolding lineStep text
 ran reserve room p [] = record { bytes = []; rest = []; plan = p; ended = false }
 ran reserve room p (l ∷ ls) =
-    let r = turn l p in
+    let r = lineStep l p in
     let t = text (r .answer) in
     cond (ltb room reserve) (record { bytes = []; rest = l ∷ ls; plan = p; ended = false })
     (cond (leb (length t) room) (behindRan t (ran reserve (room - length t) (r .plan) ls)) (record { bytes = []; rest = ls; plan = r .plan; ended = true }))

@@ -89,7 +89,7 @@ fn go(
         if 11 < op {
             // show, fate, left
             let named = heads::named(h, a);
-            let seat = heads::place(named);
+            let seat = heads::slot(named);
             let seen = p.edits[seat];
             let r = reads::read(op, a, h, named, seen, t.left);
             let given = r.answer;
@@ -101,7 +101,7 @@ fn go(
             // edit
             let h = p.head;
             let named = heads::named(h, line.c);
-            let seat = heads::place(named);
+            let seat = heads::slot(named);
             let seen = p.edits[seat];
             let spot = ruling::spot(a, line.d);
             let slot = rows::capped(h.kept, 255);
@@ -142,10 +142,10 @@ fn go(
             // replay
             let h = p.head;
             let named = heads::named(h, a);
-            let slot = heads::place(named);
+            let slot = heads::slot(named);
             let standing = p.edits[slot];
             let next = settling::earlier(h, named, standing);
-            let seat = heads::place(next);
+            let seat = heads::slot(next);
             let seen = p.edits[seat];
             let point = settling::point_of(named, standing);
             let d = settling::decide_replay(

@@ -7,7 +7,7 @@ use mathlib.Core.List.{List, [], _∷_, map}
 use native.Mathlib.Omega.{arith}
 use lib.ListN.{length}
 use lib.Dec.{T, T-not, eqb, leb, ltb, leb→le, ltb→lt, le→leb, lt→ltb, eqb→eq, eqb-refl}
-use Rattle.protocol.specs.Lists.{bit, none, oneTo, tally, count, all, snoc, nth, modify}
+use Rattle.protocol.specs.Lists.{bit, isNone, oneTo, countTo, count, all, snoc, nth, modify}
 use Rattle.protocol.specs.Calls.{Verdict, fine, refused, Check, first}
 
 pub decide {ℓ} : {X : Type ℓ} (b : Bool) → (T b → X) → (T (not b) → X) → X
@@ -88,8 +88,8 @@ same-yes a b e = subst (λ k. T (eqb a k)) e (eqb-refl a)
 pub same-no : (a b : ℕ) → T (not (eqb a b)) → a ≢ b
 same-no a b t e = T-not (eqb a b) t (same-yes a b e)
 
-pub none-yes : (n : ℕ) → n ≡ 0 → T (none n)
-none-yes n e = same-yes n 0 e
+pub is-none-yes : (n : ℕ) → n ≡ 0 → T (isNone n)
+is-none-yes n e = same-yes n 0 e
 
 pub range : (k n : ℕ) → T (oneTo k n) → (0 < n) × (n ≤ k)
 range k n t = (ltb→lt 0 n (both (ltb 0 n) (leb n k) t .0), leb→le n k (both (ltb 0 n) (leb n k) t .1))
@@ -115,23 +115,23 @@ pub pass : (cs : List Check) → Pass cs → Fine (first cs)
 pass [] h = tt
 pass (c ∷ cs) h = rw (yes-is (c .passes) (h .0)) (pass cs (h .1))
 
--- ---- tally, count, nth, modify
+-- ---- countTo, count, nth, modify
 
-pub tally-same : (f g : ℕ → Bool) (n : ℕ) → ((s : ℕ) → 0 < s → s ≤ n → f s ≡ g s) → tally f n ≡ tally g n
-tally-same f g zero h = refl
-tally-same f g (suc n) h = ap₂ (λ x y. bit x + y) (h (suc n) (omega arith) (omega arith)) (tally-same f g n (λ s p q. h s p (omega arith)))
+pub count-to-same : (f g : ℕ → Bool) (n : ℕ) → ((s : ℕ) → 0 < s → s ≤ n → f s ≡ g s) → countTo f n ≡ countTo g n
+count-to-same f g zero h = refl
+count-to-same f g (suc n) h = ap₂ (λ x y. bit x + y) (h (suc n) (omega arith) (omega arith)) (count-to-same f g n (λ s p q. h s p (omega arith)))
 
 -- g is f but for s, which passes f and not g
-pub tally-less : (f g : ℕ → Bool) (n s : ℕ) → 0 < s → s ≤ n → T (f s) → T (not (g s)) → ((x : ℕ) → x ≢ s → f x ≡ g x) → tally f n ≡ suc (tally g n)
-tally-less f g zero s p q u v h = omega arith
-tally-less f g (suc n) s p q u v h =
-    let ih = tally-less f g n s p in
+pub count-to-less : (f g : ℕ → Bool) (n s : ℕ) → 0 < s → s ≤ n → T (f s) → T (not (g s)) → ((x : ℕ) → x ≢ s → f x ≡ g x) → countTo f n ≡ suc (countTo g n)
+count-to-less f g zero s p q u v h = omega arith
+count-to-less f g (suc n) s p q u v h =
+    let ih = count-to-less f g n s p in
     decide (eqb s (suc n))
     (λ t.
     let e = eqb→eq s (suc n) t in
     let a = bit-yes (f (suc n)) (rw e at u) in
     let b = bit-no (g (suc n)) (rw e at v) in
-    let r = tally-same f g n (λ x k l. h x (λ i. omega arith)) in
+    let r = count-to-same f g n (λ x k l. h x (λ i. omega arith)) in
     omega arith)
     (λ t.
     let e = same-no s (suc n) t in
@@ -139,31 +139,31 @@ tally-less f g (suc n) s p q u v h =
     let a = ap bit (h (suc n) (λ i. e (sym i))) in
     omega arith)
 
-pub tally-zero : (f : ℕ → Bool) (n s : ℕ) → tally f n ≡ 0 → 0 < s → s ≤ n → T (not (f s))
-tally-zero f zero s z p q = absurd (omega arith)
-tally-zero f (suc n) s z p q =
-    let ih = tally-zero f n s in
+pub count-to-zero : (f : ℕ → Bool) (n s : ℕ) → countTo f n ≡ 0 → 0 < s → s ≤ n → T (not (f s))
+count-to-zero f zero s z p q = absurd (omega arith)
+count-to-zero f (suc n) s z p q =
+    let ih = count-to-zero f n s in
     decide (eqb s (suc n))
     (λ t. rw (eqb→eq s (suc n) t) (bit-zero (f (suc n)) (omega arith)))
     (λ t. let e = same-no s (suc n) t in ih (omega arith) p (omega arith))
 
-pub tally-some : (f : ℕ → Bool) (n : ℕ) → (tally f n ≡ 0) ⊎ ((s : ℕ) × (0 < s) × (s ≤ n) × T (f s))
-tally-some f zero = inl refl
-tally-some f (suc n) =
-    on (tally-some f n)
+pub count-to-some : (f : ℕ → Bool) (n : ℕ) → (countTo f n ≡ 0) ⊎ ((s : ℕ) × (0 < s) × (s ≤ n) × T (f s))
+count-to-some f zero = inl refl
+count-to-some f (suc n) =
+    on (count-to-some f n)
     (λ e. decide (f (suc n)) (λ t. inr (suc n, omega arith, omega arith, t)) (λ t. let a = bit-no (f (suc n)) t in inl (omega arith)))
     (λ r. inr (r .0, r .1, omega arith, r .3))
 
-pub tally-none : (f : ℕ → Bool) (n : ℕ) → ((s : ℕ) → 0 < s → s ≤ n → T (not (f s))) → tally f n ≡ 0
-tally-none f zero h = refl
-tally-none f (suc n) h =
+pub count-to-none : (f : ℕ → Bool) (n : ℕ) → ((s : ℕ) → 0 < s → s ≤ n → T (not (f s))) → countTo f n ≡ 0
+count-to-none f zero h = refl
+count-to-none f (suc n) h =
     let a = bit-no (f (suc n)) (h (suc n) (omega arith) (omega arith)) in
-    let r = tally-none f n (λ s p q. h s p (omega arith)) in
+    let r = count-to-none f n (λ s p q. h s p (omega arith)) in
     omega arith
 
-pub tally-full : (f : ℕ → Bool) (n : ℕ) → ((s : ℕ) → T (f s)) → tally f n ≡ n
-tally-full f zero h = refl
-tally-full f (suc n) h = let a = bit-yes (f (suc n)) (h (suc n)) in let r = tally-full f n h in omega arith
+pub count-to-full : (f : ℕ → Bool) (n : ℕ) → ((s : ℕ) → T (f s)) → countTo f n ≡ n
+count-to-full f zero h = refl
+count-to-full f (suc n) h = let a = bit-yes (f (suc n)) (h (suc n)) in let r = count-to-full f n h in omega arith
 
 module _ {A : Type 0} where
   pub count-map : (p : A → Bool) (f : A → A) (xs : List A) → ((x : A) → p (f x) ≡ p x) → count p (map f xs) ≡ count p xs

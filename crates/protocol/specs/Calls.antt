@@ -5,7 +5,7 @@ use mathlib.Core.List.{List, [], _∷_, _++_, map}
 use lib.ListN.{length, drop}
 use lib.Dec.{eqb, leb, ltb}
 use lib.IntN.{ℤ, pos}
-use Rattle.protocol.specs.Lists.{bit, none, oneTo, neg, within, natural, isZero, count, any, snoc, modify}
+use Rattle.protocol.specs.Lists.{bit, isNone, oneTo, neg, within, natural, isZero, count, any, snoc, modify}
 use Rattle.protocol.specs.Plan.{measureLimit, ruleLimit, gapLimit, sideLimit, keptLimit, clientLimit, numberLimit, Rule, Change, kindOf, Edit, Fate, unsent, waiting, accepted, revoked, fateNumber, isUnsent, isWaiting, isOpen, isSettled, Kept, Side, Mode, blank, whole, split, joining, closing, is, active, Content, Plan, inRange, holds, firmlyNamed, allowed, made, fits, effective, sideAt, lookup, unsentOf, pending, sidesThat}
 
 -- ---- the fourteen calls with their numbers, which may be any whole numbers; show also has the length of the lent buffer
@@ -65,7 +65,7 @@ abbrev pub no15 : ℤ → ℤ → Check
 no15 c f = 15 unless (within (neg gapLimit) (pos gapLimit) c && within (pos 0) (pos 1) f)
 
 abbrev pub no16 : List ℤ → Check
-no16 vs = 16 when none (length vs)
+no16 vs = 16 when isNone (length vs)
 
 abbrev pub no17 : List Rule → List ℤ → Check
 no17 rs vs = 17 unless holds rs vs
@@ -119,7 +119,7 @@ abbrev pub no33 : Content → ℕ → Check
 no33 d s = 33 unless pending d s
 
 abbrev pub no34 : Content → Check
-no34 d = 34 unless none (sidesThat (λ s. not (sideAt d s .arrived)) d)
+no34 d = 34 unless isNone (sidesThat (λ s. not (sideAt d s .arrived)) d)
 
 abbrev pub no35 : List Kept → ℕ → Check
 no35 ks n = 35 unless isWaiting (lookup n ks)
@@ -128,16 +128,16 @@ abbrev pub no36 : List Kept → ℕ → Check
 no36 ks n = 36 when isWaiting (lookup (lookup n ks .edit .earlier) ks)
 
 abbrev pub no37 : List Kept → Check
-no37 ks = 37 unless none (count isWaiting ks)
+no37 ks = 37 unless isNone (count isWaiting ks)
 
 abbrev pub no38 : List Kept → ℕ → Check
-no38 ks s = 38 unless none (unsentOf s ks)
+no38 ks s = 38 unless isNone (unsentOf s ks)
 
 abbrev pub no39 : Content → ℕ → Check
 no39 d s = 39 when (sideAt d s .confirmed)
 
 abbrev pub no40 : Content → Check
-no40 d = 40 unless none (sidesThat (λ s. not (sideAt d s .confirmed)) d)
+no40 d = 40 unless isNone (sidesThat (λ s. not (sideAt d s .confirmed)) d)
 
 -- the host program
 
@@ -235,11 +235,11 @@ withBase vs d = record { rules = d .rules; next = d .next; base = vs; draft = d 
 abbrev pub withDraft : List ℤ → Content → Content
 withDraft vs d = record { rules = d .rules; next = d .next; base = d .base; draft = vs; sides = d .sides; kept = d .kept }
 
-abbrev pub withSides : (List Side → List Side) → Content → Content
-withSides f d = record { rules = d .rules; next = d .next; base = d .base; draft = d .draft; sides = f (d .sides); kept = d .kept }
+abbrev pub onSides : (List Side → List Side) → Content → Content
+onSides f d = record { rules = d .rules; next = d .next; base = d .base; draft = d .draft; sides = f (d .sides); kept = d .kept }
 
-abbrev pub withKept : (List Kept → List Kept) → Content → Content
-withKept f d = record { rules = d .rules; next = d .next; base = d .base; draft = d .draft; sides = d .sides; kept = f (d .kept) }
+abbrev pub onKept : (List Kept → List Kept) → Content → Content
+onKept f d = record { rules = d .rules; next = d .next; base = d .base; draft = d .draft; sides = d .sides; kept = f (d .kept) }
 
 -- a side with these values that has neither sent nor confirmed anything
 abbrev pub freshSide : List ℤ → Side
@@ -258,8 +258,8 @@ abbrev pub hasConfirmed : Side → Side
 hasConfirmed x = record { values = x .values; arrived = x .arrived; confirmed = true }
 
 -- an unsent edit of side s becomes waiting and replied
-abbrev pub sent : ℕ → Kept → Kept
-sent s k = cond (isUnsent k && eqb (k .edit .side) s) (record { edit = k .edit; fate = waiting; replied = true; place = k .place }) k
+abbrev pub markSent : ℕ → Kept → Kept
+markSent s k = cond (isUnsent k && eqb (k .edit .side) s) (record { edit = k .edit; fate = waiting; replied = true; place = k .place }) k
 
 -- whether the kept edit takes effect on the draft
 unfoldable pub replayable : Content → ℕ → Bool
@@ -285,22 +285,22 @@ nextPlace ks = suc (count isSettled ks)
 -- ---- the plan after a call that is accepted
 
 unfoldable pub after : Call → Mode → Content → Plan
-after (measure v) m d = record { mode = m; content = withSides (modify 1 (onValues (λ vs. snoc vs v))) d }
+after (measure v) m d = record { mode = m; content = onSides (modify 1 (onValues (λ vs. snoc vs v))) d }
 after (rule a c b f) m d = record { mode = m; content = withRules (snoc (d .rules) (ruleOf a c b f)) d }
 after open-plan m d = record { mode = whole; content = withNext 1 d }
 after (split-side s) m d =
-    let e : Content = cond (is whole m) (withBase (firstValues d) (withKept (λ ks. []) d)) d in
-    record { mode = split; content = withSides (λ xs. snoc xs (freshSide (sideAt d (natural s) .values))) e }
+    let e : Content = cond (is whole m) (withBase (firstValues d) (onKept (λ ks. []) d)) d in
+    record { mode = split; content = onSides (λ xs. snoc xs (freshSide (sideAt d (natural s) .values))) e }
 after (edit s client n m kind k) mode d =
     record {
       mode = mode;
       content =
           withNext (suc (d .next))
-          (withSides (modify (natural s) (onValues (made (natural m) (changeOf kind k))))
-          (withKept (λ ks. cond (is whole mode) ks (snoc ks (record { edit = editOf (d .next) s client n m kind k; fate = unsent; replied = is split mode; place = 0 }))) d));
+          (onSides (modify (natural s) (onValues (made (natural m) (changeOf kind k))))
+          (onKept (λ ks. cond (is whole mode) ks (snoc ks (record { edit = editOf (d .next) s client n m kind k; fate = unsent; replied = is split mode; place = 0 }))) d));
     }
-after join m d = record { mode = joining; content = withDraft (d .base) (withSides (map reset) d) }
-after (send s) m d = record { mode = m; content = withSides (modify (natural s) hasArrived) (withKept (map (sent (natural s))) d) }
+after join m d = record { mode = joining; content = withDraft (d .base) (onSides (map reset) d) }
+after (send s) m d = record { mode = m; content = onSides (modify (natural s) hasArrived) (onKept (map (markSent (natural s))) d) }
 after (replay n) m d =
     let e = lookup (natural n) (d .kept) .edit in
     let b = replayable d (natural n) in
@@ -308,11 +308,11 @@ after (replay n) m d =
       mode = m;
       content =
           withDraft (cond b (made (e .measure) (e .change) (d .draft)) (d .draft))
-          (withKept (update (natural n) (settled b (nextPlace (d .kept)))) d);
+          (onKept (update (natural n) (settled b (nextPlace (d .kept)))) d);
     }
 after stop m d = record { mode = closing; content = d }
-after (confirm s) m d = record { mode = m; content = withSides (modify (natural s) hasConfirmed) d }
-after install m d = record { mode = whole; content = withSides (λ xs. freshSide (d .draft) ∷ []) d }
+after (confirm s) m d = record { mode = m; content = onSides (modify (natural s) hasConfirmed) d }
+after install m d = record { mode = whole; content = onSides (λ xs. freshSide (d .draft) ∷ []) d }
 after (show s room) m d = record { mode = m; content = d }
 after (fate-of n) m d = record { mode = m; content = d }
 after left m d = record { mode = m; content = d }
@@ -374,12 +374,12 @@ start = record { mode = blank; content = record { rules = []; next = 1; base = [
 -- the refusal number or 0, the part handed back, and the whole buffer after the call
 pub record Shown : Type 0 where
   pub refusal : ℕ
-  pub part : List ℤ
+  pub front : List ℤ
   pub buffer : List ℤ
 
 abbrev pub shownBy : Answer → List ℤ → Shown
-shownBy (no k) buffer = record { refusal = k; part = []; buffer = buffer }
-shownBy (ok vs) buffer = record { refusal = 0; part = vs; buffer = vs ++ drop (length vs) buffer }
+shownBy (no k) buffer = record { refusal = k; front = []; buffer = buffer }
+shownBy (ok vs) buffer = record { refusal = 0; front = vs; buffer = vs ++ drop (length vs) buffer }
 
 unfoldable pub shown : ℤ → Plan → List ℤ → Shown
 unfolding step

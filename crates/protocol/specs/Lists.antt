@@ -11,17 +11,17 @@ abbrev pub bit : Bool → ℕ
 bit true = 1
 bit false = 0
 
-abbrev pub none : ℕ → Bool
-none n = eqb n 0
+abbrev pub isNone : ℕ → Bool
+isNone n = eqb n 0
 
 -- n is one of 1 .. k
 abbrev pub oneTo : ℕ → ℕ → Bool
 oneTo k n = ltb 0 n && leb n k
 
 -- how many of 1 .. n pass the test
-abbrev pub tally : (ℕ → Bool) → ℕ → ℕ
-tally f zero = 0
-tally f (suc n) = bit (f (suc n)) + tally f n
+abbrev pub countTo : (ℕ → Bool) → ℕ → ℕ
+countTo f zero = 0
+countTo f (suc n) = bit (f (suc n)) + countTo f n
 
 -- minus n
 abbrev pub neg : ℕ → ℤ
@@ -37,7 +37,7 @@ natural (pos n) = n
 natural (negsuc n) = 0
 
 abbrev pub isZero : ℤ → Bool
-isZero (pos n) = none n
+isZero (pos n) = isNone n
 isZero (negsuc n) = false
 
 module _ {A : Type 0} where

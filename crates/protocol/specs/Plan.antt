@@ -6,7 +6,7 @@ use lib.ListN.{length}
 use lib.Dec.{eqb, ltb}
 use lib.IntN.{ℤ, pos, _+ℤ_, _*ℤ_}
 use lib.Signed.{ltZ, quotZ}
-use Rattle.protocol.specs.Lists.{tally, neg, within, count, all, any, nth, modify}
+use Rattle.protocol.specs.Lists.{countTo, neg, within, count, all, any, nth, modify}
 
 -- ---- limits
 
@@ -46,9 +46,9 @@ pub record Rule : Type 0 where
   pub upper : ℕ
   pub firm : Bool
 
--- the kind numbers 1 to 4; any other number is no kind
+-- the kind numbers 1 to 4, where assign is 01's "set"; any other number is no kind
 pub data Kind : Type 0 where
-  set add multiply divide unknown : Kind
+  assign add multiply divide unknown : Kind
 
 -- an operation
 pub record Change : Type 0 where
@@ -161,13 +161,13 @@ firmlyNamed rs m = any (λ r. r .firm && names m r) rs
 -- ---- changes
 
 unfoldable pub kindOf : ℕ → Kind
-kindOf n = cond (eqb n 1) set (cond (eqb n 2) add (cond (eqb n 3) multiply (cond (eqb n 4) divide unknown)))
+kindOf n = cond (eqb n 1) assign (cond (eqb n 2) add (cond (eqb n 3) multiply (cond (eqb n 4) divide unknown)))
 
 unfoldable pub isFactor : ℤ → Bool
 isFactor k = within (neg factorLimit) (neg 1) k || within (pos 1) (pos factorLimit) k
 
 abbrev allowedTo : Kind → ℤ → Bool
-allowedTo set k = inRange k
+allowedTo assign k = inRange k
 allowedTo add k = inRange k
 allowedTo multiply k = isFactor k
 allowedTo divide k = isFactor k
@@ -178,7 +178,7 @@ unfoldable pub allowed : Change → Bool
 allowed ch = allowedTo (ch .kind) (ch .constant)
 
 abbrev appliedTo : Kind → ℤ → ℤ → ℤ
-appliedTo set k v = k
+appliedTo assign k v = k
 appliedTo add k v = v +ℤ k
 appliedTo multiply k v = v *ℤ k
 appliedTo divide k v = quotZ v k
@@ -213,7 +213,7 @@ sideAt d s = nth absentSide (d .sides) s
 -- what a number stands for that no kept edit has: no client's, never replied to, never waiting
 abbrev pub absentEdit : Kept
 absentEdit = record {
-  edit = record { number = 0; side = 0; client = 0; earlier = 0; measure = 0; change = record { kind = set; constant = pos 0 } };
+  edit = record { number = 0; side = 0; client = 0; earlier = 0; measure = 0; change = record { kind = assign; constant = pos 0 } };
   fate = unsent;
   replied = false;
   place = 0;
@@ -233,4 +233,4 @@ pending d s = not (sideAt d s .arrived) || ltb 0 (unsentOf s (d .kept))
 
 -- how many sides pass a test of their number
 abbrev pub sidesThat : (ℕ → Bool) → Content → ℕ
-sidesThat f d = tally f (length (d .sides))
+sidesThat f d = countTo f (length (d .sides))

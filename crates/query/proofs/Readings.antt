@@ -9,18 +9,18 @@ use borrow.Author.Tests.{eqb-true, eqb-false, eq-eqb, ne-eqb, lt-ltb, le-leb}
 use lib.Dec.{eqb, ltb, eqb·suc-zero}
 use lib.IntN.{ℤ, pos}
 use lib.ListN.{length, getD, set, take, drop, length-set, length-append}
-use Rattle.protocol.specs.Lists.{natural, oneTo, tally, count}
+use Rattle.protocol.specs.Lists.{natural, oneTo, countTo, count}
 use Rattle.protocol.specs.Plan.{Kept, fateNumber, isOpen, sideAt, lookup, unsentOf, pending}
 use Rattle.protocol.specs.Calls.{show, fine, refused, first, checks, further, gives, step, fateIn, leftIn, shown, shownBy, no, ok}
 use Rattle.protocol.specs.Calls as model
 use Rattle.protocol.specs.Plan as model-plan
-use Rattle.protocol.proofs.Laws.{cases, range, yes-is, is-yes, tally-same}
+use Rattle.protocol.proofs.Laws.{cases, range, yes-is, is-yes, count-to-same}
 use Rattle.rows.specs.Rows.{span, row, copied, copiedIn}
 use Rattle.rows.proofs.Spans.{getD-set, getD-other, below}
 use Rattle.records.specs.declared.EditRecord.{EditRecord}
 use Rattle.heads.specs.declared.Head.{Head}
 use Rattle.state.specs.declared.State.{State}
-use Rattle.heads.specs.Heads.{sidesIn, indexOf, offsetOf, measuresIn, endIn, keptIn, positionOf, placeOf, unsetIn}
+use Rattle.heads.specs.Heads.{sidesIn, indexOf, offsetOf, measuresIn, endIn, keptIn, positionOf, slotAt, unsetIn}
 use Rattle.records.specs.Records.{fateOf, keptAt, logOf, keptOf, noRecord}
 use Rattle.state.specs.View.{view}
 use Rattle.heads.proofs.Flags.{index-suc}
@@ -63,19 +63,19 @@ unplaced e k (suc n) j z h w =
 fate-none : (e k n : ℕ) (es : List EditRecord) → positionOf e k n ≡ 0 → fateIn n (logOf e k es) ≡ pos 0 ∷ pos 0 ∷ []
 fate-none e k n es z = fate-unlisted n 0 k _ (λ j a b. unplaced e k n j z (omega arith))
 
-fate-some : (e k n : ℕ) (es : List EditRecord) → k ≤ 256 → positionOf e k n ≢ 0 → let r = getD es (placeOf (positionOf e k n)) noRecord in fateIn n (logOf e k es) ≡ pos (fateNumber (fateOf (r .fate))) ∷ pos (r .place) ∷ []
+fate-some : (e k n : ℕ) (es : List EditRecord) → k ≤ 256 → positionOf e k n ≢ 0 → let r = getD es (slotAt (positionOf e k n)) noRecord in fateIn n (logOf e k es) ≡ pos (fateNumber (fateOf (r .fate))) ∷ pos (r .place) ∷ []
 fate-some e k n es most h = by (placed e k n es)
   where
-    by : Placed e k n es → let r = getD es (placeOf (positionOf e k n)) noRecord in fateIn n (logOf e k es) ≡ pos (fateNumber (fateOf (r .fate))) ∷ pos (r .place) ∷ []
+    by : Placed e k n es → let r = getD es (slotAt (positionOf e k n)) noRecord in fateIn n (logOf e k es) ≡ pos (fateNumber (fateOf (r .fate))) ∷ pos (r .place) ∷ []
     by (inl q) = absurd (h (q .0))
     by (inr q) =
         let z : 0 + q .0 ≡ q .0 = omega arith in
-        let p : placeOf (suc (q .0)) ≡ q .0 = omega (arith, q .1, most) in
+        let p : slotAt (suc (q .0)) ≡ q .0 = omega (arith, q .1, most) in
         fate-listed n 0 k (q .0) (λ i. keptAt (e - (k - i)) (getD es i noRecord)) (q .1) (ap (λ i. e - (k - i)) z ∙ q .3)
-        ∙ ap fateAndPlace (q .4 ∙ ap (λ i. keptAt n (getD es i noRecord)) (sym p ∙ ap placeOf (sym (q .2))))
+        ∙ ap fateAndPlace (q .4 ∙ ap (λ i. keptAt n (getD es i noRecord)) (sym p ∙ ap slotAt (sym (q .2))))
 
 -- the answer from the record that is found
-pub fate-is : (p : State) (n : ℤ) → let i = positionOf (endIn (p .head)) (keptIn (p .head)) (natural n) in answerOf (fateAnswer i (getD (p .edits) (placeOf i) noRecord)) ≡ ok (fateIn (natural n) (view p .content .kept))
+pub fate-is : (p : State) (n : ℤ) → let i = positionOf (endIn (p .head)) (keptIn (p .head)) (natural n) in answerOf (fateAnswer i (getD (p .edits) (slotAt i) noRecord)) ≡ ok (fateIn (natural n) (view p .content .kept))
 fate-is p n =
     let e = endIn (p .head) in
     let k = keptIn (p .head) in
@@ -113,11 +113,11 @@ pub left-by : (p : State) (unsent : List ℕ) → ((s : ℕ) → 0 < s → s ≤
     → leftNumber (p .head) (p .arrived) (p .confirmed) unsent (count isOpen (keptOf (p .head) (p .edits))) ≡ leftIn (view p)
 left-by p unsent h = rw (sides-length p, waiting, unconfirmed)
   where
-    waiting : pendingIn (p .arrived) unsent (sidesIn (p .head)) ≡ tally (pending (view p .content)) (sidesIn (p .head))
-    waiting = tally-same _ _ (sidesIn (p .head)) (λ s a b. ap₂ (λ x n. not x || ltb 0 n) (ap (λ x. x .arrived) (sym (side-at p s a b))) (h s a (let m = sides-most (p .head) in omega arith)))
+    waiting : pendingIn (p .arrived) unsent (sidesIn (p .head)) ≡ countTo (pending (view p .content)) (sidesIn (p .head))
+    waiting = count-to-same _ _ (sidesIn (p .head)) (λ s a b. ap₂ (λ x n. not x || ltb 0 n) (ap (λ x. x .arrived) (sym (side-at p s a b))) (h s a (let m = sides-most (p .head) in omega arith)))
 
-    unconfirmed : unsetIn (p .confirmed) (sidesIn (p .head)) ≡ tally (λ s. not (sideAt (view p .content) s .confirmed)) (sidesIn (p .head))
-    unconfirmed = tally-same _ _ (sidesIn (p .head)) (λ s a b. ap (λ x. not (x .confirmed)) (sym (side-at p s a b)))
+    unconfirmed : unsetIn (p .confirmed) (sidesIn (p .head)) ≡ countTo (λ s. not (sideAt (view p .content) s .confirmed)) (sidesIn (p .head))
+    unconfirmed = count-to-same _ _ (sidesIn (p .head)) (λ s a b. ap (λ x. not (x .confirmed)) (sym (side-at p s a b)))
 
 pub left-is : (p : State) → leftNumber (p .head) (p .arrived) (p .confirmed) (unsentCounts (p .head) (p .edits) 8) (count isOpen (keptOf (p .head) (p .edits))) ≡ leftIn (view p)
 left-is p = left-by p (unsentCounts (p .head) (p .edits) 8) (counts-side (p .head) (p .edits))
@@ -136,12 +136,12 @@ show-checks p s room =
     (λ t. rw (t, ap length (shown-row p s t), row-length (p .values) (offsetOf (natural s)) (measuresIn (p .head))))
     (λ t. rw t))
 
-pub shown-refused : (p : State) (s : ℤ) (buffer : List ℤ) (k : ℕ) → first (showChecks (p .head) (natural s) (length buffer)) ≡ refused k → shown s (view p) buffer ≡ record { refusal = k; part = []; buffer = buffer }
+pub shown-refused : (p : State) (s : ℤ) (buffer : List ℤ) (k : ℕ) → first (showChecks (p .head) (natural s) (length buffer)) ≡ refused k → shown s (view p) buffer ≡ record { refusal = k; front = []; buffer = buffer }
 unfolding shown step
 shown-refused p s buffer k e = rw (show-checks p s (length buffer) ∙ e)
 
 pub shown-fine : (p : State) (s : ℤ) (buffer : List ℤ) → first (showChecks (p .head) (natural s) (length buffer)) ≡ fine
-    → let n = measuresIn (p .head) in let r = row (p .values) (offsetOf (natural s)) n in shown s (view p) buffer ≡ record { refusal = 0; part = r; buffer = r ++ drop n buffer }
+    → let n = measuresIn (p .head) in let r = row (p .values) (offsetOf (natural s)) n in shown s (view p) buffer ≡ record { refusal = 0; front = r; buffer = r ++ drop n buffer }
 unfolding shown step gives
 shown-fine p s buffer e =
     let t = fine-pass (showChecks (p .head) (natural s) (length buffer)) e in
@@ -176,18 +176,18 @@ front-of : (vs rest : List ℤ) → take (length vs) (vs ++ rest) ≡ vs
 front-of [] rest = refl
 front-of (v ∷ vs) rest = ap {B = List ℤ} (λ xs. v ∷ xs) (front-of vs rest)
 
-told-front : (a : model.Answer) (buffer : List ℤ) → take (length (shownBy a buffer .part)) (shownBy a buffer .buffer) ≡ shownBy a buffer .part
+told-front : (a : model.Answer) (buffer : List ℤ) → take (length (shownBy a buffer .front)) (shownBy a buffer .buffer) ≡ shownBy a buffer .front
 told-front (no k) buffer = refl
 told-front (ok vs) buffer = front-of vs (drop (length vs) buffer)
 
-told-room : (a : model.Answer) (buffer : List ℤ) → length (shownBy a buffer .part) ≤ length (shownBy a buffer .buffer)
+told-room : (a : model.Answer) (buffer : List ℤ) → length (shownBy a buffer .front) ≤ length (shownBy a buffer .buffer)
 told-room (no k) buffer = omega arith
 told-room (ok vs) buffer = let e = length-append vs (drop (length vs) buffer) in omega (arith, e)
 
-pub shown-front : (s : ℤ) (p : model-plan.Plan) (buffer : List ℤ) → take (length (shown s p buffer .part)) (shown s p buffer .buffer) ≡ shown s p buffer .part
+pub shown-front : (s : ℤ) (p : model-plan.Plan) (buffer : List ℤ) → take (length (shown s p buffer .front)) (shown s p buffer .buffer) ≡ shown s p buffer .front
 unfolding shown
 shown-front s p buffer = told-front (step (show s (length buffer)) p .answer) buffer
 
-pub shown-room : (s : ℤ) (p : model-plan.Plan) (buffer : List ℤ) → length (shown s p buffer .part) ≤ length (shown s p buffer .buffer)
+pub shown-room : (s : ℤ) (p : model-plan.Plan) (buffer : List ℤ) → length (shown s p buffer .front) ≤ length (shown s p buffer .buffer)
 unfolding shown
 shown-room s p buffer = told-room (step (show s (length buffer)) p .answer) buffer

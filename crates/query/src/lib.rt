@@ -19,7 +19,7 @@ pub fn fate(p: State, n: i32) -> Answered
 {
     let h = p.head;
     let i = heads::position(h, exact::number(n));
-    let slot = heads::place(i);
+    let slot = heads::slot(i);
     let e = p.edits[slot];
     let answer = figures::fate_answer(i, e);
     Answered { state: p, answer }
@@ -53,7 +53,7 @@ fn fill(values: &[i32; 256], at: usize, n: usize, buffer: &mut [i32])
 // number lent beside it; a refusal gives 0 and leaves the buffer as it was. All of show's work is done here, where a contract can speak of the whole
 // buffer: of a slice that went into the result, as in show, none can.
 pub fn show_in(p: State, s: i32, buffer: &mut [i32], refusal: &mut u32) -> usize
-    ensures { λ r. ⌜ (r ≡ length (shown s (view p) (now (buffer .entry)) .part)) × (now (refusal .exit) ≡ shown s (view p) (now (buffer .entry)) .refusal) × (now (buffer .exit) ≡ shown s (view p) (now (buffer .entry)) .buffer) ⌝ }
+    ensures { λ r. ⌜ (r ≡ length (shown s (view p) (now (buffer .entry)) .front)) × (now (refusal .exit) ≡ shown s (view p) (now (buffer .entry)) .refusal) × (now (buffer .exit) ≡ shown s (view p) (now (buffer .entry)) .buffer) ⌝ }
 {
     let h = p.head;
     let side = exact::number(s);
@@ -70,7 +70,7 @@ pub fn show_in(p: State, s: i32, buffer: &mut [i32], refusal: &mut u32) -> usize
 
 // The same, with the filled part handed back (01, "Which form to use where"); a refusal hands back an empty part.
 pub fn show<'a>(p: State, s: i32, buffer: &'a mut [i32], refusal: &mut u32) -> &'a mut [i32]
-    ensures { λ r. ⌜ (now (refusal .exit) ≡ shown s (view p) (now (buffer .entry)) .refusal) × (now r ≡ shown s (view p) (now (buffer .entry)) .part) ⌝ }
+    ensures { λ r. ⌜ (now (refusal .exit) ≡ shown s (view p) (now (buffer .entry)) .refusal) × (now r ≡ shown s (view p) (now (buffer .entry)) .front) ⌝ }
 {
     let n = show_in(p, s, &mut buffer[..], refusal);
     &mut buffer[..n]

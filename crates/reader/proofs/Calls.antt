@@ -15,7 +15,7 @@ use Rattle.protocol.specs.Lists.{all}
 use Rattle.protocol.specs.Calls.{Call, measure, rule, open-plan, split-side, edit, join, send, replay, stop, confirm, install, show, fate-of, left}
 use Rattle.protocol.proofs.Laws.{cases}
 use Rattle.format.specs.Numbers.{number}
-use Rattle.format.specs.Lines.{space, Shape, given, takes, filled, Form, forms, sameBytes, shapeOf, joined, numbers, asked, callOf, lineCall}
+use Rattle.format.specs.Lines.{space, Shape, complete, takes, filled, Form, forms, sameBytes, shapeOf, joined, numbers, asked, callOf, lineCall}
 use Rattle.format.proofs.Digits.{and-true}
 use Rattle.reader.specs.declared.Number.the-variants.{Value, Unreadable}
 use Rattle.reader.specs.declared.Line.{Line}
@@ -53,7 +53,7 @@ op-most w = place-most w forms
 
 -- the count of numbers does not depend on the numbers
 abbrev pub Fixed : Shape → Type 0
-Fixed (given c) = Unit {0}
+Fixed (complete c) = Unit {0}
 Fixed (takes f) = (x : ℤ) → (arity (f x) ≡ arity (f (pos 0))) × Fixed (f x)
 
 abbrev pub EachFixed : List Form → Type 0
@@ -65,8 +65,8 @@ forms-fixed =
     (λ x. (refl, tt), (λ x. (refl, λ y. (refl, λ z. (refl, λ u. (refl, tt)))), (tt, (λ x. (refl, tt), (λ x. (refl, λ y. (refl, λ z. (refl, λ u. (refl, λ v. (refl, λ w. (refl, tt)))))), (tt, (λ x. (refl, tt), (λ x. (refl, tt), (tt, (λ x. (refl, tt), (tt, (λ x. (refl, tt), (λ x. (refl, tt), (tt, tt))))))))))))))
 
 not-filled : (s : Shape) (zs : List ℤ) → Fixed s → (length zs ≡ arity s → ⊥) → filled s zs ≡ none
-not-filled (given c) [] h ne = absurd (ne refl)
-not-filled (given c) (z ∷ zs) h ne = refl
+not-filled (complete c) [] h ne = absurd (ne refl)
+not-filled (complete c) (z ∷ zs) h ne = refl
 not-filled (takes f) [] h ne = refl
 not-filled (takes f) (z ∷ zs) h ne = not-filled (f z) zs (h z .1) (λ e. ne (ap suc (e ∙ h z .0)))
 

@@ -11,7 +11,7 @@ use Rattle.protocol.specs.Lists.{all}
 use Rattle.protocol.specs.Plan.{measureLimit}
 use Rattle.protocol.specs.Calls.{Call, measure, rule, open-plan, split-side, edit, join, send, replay, stop, confirm, install, show, fate-of, left}
 use Rattle.format.specs.Numbers.{isDigit, decimal, isMagnitude, number}
-use Rattle.format.specs.Lines.{space, lineFeed, Shape, given, takes, Form, forms, sameBytes, lineCall}
+use Rattle.format.specs.Lines.{space, lineFeed, Shape, complete, takes, Form, forms, sameBytes, lineCall}
 use Rattle.reader.specs.declared.Number.{Number}
 use Rattle.reader.specs.declared.Number.the-variants.{Value, Unreadable}
 use Rattle.reader.specs.declared.Magnitude.{Magnitude}
@@ -82,7 +82,7 @@ shapeNth (suc (suc n)) (f ∷ fs) = shapeNth (suc n) fs
 
 -- how many numbers a shape takes
 abbrev pub arity : Shape → ℕ
-arity (given c) = 0
+arity (complete c) = 0
 arity (takes f) = suc (arity (f (pos 0)))
 
 abbrev pub arityOf : Option Shape → ℕ

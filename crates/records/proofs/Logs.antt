@@ -17,7 +17,7 @@ use Rattle.rows.proofs.Spans.{span-same, span-snoc, modify-span, getD-set, getD
 use Rattle.records.specs.declared.EditRecord.{EditRecord}
 use Rattle.records.specs.declared.Test.{Test}
 use Rattle.records.specs.declared.Test.the-variants.{UnsentOf, Waiting, Open, Settled}
-use Rattle.heads.specs.Heads.{positionOf, placeOf}
+use Rattle.heads.specs.Heads.{positionOf, slotAt}
 use Rattle.records.specs.Records.{keptAt, logOf, noRecord, testOf, recordOf}
 
 pub open-low : (f : Fate) → (fateIs unsent f || fateIs waiting f) ≡ ltb (fateNumber f) 3
@@ -126,13 +126,13 @@ placed e k n es = by (found n (numberAt e k) (λ i. keptAt (numberAt e k i) (get
         inr (j, q .1, position-some e k n j (q .1) m (λ i a b. q .3 i a b), m, q .4 ∙ ap (λ x. keptAt (numberAt e k x) (getD es x noRecord)) z ∙ ap (λ x. keptAt x (getD es j noRecord)) m, q .5)
 
 -- the record at the place that was found; its number is n's, or nobody's
-pub lookup-record : (e k n : ℕ) (es : List EditRecord) → k ≤ 256 → lookup n (logOf e k es) ≡ keptAt (cond (eqb (positionOf e k n) 0) 0 n) (recordOf (positionOf e k n) (getD es (placeOf (positionOf e k n)) noRecord))
+pub lookup-record : (e k n : ℕ) (es : List EditRecord) → k ≤ 256 → lookup n (logOf e k es) ≡ keptAt (cond (eqb (positionOf e k n) 0) 0 n) (recordOf (positionOf e k n) (getD es (slotAt (positionOf e k n)) noRecord))
 lookup-record e k n es most = by (placed e k n es)
   where
-    by : Placed e k n es → lookup n (logOf e k es) ≡ keptAt (cond (eqb (positionOf e k n) 0) 0 n) (recordOf (positionOf e k n) (getD es (placeOf (positionOf e k n)) noRecord))
+    by : Placed e k n es → lookup n (logOf e k es) ≡ keptAt (cond (eqb (positionOf e k n) 0) 0 n) (recordOf (positionOf e k n) (getD es (slotAt (positionOf e k n)) noRecord))
     by (inl q) = q .1 ∙ sym (rw (q .0))
     by (inr q) =
-        let z : placeOf (suc (q .0)) ≡ q .0 = omega (arith, q .1, most) in
+        let z : slotAt (suc (q .0)) ≡ q .0 = omega (arith, q .1, most) in
         q .4 ∙ sym (rw (q .2, z, eqb·suc-zero (q .0)))
 
 -- ---- one more, and one changed

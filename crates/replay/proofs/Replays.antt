@@ -24,7 +24,7 @@ use Rattle.rules.proofs.Links.{tested-linked}
 use Rattle.records.specs.declared.EditRecord.{EditRecord}
 use Rattle.heads.specs.declared.Head.{Head}
 use Rattle.state.specs.declared.State.{State}
-use Rattle.heads.specs.Heads.{modeOf, sidesIn, keptIn, endIn, placeOf, namedAt, seatOf, unsetIn}
+use Rattle.heads.specs.Heads.{modeOf, sidesIn, keptIn, endIn, slotAt, namedAt, seatOf, unsetIn}
 use Rattle.records.specs.Records.{keptAt, keptOf, noRecord, recordOf}
 use Rattle.state.specs.View.{view, rulesOf}
 use Rattle.state.specs.Parts.{namedIn}
@@ -56,21 +56,21 @@ decision-same test test′ p n h = cases (active (modeOf (p .head .mode)))
 
 -- the decision that the code makes, with the rules' own links, is the one in the state
 pub replay-decided : (sound : Bool) (p : State) (n : ℤ) {i slot j seat place : ℕ} {links : List ℕ} {d : Decision}
-    → i ≡ namedAt (p .head) n → slot ≡ placeOf i → j ≡ earlierAt (p .head) i (getD (p .edits) slot noRecord) → seat ≡ placeOf j → place ≡ count isSettled (keptOf (p .head) (p .edits)) + 1
+    → i ≡ namedAt (p .head) n → slot ≡ slotAt i → j ≡ earlierAt (p .head) i (getD (p .edits) slot noRecord) → seat ≡ slotAt j → place ≡ count isSettled (keptOf (p .head) (p .edits)) + 1
     → d ≡ replayFrom (testedBy sound links) (p .head) (p .lower) (p .gap) (p .upper) (p .draft) (p .arrived) i (getD (p .edits) slot noRecord) j (getD (p .edits) seat noRecord) place
     → LinkedIf sound links (p .lower) (p .upper) (min (p .head .rules) 64)
     → d ≡ replayIn sound p n
 replay-decided sound p n {links = links} i-is slot-is j-is seat-is place-is d-is linked =
-    let standing = ap (λ x. getD (p .edits) x noRecord) (slot-is ∙ ap placeOf i-is) in
+    let standing = ap (λ x. getD (p .edits) x noRecord) (slot-is ∙ ap slotAt i-is) in
     let earlier = j-is ∙ (λ x. earlierAt (p .head) (i-is x) (standing x)) in
-    let seen = ap (λ x. getD (p .edits) x noRecord) (seat-is ∙ ap placeOf earlier) in
+    let seen = ap (λ x. getD (p .edits) x noRecord) (seat-is ∙ ap slotAt earlier) in
     d-is ∙ (λ x. replayFrom (testedBy sound links) (p .head) (p .lower) (p .gap) (p .upper) (p .draft) (p .arrived) (i-is x) (standing x) (earlier x) (seen x) (place-is x))
     ∙ decision-same (testedBy sound links) (testedIn sound) p n (λ t. tested-linked sound links _ (p .lower) (p .gap) (p .upper) _ _ linked)
 
 -- and its measure's place in the draft is the edit's
-pub point-decided : (p : State) (n : ℤ) {i slot point : ℕ} → i ≡ namedAt (p .head) n → slot ≡ placeOf i → point ≡ pointOf (recordOf i (getD (p .edits) slot noRecord) .measure) → point ≡ pointOf (namedIn p (natural n) .measure)
+pub point-decided : (p : State) (n : ℤ) {i slot point : ℕ} → i ≡ namedAt (p .head) n → slot ≡ slotAt i → point ≡ pointOf (recordOf i (getD (p .edits) slot noRecord) .measure) → point ≡ pointOf (namedIn p (natural n) .measure)
 point-decided p n i-is slot-is point-is =
-    let slot = slot-is ∙ ap placeOf i-is in point-is ∙ (λ x. pointOf (recordOf (i-is x) (getD (p .edits) (slot x) noRecord) .measure))
+    let slot = slot-is ∙ ap slotAt i-is in point-is ∙ (λ x. pointOf (recordOf (i-is x) (getD (p .edits) (slot x) noRecord) .measure))
 
 -- where all rules held on the draft, it is enough to test those that name the measure
 pub replay-sound : (p : State) (n : ℤ) → (T (active (modeOf (p .head .mode))) → holds (rulesOf p) (draftIn (p .head) (p .draft)) ≡ true) → replayIn true p n ≡ replayIn false p n
@@ -157,7 +157,7 @@ module _ (p : State) (z : Sized p) (n : ℤ) where
       by (inl q) = absurd (rw (q .0) at (f .1 .1 .0))
       by (inr q) =
           let j = q .0 in
-          let at : seatOf h n ≡ j = ap placeOf (q .2) ∙ (let i = q .1 in omega arith) in
+          let at : seatOf h n ≡ j = ap slotAt (q .2) ∙ (let i = q .1 in omega arith) in
           let l = z .edits in
           let i = q .1 in
           (λ t. keptOf h (set (p .edits) (at t) (settledRecord (getD (p .edits) (at t) noRecord) b (add-one (count isSettled (keptOf h (p .edits))) t))))

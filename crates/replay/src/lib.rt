@@ -11,10 +11,10 @@ pub fn replay(p: State, n: i32) -> Answered
 {
     let h = p.head;
     let named = heads::named(h, n);
-    let slot = heads::place(named);
+    let slot = heads::slot(named);
     let standing = p.edits[slot];
     let next = settling::earlier(h, named, standing);
-    let seat = heads::place(next);
+    let seat = heads::slot(next);
     let seen = p.edits[seat];
     let point = settling::point_of(named, standing);
     let edits = p.edits;

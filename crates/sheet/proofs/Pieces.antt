@@ -17,7 +17,7 @@ use Rattle.protocol.specs.Calls.{no, start}
 use Rattle.protocol.proofs.Laws.{cases, and-in}
 use Rattle.format.specs.Numbers.{digits}
 use Rattle.format.specs.Lines.{lineFeed, lines, grow}
-use Rattle.format.specs.Sheets.{text, turn, answers, tooLong, replies, fitted, inFront, screened}
+use Rattle.format.specs.Sheets.{text, lineStep, answerLines, tooLong, replies, fitted, inFront, screened}
 use Rattle.format.specs.Longest.{longestAnswer}
 use Rattle.format.proofs.Longest.{isShort, isRow, short, Narrow, narrow-line, longest}
 use Rattle.rows.specs.Rows.{span, row}
@@ -66,7 +66,7 @@ narrow-view p g = record {
 -- what it leaves, as the answer lines that it wrote
 record Shared (room : ℕ) (p : Plan) (ls : List (List ℕ)) (r : Ran) : Type 0 where
   told : List (List ℕ)
-  parts : answers p ls ≡ told ++ answers (r .plan) (r .rest)
+  parts : answerLines p ls ≡ told ++ answerLines (r .plan) (r .rest)
   plan : r .plan ≡ leaves p (take (length told) ls)
   bytes : r .bytes ≡ flat told
   room-for : length (flat told) ≤ room
@@ -78,16 +78,16 @@ unbegun : (room : ℕ) (p : Plan) (ls : List (List ℕ)) → room < longestAnswe
 unbegun room p ls h = record { told = []; parts = refl; plan = refl; bytes = refl; room-for = omega arith; fewer = omega arith; further = λ a b. absurd (omega arith) }
 
 shared : (room : ℕ) (p : Plan) (ls : List (List ℕ)) → Narrow (p .content) → Shared room p ls (ran longestAnswer room p ls)
-unfolding ran answers
+unfolding ran answerLines
 shared room p [] g = record { told = []; parts = refl; plan = refl; bytes = refl; room-for = omega arith; fewer = omega arith; further = λ a b. absurd (omega arith) }
 shared room p (l ∷ ls) g =
-    let t = text (turn l p .answer) in
+    let t = text (lineStep l p .answer) in
     cases (ltb room longestAnswer)
     (λ h. rw h (unbegun room p (l ∷ ls) (ltb-true room longestAnswer h)))
     (λ h.
     let k = longest l p g in
     let m = ltb-false room longestAnswer h in
-    let r = shared (room - length t) (turn l p .plan) ls (narrow-line l p g) in
+    let r = shared (room - length t) (lineStep l p .plan) ls (narrow-line l p g) in
     let e = length-append t (flat (r .told)) in
     rw (h, le-leb (length t) room (omega arith)) (record {
       told = t ∷ r .told;
@@ -139,11 +139,11 @@ module _ (sheet : List ℕ) (from : ℕ) (p : State) (lent : List ℕ) where
       let s = shared (length lent) (view p) (lines (drop from sheet)) (narrow-view p g) in
       let short = le-ltb 65536 (length sheet) fits in
       let w = h .written ∙ ap length (s .bytes) in
-      let here : due sheet from (view p) ≡ answers (view p) (lines (drop from sheet)) = rw short in
-      let there : due sheet (r .next) (view (r .state)) ≡ answers (view (r .state)) (lines (drop (r .next) sheet)) = rw short in
+      let here : due sheet from (view p) ≡ answerLines (view p) (lines (drop from sheet)) = rw short in
+      let there : due sheet (r .next) (view (r .state)) ≡ answerLines (view (r .state)) (lines (drop (r .next) sheet)) = rw short in
       record {
         told = s .told;
-        parts = here ∙ s .parts ∙ ap (λ ts. s .told ++ ts) (sym (there ∙ ap₂ answers (h .plan) (h .rest)));
+        parts = here ∙ s .parts ∙ ap (λ ts. s .told ++ ts) (sym (there ∙ ap₂ answerLines (h .plan) (h .rest)));
         plan = λ e. h .plan ∙ s .plan;
         written = w;
         room = let m = s .room-for in omega (arith, w, m);
@@ -205,7 +205,7 @@ due-whole sheet = cases (tooLong sheet)
     (λ e. rw e)
 
 due-over : (sheet : List ℕ) (from : ℕ) (p : Plan) → length sheet ≤ from → due sheet from p ≡ []
-unfolding answers lines
+unfolding answerLines lines
 due-over sheet from p h = cases (tooLong sheet)
     (λ e. rw (e, le-ltb from (length sheet) h))
     (λ e. rw (e, drop-of-length-le sheet {i = from} h))

@@ -14,7 +14,7 @@ use Rattle.protocol.specs.Calls.{no, start}
 use Rattle.protocol.proofs.Laws.{cases}
 use Rattle.format.specs.Lines.{lines}
 use Rattle.format.specs.Numbers.{digits}
-use Rattle.format.specs.Sheets.{text, turn, answers, replies, Fitted, behind, fitted, inFront, screened, screen}
+use Rattle.format.specs.Sheets.{text, lineStep, answerLines, replies, Fitted, behind, fitted, inFront, screened, screen}
 use Rattle.state.specs.View.{view}
 use Rattle.state.specs.Parts.{blankState}
 use Rattle.progress.specs.declared.Progress.{Progress}
@@ -25,12 +25,12 @@ use Rattle.sheet.specs.Runs.{handedBack}
 abbrev wholeOf : Ran → Fitted
 wholeOf r = record { bytes = r .bytes; ended = r .ended }
 
-ran-fitted : (room : ℕ) (p : Plan) (ls : List (List ℕ)) → wholeOf (ran 0 room p ls) ≡ fitted room (answers p ls)
-unfolding ran fitted answers
+ran-fitted : (room : ℕ) (p : Plan) (ls : List (List ℕ)) → wholeOf (ran 0 room p ls) ≡ fitted room (answerLines p ls)
+unfolding ran fitted answerLines
 ran-fitted room p [] = refl
 ran-fitted room p (l ∷ ls) =
-    let t = text (turn l p .answer) in
-    let ih = ran-fitted (room - length t) (turn l p .plan) ls in
+    let t = text (lineStep l p .answer) in
+    let ih = ran-fitted (room - length t) (lineStep l p .plan) ls in
     rw (le-ltb room 0 (omega arith)) (cases (leb (length t) room) (λ e. rw e (ap (behind t) ih)) (λ e. rw e))
 
 -- what fits is no longer than the room
@@ -45,13 +45,13 @@ fitted-most room (t ∷ ts) =
 
 module _ (sheet area after : List ℕ) (r : Progress) (h : Advanced 0 sheet 0 blankState area r after) where
   abbrev whole : Fitted
-  whole = fitted (length area) (answers start (lines sheet))
+  whole = fitted (length area) (answerLines start (lines sheet))
 
   ran-whole : wholeOf (ran 0 (length area) (view blankState) (lines (drop 0 sheet))) ≡ whole
   ran-whole = ran-fitted (length area) start (lines sheet)
 
   pub written-most : r .written ≤ length area
-  written-most = let e : r .written ≡ length (whole .bytes) = h .written ∙ ap (λ f. length (f .bytes)) ran-whole in let m = fitted-most (length area) (answers start (lines sheet)) in omega (arith, e, m)
+  written-most = let e : r .written ≡ length (whole .bytes) = h .written ∙ ap (λ f. length (f .bytes)) ran-whole in let m = fitted-most (length area) (answerLines start (lines sheet)) in omega (arith, e, m)
 
   pub screened-is : (n : ℕ) → n ≡ 2 * r .written + bit (r .ended) → ltb 65536 (length sheet) ≡ false → handedBack n after ≡ screen sheet area
   unfolding screen replies

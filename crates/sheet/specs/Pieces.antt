@@ -8,7 +8,7 @@ use lib.ListN.{length, take, drop}
 use Rattle.protocol.specs.Plan.{Plan}
 use Rattle.protocol.specs.Calls.{no, start}
 use Rattle.format.specs.Lines.{lines}
-use Rattle.format.specs.Sheets.{text, answers, tooLong, inFront}
+use Rattle.format.specs.Sheets.{text, answerLines, tooLong, inFront}
 use Rattle.format.specs.Longest.{longestAnswer}
 use Rattle.state.specs.declared.State.{State}
 use Rattle.state.specs.View.{view}
@@ -23,7 +23,7 @@ flat (t ∷ ts) = t ++ flat ts
 -- The answer lines that are due from a place of the sheet on, where the lines before it left plan p. From its beginning on, with a blank plan, these are the
 -- sheet's `replies` (proofs/Pieces: `due-whole`).
 abbrev pub due : List ℕ → ℕ → Plan → List (List ℕ)
-due sheet from p = cond (tooLong sheet) (cond (ltb from (length sheet)) (text (no 52) ∷ []) []) (answers p (lines (drop from sheet)))
+due sheet from p = cond (tooLong sheet) (cond (ltb from (length sheet)) (text (no 52) ∷ []) []) (answerLines p (lines (drop from sheet)))
 
 -- What holds of a piece. How many lines it answers is free, but for `further`.
 pub record Pieced (sheet : List ℕ) (from : ℕ) (p : State) (lent : List ℕ) (r : Piece) (after : List ℕ) : Type 0 where

@@ -12,16 +12,16 @@ use denote.Struct.Laws.{val}
 use lib.Dec.{eqb, ltb}
 use lib.IntN.{ℤ, pos}
 use lib.ListN.{length, getD, set, length-map}
-use Rattle.protocol.specs.Lists.{tally, modify, snoc}
+use Rattle.protocol.specs.Lists.{countTo, modify, snoc}
 use Rattle.protocol.specs.Plan.{Side, Mode, modeNumber, Content, Plan, absentSide, sideAt, sidesThat, lookup}
-use Rattle.protocol.proofs.Laws.{tally-same}
+use Rattle.protocol.proofs.Laws.{count-to-same}
 use Rattle.rows.specs.Rows.{span, row}
 use Rattle.rows.proofs.Spans.{length-span, span-same, span-snoc, nth-span, modify-span, getD-set, getD-other}
 use Rattle.state.proofs.State.{the-type}
 use Rattle.state.proofs.State.Laws.{the-laws}
 use Rattle.heads.specs.declared.Head.{Head}
 use Rattle.state.specs.declared.State.{State}
-use Rattle.heads.specs.Heads.{modeOf, sidesIn, indexOf, measuresIn, endIn, keptIn, positionOf, placeOf, unsetIn}
+use Rattle.heads.specs.Heads.{modeOf, sidesIn, indexOf, measuresIn, endIn, keptIn, positionOf, slotAt, unsetIn}
 use Rattle.records.specs.declared.EditRecord.{EditRecord}
 use Rattle.records.specs.Records.{keptAt, noRecord, recordOf}
 use Rattle.state.specs.View.{view, sideOf}
@@ -100,8 +100,8 @@ row-snoc vs at n v h =
 -- how many sides have a flag that is not set, as the protocol counts them
 pub flags-unset : (p : State) (flag : Side → Bool) (flags : List Bool) → ((s : ℕ) → flag (sideOf p s) ≡ getD flags (indexOf s) false) → sidesThat (λ s. not (flag (sideAt (view p .content) s))) (view p .content) ≡ unsetIn flags (sidesIn (p .head))
 flags-unset p flag flags h =
-    ap (tally (λ s. not (flag (sideAt (view p .content) s)))) (sides-length p)
-    ∙ tally-same _ _ (sidesIn (p .head)) (λ s a b. ap (λ x. not (flag x)) (side-at p s a b) ∙ ap not (h s))
+    ap (countTo (λ s. not (flag (sideAt (view p .content) s)))) (sides-length p)
+    ∙ count-to-same _ _ (sidesIn (p .head)) (λ s a b. ap (λ x. not (flag x)) (side-at p s a b) ∙ ap not (h s))
 
 -- the edit that a number names, as the protocol finds it
 pub lookup-named : (p : State) (n : ℕ) → lookup n (view p .content .kept) ≡ keptAt (cond (eqb (positionOf (endIn (p .head)) (keptIn (p .head)) n) 0) 0 n) (namedIn p n)

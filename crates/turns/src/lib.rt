@@ -1,7 +1,7 @@
 // The checks of send, stop, confirm and install, the heads that they leave, and edits sent. Read only.
 ghost use mathlib.Core.Path.{_≡_};
 ghost use Prim.Native.Nat.{ℕ, min};
-ghost use Rattle.protocol.specs.Calls.{sent, first};
+ghost use Rattle.protocol.specs.Calls.{markSent, first};
 ghost use Rattle.records.specs.Records.{keptAt};
 ghost use Rattle.state.specs.Meets.{refusalOf};
 ghost use Rattle.turns.specs.Moves.{sendChecks, sendDecision, Marked, turnChecks, stopChecks, confirmChecks, installChecks, installHead};
@@ -128,7 +128,7 @@ pub fn install_head(h: Head) -> Head
 
 // An unsent edit of a side is sent; another stays as it is.
 pub fn sent_record(e: EditRecord, s: u32) -> EditRecord
-    ensures { λ r. ⌜ ((n : ℕ) → keptAt n r ≡ sent s (keptAt n e)) ⌝ }
+    ensures { λ r. ⌜ ((n : ℕ) → keptAt n r ≡ markSent s (keptAt n e)) ⌝ }
 {
     if records::satisfies(e, Test::UnsentOf(s)) == 0 {
         return e;

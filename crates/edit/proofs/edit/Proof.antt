@@ -22,7 +22,7 @@ use Rattle.edit.proofs.edit.Tie as tie
 use Rattle.edit.proofs.edit.Reads as reads
 use Rattle.edit.proofs.edit.Lts as lts
 use Rattle.heads.proofs.named.Reads as named-reads
-use Rattle.heads.proofs.place.Reads as place-reads
+use Rattle.heads.proofs.slot.Reads as slot-reads
 use Rattle.rows.proofs.capped.Reads as capped-reads
 use Rattle.ruling.proofs.decide_edit.Reads as decide-edit-reads
 use Rattle.ruling.proofs.spot.Reads as spot-reads
@@ -42,8 +42,8 @@ met c =
     let to-k = toZ-ofZ (s .fits .constant) in
     let spot = (c .before .before .before .before .before .before .before .before .before .before .before .before .spot .ensures .0) ∙ (λ j. spotOf (natural (to-s j)) (natural (to-m j))) in
     let g = edit-decided false p (a .s) (a .client) (a .after) (a .m) (a .kind) (a .constant)
-    ((c .before .before .before .before .before .before .before .before .before .before .before .before .before .before .before .named .ensures .0) ∙ ap (namedAt (p .head)) to-n) (c .before .before .before .before .before .before .before .before .before .before .before .before .before .before .place .ensures .0)
-    ((c .before .before .before .decide-edit .ensures) ∙ (λ j. editFrom (testedBy false (replicate 161 0)) (p .head) (p .lower) (p .gap) (p .upper) (p .firm) (p .values) (c .before .before .before .before .before .before .before .before .before .before .before .before .before .before .before .named .result) (getD (p .edits) (c .before .before .before .before .before .before .before .before .before .before .before .before .before .before .place .result) noRecord) (to-s j) (to-client j) (to-n j) (to-m j) (to-kind j) (to-k j)))
+    ((c .before .before .before .before .before .before .before .before .before .before .before .before .before .before .before .named .ensures .0) ∙ ap (namedAt (p .head)) to-n) (c .before .before .before .before .before .before .before .before .before .before .before .before .before .before .slot .ensures .0)
+    ((c .before .before .before .decide-edit .ensures) ∙ (λ j. editFrom (testedBy false (replicate 161 0)) (p .head) (p .lower) (p .gap) (p .upper) (p .firm) (p .values) (c .before .before .before .before .before .before .before .before .before .before .before .before .before .before .before .named .result) (getD (p .edits) (c .before .before .before .before .before .before .before .before .before .before .before .before .before .before .slot .result) noRecord) (to-s j) (to-client j) (to-n j) (to-m j) (to-kind j) (to-k j)))
     (unlinked _ _ _ _) in
     rw (spot, (c .before .before .before .before .before .before .before .before .before .before .before .capped .ensures), g) (edit-meets p (owned-sized p (s .good .0)) (a .s) (a .client) (a .after) (a .m) (a .kind) (a .constant))
 
@@ -54,8 +54,8 @@ value c = toZ-ofZ (fits32 (c .before .before .before .decide-edit .result .value
 named-requires : tie.Need-named-requires
 named-requires c κs = search needs
 
-place-requires : tie.Need-place-requires
-place-requires c κs = search needs
+slot-requires : tie.Need-slot-requires
+slot-requires c κs = search needs
 
 mul-seen : tie.Need-mul-seen
 mul-seen c = search needs
@@ -97,7 +97,7 @@ edit-spec =
     tie.close
     (tie.spec
     named-requires
-    place-requires
+    slot-requires
     mul-seen
     element-copy-out-seen
     spot-requires

@@ -9,7 +9,7 @@ use lib.ListN.{getD}
 use Rattle.protocol.specs.Lists.{bit}
 use Rattle.rows.proofs.Spans.{bit-one}
 use Rattle.figures.specs.Reads.{pendingIn}
-use Rattle.heads.proofs.Flags.{tally-next, index-suc}
+use Rattle.heads.proofs.Flags.{count-to-next, index-suc}
 use Rattle.figures.proofs.pending_sides.Statement.{statement}
 use Rattle.figures.proofs.pending_sides.Tie as tie
 use Rattle.figures.proofs.pending_sides.Reads as reads
@@ -68,7 +68,7 @@ loop-again c =
       omega arith,
       l .inv .1,
       omega (arith, l .inv .2, side-bit c),
-      tally-next (λ s. not (getD (vs .arrived .now) (indexOf s) false) || ltb 0 (getD (vs .unsent .now) (indexOf s) 0)) i _ _ (l .inv .3) (c .pending-bit .ensures ∙ ap (λ j. bit (not (getD (vs .arrived .now) j false) || ltb 0 (getD (vs .unsent .now) j 0))) (sym at)),
+      count-to-next (λ s. not (getD (vs .arrived .now) (indexOf s) false) || ltb 0 (getD (vs .unsent .now) (indexOf s) 0)) i _ _ (l .inv .3) (c .pending-bit .ensures ∙ ap (λ j. bit (not (getD (vs .arrived .now) j false) || ltb 0 (getD (vs .unsent .now) j 0))) (sym at)),
     )
 
 returns : tie.Need-returns Inv-loop μ-loop

@@ -4,7 +4,7 @@ use mathlib.Core.Path.{_≡_, sym, ap, _∙_}
 use borrow.Author.Tests.{eq-eqb, ne-eqb}
 use lib.Dec.{eqb}
 use lib.IntN.{pos}
-use Rattle.protocol.specs.Lists.{none}
+use Rattle.protocol.specs.Lists.{isNone}
 use Rattle.protocol.specs.Plan.{blank, is}
 use Rattle.rows.specs.Rows.{row}
 use Rattle.rules.specs.Rules.{holdsIn, testedIn, testedBy}
@@ -21,7 +21,7 @@ use Rattle.rules.proofs.rules_hold.Reads as rules-hold-reads
 mode-fine : (c : tie.Else1) → is blank (modeOf (c .before .before .args .h .mode)) ≡ true
 mode-fine c = sym (ap (λ n. eqb n 0) (c .before .mode-number .ensures)) ∙ eq-eqb _ 0 (c .if1 .left)
 
-drawn : (c : tie.Else2) → none (measuresIn (c .before .before .before .before .args .h)) ≡ false
+drawn : (c : tie.Else2) → isNone (measuresIn (c .before .before .before .before .args .h)) ≡ false
 drawn c = some-left (c .before .before .before .before .args .h .measures) (c .if2 .left)
 
 -- the test found what the rules are on the row as it stands
@@ -39,7 +39,7 @@ returns : tie.Need-returns
 returns c = rw (← ((c .before .mode-number .ensures)), ne-eqb _ 0 (c .if1 .taken))
 
 returns-2 : tie.Need-returns-2
-returns-2 c = rw (mode-fine (c .before .before), ap (λ n. none (min n 32)) (c .if2 .taken))
+returns-2 c = rw (mode-fine (c .before .before), ap (λ n. isNone (min n 32)) (c .if2 .taken))
 
 rules-hold-requires : tie.Need-rules-hold-requires
 rules-hold-requires c κs = search needs

@@ -24,10 +24,10 @@ use Rattle.state.specs.declared.State.{State}
 use Rattle.state.specs.declared.Answer.{Answer}
 use Rattle.state.specs.declared.Answer.the-variants.{Refused}
 use Rattle.state.specs.View.{view}
-use Rattle.heads.specs.Heads.{modeOf, sidesIn, indexOf, placeOf, namedAt}
+use Rattle.heads.specs.Heads.{modeOf, sidesIn, indexOf, slotAt, namedAt}
 use Rattle.records.specs.Records.{keptOf, noRecord}
 use Rattle.state.specs.Meets.{answerOf}
-use Rattle.format.specs.Sheets.{text, turn, stepOf, inFront}
+use Rattle.format.specs.Sheets.{text, lineStep, stepOf, inFront}
 use Rattle.writer.specs.Writes.{withRow, lineOf}
 use Rattle.state.proofs.Views.{Sized, owned-sized, sides-most}
 use Rattle.state.proofs.Steps as steps
@@ -74,7 +74,7 @@ use Rattle.reads.proofs.read.Reads as read-reads
 use Rattle.rows.proofs.capped.Reads as capped-reads
 use Rattle.rules.proofs.indexed.Reads as indexed-reads
 use Rattle.heads.proofs.named.Reads as named-reads
-use Rattle.heads.proofs.place.Reads as place-reads
+use Rattle.heads.proofs.slot.Reads as slot-reads
 use Rattle.ruling.proofs.decide_edit.Reads as decide-edit-reads
 use Rattle.ruling.proofs.spot.Reads as spot-reads
 use Rattle.settling.proofs.earlier.Reads as earlier-reads
@@ -201,7 +201,7 @@ read-is c =
     let l = (c .before .before .before .before .before .before .before .before .before .read-line .result) in
     let a = toZ-ofZ (fits32 (l .a) (c .before .before .before .before .before .before .before .struct-told .given .1 .0 .1)) in
     let named = (c .before .before .before .named .ensures .0) ∙ ap (namedAt (p .head)) a in
-    let seat = (c .before .before .place .ensures .0) ∙ ap placeOf named in
+    let seat = (c .before .before .slot .ensures .0) ∙ ap slotAt named in
     (c .read .ensures) ∙ (λ j. readingOf (l .op) (a j) (p .head) (named j) (getD (p .edits) (seat j) noRecord) (c .before .before .before .before .before .before .before .before .before .before .before .before .loop .t .left))
 
 read-arm : (c : tie.After-read Inv-loop2 μ-loop2 Inv-loop μ-loop) → let p = (c .before .before .before .before .before .before .before .before .before .before .before .before .loop .p) in let r = (c .read .result) in (Made (lineIn (c .before .before .before .before .before .before .before .before .before .read-line .result)) p p (r .answer) (row (p .values) (r .from) (r .width))) × (r .from ≤ 224) × (r .width ≤ 32)
@@ -223,7 +223,7 @@ read-turned c e g h = let m = read-arm c in read-out (idle (c .before .before .b
 turned1 : (c : tie.Joined1 Inv-loop2 μ-loop2 Inv-loop μ-loop) → Turned (isDraw (c .before .before .before .before .before .read-line .result .op)) (doneReads (c .before .before .before .before .before .read-line .result .op)) (lineIn (c .before .before .before .before .before .read-line .result)) (c .before .before .before .before .before .before .before .before .loop .p) (c .before .before .before .before .before .before .before .before .loop .p) (c .before .before .before .before .before .before .before .before .loop .t) (c .before .before .before .before .before .before .before .before .loop .t) (c .if1 .answer) (c .if1 .first) (c .if1 .width)
 turned1 c =
     on (c .if1 .came)
-    (λ w. read-turned (record { before = record { before = record { before = record { before = record { before = (c .before); if1 = w .0 }; named = w .1 }; place = w .2 }; seen = w .3 }; read = w .4 }) (w .5) (w .6) (w .7))
+    (λ w. read-turned (record { before = record { before = record { before = record { before = record { before = (c .before); if1 = w .0 }; named = w .1 }; slot = w .2 }; seen = w .3 }; read = w .4 }) (w .5) (w .6) (w .7))
     (λ w. passed-by (idle (c .before)) (le-ltb 11 _ (w .0 .left)) refl refl (w .1) (w .2) (w .3))
 
 -- ---- an edit
@@ -242,8 +242,8 @@ edit-is c =
     let to-m = toZ-ofZ (fits32 (l .d) (t .1 .1 .1 .1 .0 .1)) in
     let to-kind = toZ-ofZ (fits32 (l .e) (t .1 .1 .1 .1 .1 .0 .1)) in
     let to-k = toZ-ofZ (fits32 (l .f) (t .1 .1 .1 .1 .1 .1 .0 .1)) in
-    let d = edit-decided sound p (l .a) (l .b) (l .c) (l .d) (l .e) (l .f) ((c .before .before .before .before .before .before .before .before .before .before .before .before .before .before .before .before .before .before .before .before .before .named2 .ensures .0) ∙ ap (namedAt (p .head)) to-n) (c .before .before .before .before .before .before .before .before .before .before .before .before .before .before .before .before .before .before .before .before .place2 .ensures .0)
-    ((c .before .before .before .decide-edit .ensures) ∙ (λ j. editFrom (testedBy sound (c .before .before .before .before .before .before .before .before .before .before .before .before .before .before .before .before .before .before .before .before .before .before .before .before .before .before .before .before .before .before .before .before .before .loop .links)) (p .head) (p .lower) (p .gap) (p .upper) (p .firm) (p .values) (c .before .before .before .before .before .before .before .before .before .before .before .before .before .before .before .before .before .before .before .before .before .named2 .result) (getD (p .edits) (c .before .before .before .before .before .before .before .before .before .before .before .before .before .before .before .before .before .before .before .before .place2 .result) noRecord) (to-s j) (to-client j) (to-n j) (to-m j) (to-kind j) (to-k j)))
+    let d = edit-decided sound p (l .a) (l .b) (l .c) (l .d) (l .e) (l .f) ((c .before .before .before .before .before .before .before .before .before .before .before .before .before .before .before .before .before .before .before .before .before .named2 .ensures .0) ∙ ap (namedAt (p .head)) to-n) (c .before .before .before .before .before .before .before .before .before .before .before .before .before .before .before .before .before .before .before .before .slot2 .ensures .0)
+    ((c .before .before .before .decide-edit .ensures) ∙ (λ j. editFrom (testedBy sound (c .before .before .before .before .before .before .before .before .before .before .before .before .before .before .before .before .before .before .before .before .before .before .before .before .before .before .before .before .before .before .before .before .before .loop .links)) (p .head) (p .lower) (p .gap) (p .upper) (p .firm) (p .values) (c .before .before .before .before .before .before .before .before .before .before .before .before .before .before .before .before .before .before .before .before .before .named2 .result) (getD (p .edits) (c .before .before .before .before .before .before .before .before .before .before .before .before .before .before .before .before .before .before .before .before .slot2 .result) noRecord) (to-s j) (to-client j) (to-n j) (to-m j) (to-kind j) (to-k j)))
     (λ e. (c .before .before .before .before .before .before .before .before .before .before .before .before .before .before .before .before .before .before .before .before .before .before .before .before .before .before .before .before .before .before .before .before .before .loop .inv .linked)) in
     (d ∙ edit-held p sound (on-line (c .before .before .before .before .before .before .before .before .before .before .before .before .before .before .before .before .before .before .before .before .before .before .before .before .before .before .before .before .before .before .before .before) .0) (l .a) (l .b) (l .c) (l .d) (l .e) (l .f), (c .before .before .before .before .before .before .before .before .before .before .before .before .before .before .before .before .before .spot .ensures .0) ∙ (λ j. spotOf (natural (to-s j)) (natural (to-m j))), (c .before .before .before .before .before .before .before .before .before .before .before .before .before .before .before .before .capped .ensures))
 
@@ -299,9 +299,9 @@ edit-kept c e v g = edit-turned (c .before .before .before .before) true (c .bef
 turned2 : (c : tie.Joined2 Inv-loop2 μ-loop2 Inv-loop μ-loop) → Turned (isDraw (c .before .before .before .before .before .before .read-line .result .op)) (doneEdit (c .before .before .before .before .before .before .read-line .result .op)) (lineIn (c .before .before .before .before .before .before .read-line .result)) (c .before .before .before .before .before .before .before .before .before .loop .p) (c .if2 .p) (c .before .before .before .before .before .before .before .before .before .loop .t) (c .if2 .t) (c .if2 .answer) (c .before .if1 .first) (c .before .if1 .width)
 turned2 c =
     on (c .if2 .came)
-    (λ w. edit-kept (record { before = record { before = record { before = record { before = record { before = record { before = record { before = record { before = record { before = record { before = record { before = record { before = record { before = record { before = record { before = record { before = record { before = record { before = record { before = record { before = record { before = record { before = record { before = record { before = record { before = record { before = record { before = record { before = record { before = (c .before); if2 = w .0 }; h2 = w .1 }; struct-told2 = w .2 }; named2 = w .3 }; place2 = w .4 }; seen2 = w .5 }; struct-told3 = w .6 }; spot = w .7 }; capped = w .8 }; p2 = w .9 }; decide-edit-arg = w .10 }; decide-edit-arg2 = w .11 }; decide-edit-arg3 = w .12 }; decide-edit-arg4 = w .13 }; links = w .14 }; decide-edit-arg5 = w .15 }; struct-told4 = w .16 }; struct-told5 = w .17 }; struct-told6 = w .18 }; struct-told7 = w .19 }; struct-told8 = w .20 }; decide-edit = w .21 }; head = w .22 }; struct-told9 = w .23 }; entry = w .24 }; if3 = w .25 }; index = w .26 }; flag = w .27 }; after-kept = w .28 }) (w .29) (w .30) (w .31))
+    (λ w. edit-kept (record { before = record { before = record { before = record { before = record { before = record { before = record { before = record { before = record { before = record { before = record { before = record { before = record { before = record { before = record { before = record { before = record { before = record { before = record { before = record { before = record { before = record { before = record { before = record { before = record { before = record { before = record { before = record { before = record { before = (c .before); if2 = w .0 }; h2 = w .1 }; struct-told2 = w .2 }; named2 = w .3 }; slot2 = w .4 }; seen2 = w .5 }; struct-told3 = w .6 }; spot = w .7 }; capped = w .8 }; p2 = w .9 }; decide-edit-arg = w .10 }; decide-edit-arg2 = w .11 }; decide-edit-arg3 = w .12 }; decide-edit-arg4 = w .13 }; links = w .14 }; decide-edit-arg5 = w .15 }; struct-told4 = w .16 }; struct-told5 = w .17 }; struct-told6 = w .18 }; struct-told7 = w .19 }; struct-told8 = w .20 }; decide-edit = w .21 }; head = w .22 }; struct-told9 = w .23 }; entry = w .24 }; if3 = w .25 }; index = w .26 }; flag = w .27 }; after-kept = w .28 }) (w .29) (w .30) (w .31))
     (λ z. on z
-    (λ w. edit-turned (record { before = record { before = record { before = record { before = record { before = record { before = record { before = record { before = record { before = record { before = record { before = record { before = record { before = record { before = record { before = record { before = record { before = record { before = record { before = record { before = record { before = record { before = record { before = record { before = record { before = (c .before); if2 = w .0 }; h2 = w .1 }; struct-told2 = w .2 }; named2 = w .3 }; place2 = w .4 }; seen2 = w .5 }; struct-told3 = w .6 }; spot = w .7 }; capped = w .8 }; p2 = w .9 }; decide-edit-arg = w .10 }; decide-edit-arg2 = w .11 }; decide-edit-arg3 = w .12 }; decide-edit-arg4 = w .13 }; links = w .14 }; decide-edit-arg5 = w .15 }; struct-told4 = w .16 }; struct-told5 = w .17 }; struct-told6 = w .18 }; struct-told7 = w .19 }; struct-told8 = w .20 }; decide-edit = w .21 }; head = w .22 }; struct-told9 = w .23 }; entry = w .24 }) false ((w .25) .left) (w .26) (w .27) (w .28))
+    (λ w. edit-turned (record { before = record { before = record { before = record { before = record { before = record { before = record { before = record { before = record { before = record { before = record { before = record { before = record { before = record { before = record { before = record { before = record { before = record { before = record { before = record { before = record { before = record { before = record { before = record { before = record { before = (c .before); if2 = w .0 }; h2 = w .1 }; struct-told2 = w .2 }; named2 = w .3 }; slot2 = w .4 }; seen2 = w .5 }; struct-told3 = w .6 }; spot = w .7 }; capped = w .8 }; p2 = w .9 }; decide-edit-arg = w .10 }; decide-edit-arg2 = w .11 }; decide-edit-arg3 = w .12 }; decide-edit-arg4 = w .13 }; links = w .14 }; decide-edit-arg5 = w .15 }; struct-told4 = w .16 }; struct-told5 = w .17 }; struct-told6 = w .18 }; struct-told7 = w .19 }; struct-told8 = w .20 }; decide-edit = w .21 }; head = w .22 }; struct-told9 = w .23 }; entry = w .24 }) false ((w .25) .left) (w .26) (w .27) (w .28))
     (λ w. passed-by (turned1 (c .before)) (ne-eqb _ 5 (w .0 .left)) (w .1) (w .2) (w .3) refl refl))
 
 -- ---- a replay
@@ -311,7 +311,7 @@ abbrev settled : replaying-decision.Decision → replaying-decision.Decision
 settled d = record { amount = toZ w32 (ofZ w32 (d .amount)); entry = d .entry; answer = d .answer }
 
 replay-arm : (c : tie.After-entry2 Inv-loop2 μ-loop2 Inv-loop μ-loop) → let p = (c .before .before .before .before .before .before .before .before .before .before .before .before .before .before .before .before .before .before .before .if2 .p) in let d = (c .before .before .decide-replay .result) in
-    let q = replaying.stored p (c .before .before .before .before .before .before .before .before .before .before .point-of .result) (c .before .before .before .before .before .before .before .before .before .before .before .before .before .before .before .place3 .result) (settled d) in
+    let q = replaying.stored p (c .before .before .before .before .before .before .before .before .before .before .point-of .result) (c .before .before .before .before .before .before .before .before .before .before .before .before .before .before .before .slot3 .result) (settled d) in
     Made (some (replay (c .before .before .before .before .before .before .before .before .before .before .before .before .before .before .before .before .before .before .before .before .before .before .before .before .before .read-line .result .a))) p q (d .answer) [] × Sized q
 replay-arm c =
     let p = (c .before .before .before .before .before .before .before .before .before .before .before .before .before .before .before .before .before .before .before .if2 .p) in
@@ -321,15 +321,15 @@ replay-arm c =
     let k = turned2 (c .before .before .before .before .before .before .before .before .before .before .before .before .before .before .before .before .before .before .before) in
     let off = off-replay _ (c .before .before .before .before .before .before .before .before .before .before .before .before .before .before .before .before .before .before .if4 .taken) in
     let named = (c .before .before .before .before .before .before .before .before .before .before .before .before .before .before .before .before .named3 .ensures .0) ∙ ap (namedAt (p .head)) (toZ-ofZ (fits32 (l .a) (c .before .before .before .before .before .before .before .before .before .before .before .before .before .before .before .before .before .before .before .before .before .before .before .struct-told .given .1 .0 .1))) in
-    let slot = (c .before .before .before .before .before .before .before .before .before .before .before .before .before .before .before .place3 .ensures .0) ∙ ap placeOf named in
-    let point = point-decided p (l .a) named (c .before .before .before .before .before .before .before .before .before .before .before .before .before .before .before .place3 .ensures .0) (c .before .before .before .before .before .before .before .before .before .before .point-of .ensures .0) in
-    let g = replay-decided sound p (l .a) named (c .before .before .before .before .before .before .before .before .before .before .before .before .before .before .before .place3 .ensures .0) (c .before .before .before .before .before .before .before .before .before .before .before .before .before .earlier .ensures .0) (c .before .before .before .before .before .before .before .before .before .before .before .before .place4 .ensures .0) (ap (λ j. j + 1) (settled-few p (c .before .before .before .before .before .before .before .before .before .before .before .before .before .before .before .before .before .before .before .if2 .t) (k .tallied))) (c .before .before .decide-replay .ensures)
+    let slot = (c .before .before .before .before .before .before .before .before .before .before .before .before .before .before .before .slot3 .ensures .0) ∙ ap slotAt named in
+    let point = point-decided p (l .a) named (c .before .before .before .before .before .before .before .before .before .before .before .before .before .before .before .slot3 .ensures .0) (c .before .before .before .before .before .before .before .before .before .before .point-of .ensures .0) in
+    let g = replay-decided sound p (l .a) named (c .before .before .before .before .before .before .before .before .before .before .before .before .before .before .before .slot3 .ensures .0) (c .before .before .before .before .before .before .before .before .before .before .before .before .before .earlier .ensures .0) (c .before .before .before .before .before .before .before .before .before .before .before .before .slot4 .ensures .0) (ap (λ j. j + 1) (settled-few p (c .before .before .before .before .before .before .before .before .before .before .before .before .before .before .before .before .before .before .before .if2 .t) (k .tallied))) (c .before .before .decide-replay .ensures)
     (λ e. still (λ s. Linked (c .before .before .before .before .before .before .before .before .before .before .before .before .before .before .before .before .before .before .before .before .before .before .before .before .before .before .before .before .loop .links) (s .lower) (s .upper) 0 (min (s .head .rules) 64)) k off (c .before .before .before .before .before .before .before .before .before .before .before .before .before .before .before .before .before .before .before .before .before .before .before .before .before .before .before .before .loop .inv .linked)) in
     let held = replay-held p sound (still (Sound sound) k off (on-line (c .before .before .before .before .before .before .before .before .before .before .before .before .before .before .before .before .before .before .before .before .before .before .before .before .before .before .before) .0)) (l .a) in
     let amount = toZ-ofZ (fits32 (d .amount) (c .before .struct-told10 .given .0 .1)) in
-    (meets-made _ p _ (rw (amount, point, slot, g ∙ held) (replay-meets p (k .sized) (l .a))), replay-sized p (c .before .before .before .before .before .before .before .before .before .before .point-of .result) (c .before .before .before .before .before .before .before .before .before .before .before .before .before .before .before .place3 .result) (settled d) (k .sized))
+    (meets-made _ p _ (rw (amount, point, slot, g ∙ held) (replay-meets p (k .sized) (l .a))), replay-sized p (c .before .before .before .before .before .before .before .before .before .before .point-of .result) (c .before .before .before .before .before .before .before .before .before .before .before .before .before .before .before .slot3 .result) (settled d) (k .sized))
 
-replay-turned : (c : tie.After-after-replay Inv-loop2 μ-loop2 Inv-loop μ-loop) {q : State} {u : Tallies} {a : Answer} → let d = (c .before .before .before .decide-replay .result) in q ≡ replaying.stored (c .before .before .before .before .before .before .before .before .before .before .before .before .before .before .before .before .before .before .before .before .if2 .p) (c .before .before .before .before .before .before .before .before .before .before .before .point-of .result) (c .before .before .before .before .before .before .before .before .before .before .before .before .before .before .before .before .place3 .result) (settled d) → u ≡ (c .after-replay .result) → a ≡ d .answer
+replay-turned : (c : tie.After-after-replay Inv-loop2 μ-loop2 Inv-loop μ-loop) {q : State} {u : Tallies} {a : Answer} → let d = (c .before .before .before .decide-replay .result) in q ≡ replaying.stored (c .before .before .before .before .before .before .before .before .before .before .before .before .before .before .before .before .before .before .before .before .if2 .p) (c .before .before .before .before .before .before .before .before .before .before .before .point-of .result) (c .before .before .before .before .before .before .before .before .before .before .before .before .before .before .before .before .slot3 .result) (settled d) → u ≡ (c .after-replay .result) → a ≡ d .answer
     → Turned (isDraw (c .before .before .before .before .before .before .before .before .before .before .before .before .before .before .before .before .before .before .before .before .before .before .before .before .before .before .read-line .result .op)) (doneReplay (c .before .before .before .before .before .before .before .before .before .before .before .before .before .before .before .before .before .before .before .before .before .before .before .before .before .before .read-line .result .op)) (lineIn (c .before .before .before .before .before .before .before .before .before .before .before .before .before .before .before .before .before .before .before .before .before .before .before .before .before .before .read-line .result)) (c .before .before .before .before .before .before .before .before .before .before .before .before .before .before .before .before .before .before .before .before .before .before .before .before .before .before .before .before .before .loop .p) q (c .before .before .before .before .before .before .before .before .before .before .before .before .before .before .before .before .before .before .before .before .before .before .before .before .before .before .before .before .before .loop .t) u a (c .before .before .before .before .before .before .before .before .before .before .before .before .before .before .before .before .before .before .before .before .before .if1 .first) (c .before .before .before .before .before .before .before .before .before .before .before .before .before .before .before .before .before .before .before .before .before .if1 .width)
 replay-turned c e v g =
     let m = replay-arm (c .before) in
@@ -339,7 +339,7 @@ replay-turned c e v g =
 turned4 : (c : tie.Joined4 Inv-loop2 μ-loop2 Inv-loop μ-loop) → Turned (isDraw (c .before .before .before .before .before .before .before .read-line .result .op)) (doneReplay (c .before .before .before .before .before .before .before .read-line .result .op)) (lineIn (c .before .before .before .before .before .before .before .read-line .result)) (c .before .before .before .before .before .before .before .before .before .before .loop .p) (c .if4 .p) (c .before .before .before .before .before .before .before .before .before .before .loop .t) (c .if4 .t) (c .if4 .answer) (c .before .before .if1 .first) (c .before .before .if1 .width)
 turned4 c =
     on (c .if4 .came)
-    (λ w. replay-turned (record { before = record { before = record { before = record { before = record { before = record { before = record { before = record { before = record { before = record { before = record { before = record { before = record { before = record { before = record { before = record { before = record { before = record { before = record { before = record { before = (c .before); if4 = w .0 }; h3 = w .1 }; named3 = w .2 }; place3 = w .3 }; standing = w .4 }; earlier = w .5 }; place4 = w .6 }; seen3 = w .7 }; point-of = w .8 }; p3 = w .9 }; decide-replay-arg = w .10 }; decide-replay-arg2 = w .11 }; decide-replay-arg3 = w .12 }; links2 = w .13 }; decide-replay-arg4 = w .14 }; decide-replay-arg5 = w .15 }; decide-replay = w .16 }; struct-told10 = w .17 }; entry2 = w .18 }; after-replay = w .19 }) (w .20) (w .21) (w .22))
+    (λ w. replay-turned (record { before = record { before = record { before = record { before = record { before = record { before = record { before = record { before = record { before = record { before = record { before = record { before = record { before = record { before = record { before = record { before = record { before = record { before = record { before = record { before = (c .before); if4 = w .0 }; h3 = w .1 }; named3 = w .2 }; slot3 = w .3 }; standing = w .4 }; earlier = w .5 }; slot4 = w .6 }; seen3 = w .7 }; point-of = w .8 }; p3 = w .9 }; decide-replay-arg = w .10 }; decide-replay-arg2 = w .11 }; decide-replay-arg3 = w .12 }; links2 = w .13 }; decide-replay-arg4 = w .14 }; decide-replay-arg5 = w .15 }; decide-replay = w .16 }; struct-told10 = w .17 }; entry2 = w .18 }; after-replay = w .19 }) (w .20) (w .21) (w .22))
     (λ w. passed-by (turned2 (c .before)) (ne-eqb _ 8 (w .0 .left)) (w .1) (w .2) (w .3) refl refl)
 
 -- ---- a send
@@ -495,15 +495,15 @@ joined c = let k = turned8 c in (turned k (line-left ((c .before .before .before
 abbrev told : tie.After-put Inv-loop2 μ-loop2 Inv-loop μ-loop → List ℕ
 told c = lineOf (c .before .before .before .before .before .before .before .before .if8 .answer) (take (((c .before .before .before .before .before .before .before .before .before .before .before .before .before .before .before .if1) .first) + ((c .before .before .before .before .before .before .before .before .before .before .before .before .before .before .before .if1) .width) - ((c .before .before .before .before .before .before .before .before .before .before .before .before .before .before .before .if1) .first)) (drop (((c .before .before .before .before .before .before .before .before .before .before .before .before .before .before .before .if1) .first)) ((c .before .before .before .before .before .before .before .before .if8 .p .values))))
 
-told-is : (c : tie.After-put Inv-loop2 μ-loop2 Inv-loop μ-loop) → told c ≡ text (turn (line ((c .before .before .before .before .before .before .before .before .before .before .before .before .before .before .before .before .before .before .before .before))) (view (((c .before .before .before .before .before .before .before .before .before .before .before .before .before .before .before .before .before .before .before .before .before .before .before .loop) .p))) .answer)
-unfolding lineOf turn
+told-is : (c : tie.After-put Inv-loop2 μ-loop2 Inv-loop μ-loop) → told c ≡ text (lineStep (line ((c .before .before .before .before .before .before .before .before .before .before .before .before .before .before .before .before .before .before .before .before))) (view (((c .before .before .before .before .before .before .before .before .before .before .before .before .before .before .before .before .before .before .before .before .before .before .before .loop) .p))) .answer)
+unfolding lineOf lineStep
 told-is c =
     let j = joined ((c .before .before .before .before .before .before .before .before)) in
     ap (λ vs. text (withRow (answerOf (((c .before .before .before .before .before .before .before .before .if8) .answer))) vs)) (lent-row (((c .before .before .before .before .before .before .before .before .if8) .p .values)) (((c .before .before .before .before .before .before .before .before .before .before .before .before .before .before .before .if1) .first)) (((c .before .before .before .before .before .before .before .before .before .before .before .before .before .before .before .if1) .width)) (le-same (le-sum (j .2) (j .3)) (j .1 .values)))
     ∙ ap text (j .0 .answer ∙ ap (λ o. stepOf o (view (((c .before .before .before .before .before .before .before .before .before .before .before .before .before .before .before .before .before .before .before .before .before .before .before .loop) .p))) .answer) (call-is ((c .before .before .before .before .before .before .before .before .before .before .before .before .before .before .before .before .before .before))))
 
-left-is : (c : tie.After-put Inv-loop2 μ-loop2 Inv-loop μ-loop) → view (((c .before .before .before .before .before .before .before .before .if8) .p)) ≡ turn (line ((c .before .before .before .before .before .before .before .before .before .before .before .before .before .before .before .before .before .before .before .before))) (view (((c .before .before .before .before .before .before .before .before .before .before .before .before .before .before .before .before .before .before .before .before .before .before .before .loop) .p))) .plan
-unfolding turn
+left-is : (c : tie.After-put Inv-loop2 μ-loop2 Inv-loop μ-loop) → view (((c .before .before .before .before .before .before .before .before .if8) .p)) ≡ lineStep (line ((c .before .before .before .before .before .before .before .before .before .before .before .before .before .before .before .before .before .before .before .before))) (view (((c .before .before .before .before .before .before .before .before .before .before .before .before .before .before .before .before .before .before .before .before .before .before .before .loop) .p))) .plan
+unfolding lineStep
 left-is c = (joined ((c .before .before .before .before .before .before .before .before))) .0 .plan ∙ ap (λ o. stepOf o (view (((c .before .before .before .before .before .before .before .before .before .before .before .before .before .before .before .before .before .before .before .before .before .before .before .loop) .p))) .plan) (call-is ((c .before .before .before .before .before .before .before .before .before .before .before .before .before .before .before .before .before .before)))
 
 enough : (c : tie.After-put Inv-loop2 μ-loop2 Inv-loop μ-loop) → ((c .before .before .before .before .before .before .before .before .before .before .before .before .before .before .before .before .before .before .before .before .before .before .before .before .before .before .before .before .before .before .before .args) .reserve) ≤ length (((c .before .before .before .before .before .before .before .before .before .before .before .before .before .before .before .before .before .before .before .before .before .before .before .before .before .before .before .before .before .before .before .args) .area .now)) - ((c .before .before .before .before .before .before .before .before .before .before .before .before .before .before .before .before .before .before .before .before .before .before .before .loop) .at)
@@ -514,10 +514,10 @@ room-is : (c : tie.After-put Inv-loop2 μ-loop2 Inv-loop μ-loop) → take (leng
 room-is c = lent-rest (((c .before .before .before .before .before .before .before .before .before .before .before .before .before .before .before .before .before .before .before .before .before .before .before .loop) .at)) (((c .before .before .before .before .before .before .before .before .before .before .before .before .before .before .before .before .before .before .before .before .before .before .before .loop) .area))
 
 fits-now : (c : tie.After-put Inv-loop2 μ-loop2 Inv-loop μ-loop) → ((c .put .result) ≡ 0 → ⊥) → leb (length (told c)) (length (drop (((c .before .before .before .before .before .before .before .before .before .before .before .before .before .before .before .before .before .before .before .before .before .before .before .loop) .at)) (((c .before .before .before .before .before .before .before .before .before .before .before .before .before .before .before .before .before .before .before .before .before .before .before .loop) .area)))) ≡ true
-fits-now c h = fitted-put (told c) (drop (((c .before .before .before .before .before .before .before .before .before .before .before .before .before .before .before .before .before .before .before .before .before .before .before .loop) .at)) (((c .before .before .before .before .before .before .before .before .before .before .before .before .before .before .before .before .before .before .before .before .before .before .before .loop) .area))) ((c .put .result)) (text-some (told c) (turn (line ((c .before .before .before .before .before .before .before .before .before .before .before .before .before .before .before .before .before .before .before .before))) (view (((c .before .before .before .before .before .before .before .before .before .before .before .before .before .before .before .before .before .before .before .before .before .before .before .loop) .p))) .answer) (told-is c)) (subst (λ xs. (c .put .result) ≡ cond (leb (length (told c)) (length xs)) (length (told c)) 0) (room-is c) ((c .put .ensures .1))) h
+fits-now c h = fitted-put (told c) (drop (((c .before .before .before .before .before .before .before .before .before .before .before .before .before .before .before .before .before .before .before .before .before .before .before .loop) .at)) (((c .before .before .before .before .before .before .before .before .before .before .before .before .before .before .before .before .before .before .before .before .before .before .before .loop) .area))) ((c .put .result)) (text-some (told c) (lineStep (line ((c .before .before .before .before .before .before .before .before .before .before .before .before .before .before .before .before .before .before .before .before))) (view (((c .before .before .before .before .before .before .before .before .before .before .before .before .before .before .before .before .before .before .before .before .before .before .before .loop) .p))) .answer) (told-is c)) (subst (λ xs. (c .put .result) ≡ cond (leb (length (told c)) (length xs)) (length (told c)) 0) (room-is c) ((c .put .ensures .1))) h
 
 unfit-now : (c : tie.After-put Inv-loop2 μ-loop2 Inv-loop μ-loop) → (c .put .result) ≡ 0 → leb (length (told c)) (length (drop (((c .before .before .before .before .before .before .before .before .before .before .before .before .before .before .before .before .before .before .before .before .before .before .before .loop) .at)) (((c .before .before .before .before .before .before .before .before .before .before .before .before .before .before .before .before .before .before .before .before .before .before .before .loop) .area)))) ≡ false
-unfit-now c e = unfitted-put (told c) (drop (((c .before .before .before .before .before .before .before .before .before .before .before .before .before .before .before .before .before .before .before .before .before .before .before .loop) .at)) (((c .before .before .before .before .before .before .before .before .before .before .before .before .before .before .before .before .before .before .before .before .before .before .before .loop) .area))) ((c .put .result)) (text-some (told c) (turn (line ((c .before .before .before .before .before .before .before .before .before .before .before .before .before .before .before .before .before .before .before .before))) (view (((c .before .before .before .before .before .before .before .before .before .before .before .before .before .before .before .before .before .before .before .before .before .before .before .loop) .p))) .answer) (told-is c)) (subst (λ xs. (c .put .result) ≡ cond (leb (length (told c)) (length xs)) (length (told c)) 0) (room-is c) ((c .put .ensures .1))) e
+unfit-now c e = unfitted-put (told c) (drop (((c .before .before .before .before .before .before .before .before .before .before .before .before .before .before .before .before .before .before .before .before .before .before .before .loop) .at)) (((c .before .before .before .before .before .before .before .before .before .before .before .before .before .before .before .before .before .before .before .before .before .before .before .loop) .area))) ((c .put .result)) (text-some (told c) (lineStep (line ((c .before .before .before .before .before .before .before .before .before .before .before .before .before .before .before .before .before .before .before .before))) (view (((c .before .before .before .before .before .before .before .before .before .before .before .before .before .before .before .before .before .before .before .before .before .before .before .loop) .p))) .answer) (told-is c)) (subst (λ xs. (c .put .result) ≡ cond (leb (length (told c)) (length xs)) (length (told c)) 0) (room-is c) ((c .put .ensures .1))) e
 
 -- how many bytes were written, and the area with them
 count-is : (c : tie.After-put Inv-loop2 μ-loop2 Inv-loop μ-loop) → ((c .put .result) ≡ 0 → ⊥) → (c .put .result) ≡ length (told c)
@@ -604,26 +604,26 @@ point-of-requires c κs = search needs
 named-requires : tie.Need-named-requires Inv-loop2 μ-loop2 Inv-loop μ-loop
 named-requires c κs = search needs
 
-place-requires : tie.Need-place-requires Inv-loop2 μ-loop2 Inv-loop μ-loop
-place-requires c κs = search needs
+slot-requires : tie.Need-slot-requires Inv-loop2 μ-loop2 Inv-loop μ-loop
+slot-requires c κs = search needs
 
 named-requires-2 : tie.Need-named-requires-2 Inv-loop2 μ-loop2 Inv-loop μ-loop
 named-requires-2 c κs = search needs
 
-place-requires-2 : tie.Need-place-requires-2 Inv-loop2 μ-loop2 Inv-loop μ-loop
-place-requires-2 c κs = search needs
+slot-requires-2 : tie.Need-slot-requires-2 Inv-loop2 μ-loop2 Inv-loop μ-loop
+slot-requires-2 c κs = search needs
 
 named-requires-3 : tie.Need-named-requires-3 Inv-loop2 μ-loop2 Inv-loop μ-loop
 named-requires-3 c κs = search needs
 
-place-requires-3 : tie.Need-place-requires-3 Inv-loop2 μ-loop2 Inv-loop μ-loop
-place-requires-3 c κs = search needs
+slot-requires-3 : tie.Need-slot-requires-3 Inv-loop2 μ-loop2 Inv-loop μ-loop
+slot-requires-3 c κs = search needs
 
 earlier-requires : tie.Need-earlier-requires Inv-loop2 μ-loop2 Inv-loop μ-loop
 earlier-requires c κs = search needs
 
-place-requires-4 : tie.Need-place-requires-4 Inv-loop2 μ-loop2 Inv-loop μ-loop
-place-requires-4 c κs = search needs
+slot-requires-4 : tie.Need-slot-requires-4 Inv-loop2 μ-loop2 Inv-loop μ-loop
+slot-requires-4 c κs = search needs
 
 make-move-requires : tie.Need-make-move-requires Inv-loop2 μ-loop2 Inv-loop μ-loop
 make-move-requires c κs = search needs
@@ -738,10 +738,10 @@ element-set-from-amount c = omega arith
 
 mul-entry-2 : tie.Need-mul-entry-2 Inv-loop2 μ-loop2 Inv-loop μ-loop
 mul-entry-2 c =
-    omega (arith, (c .before .before .before .before .before .before .before .before .before .before .before .before .before .before .before .place3 .ensures .1))
+    omega (arith, (c .before .before .before .before .before .before .before .before .before .before .before .before .before .before .before .slot3 .ensures .1))
 
 element-set-from-entry-2 : tie.Need-element-set-from-entry-2 Inv-loop2 μ-loop2 Inv-loop μ-loop
-element-set-from-entry-2 c = (c .before .before .before .before .before .before .before .before .before .before .before .before .before .before .before .place3 .ensures .1)
+element-set-from-entry-2 c = (c .before .before .before .before .before .before .before .before .before .before .before .before .before .before .before .slot3 .ensures .1)
 
 after-replay-requires : tie.Need-after-replay-requires Inv-loop2 μ-loop2 Inv-loop μ-loop
 after-replay-requires c κs = search needs
@@ -906,12 +906,12 @@ go-spec =
     add-end
     number-requires
     named-requires
-    place-requires
+    slot-requires
     mul-seen
     element-copy-out-seen
     read-requires
     named-requires-2
-    place-requires-2
+    slot-requires-2
     mul-seen-2
     element-copy-out-seen-2
     spot-requires
@@ -925,11 +925,11 @@ go-spec =
     element-copy-out-flag
     after-kept-requires
     named-requires-3
-    place-requires-3
+    slot-requires-3
     mul-standing
     element-copy-out-standing
     earlier-requires
-    place-requires-4
+    slot-requires-4
     mul-seen-3
     element-copy-out-seen-3
     point-of-requires

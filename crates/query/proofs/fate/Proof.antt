@@ -3,7 +3,7 @@ use lib.ListN.{getD}
 use mir.Facts.{toZ-ofZ}
 use Rattle.protocol.specs.Lists.{natural}
 use Rattle.protocol.specs.Calls.{fate-of, checks, further, after, gives}
-use Rattle.heads.specs.Heads.{endIn, keptIn, positionOf, placeOf}
+use Rattle.heads.specs.Heads.{endIn, keptIn, positionOf, slotAt}
 use Rattle.records.specs.Records.{noRecord}
 use Rattle.figures.specs.Reads.{fateAnswer}
 use Rattle.state.specs.Meets.{answerOf}
@@ -16,7 +16,7 @@ use Rattle.query.proofs.fate.Reads as reads
 use Rattle.query.proofs.fate.Lts as lts
 use Rattle.exact.proofs.number.Reads as number-reads
 use Rattle.figures.proofs.fate_answer.Reads as fate-answer-reads
-use Rattle.heads.proofs.place.Reads as place-reads
+use Rattle.heads.proofs.slot.Reads as slot-reads
 use Rattle.heads.proofs.position.Reads as position-reads
 
 number-requires : tie.Need-number-requires
@@ -25,8 +25,8 @@ number-requires c κs = search needs
 position-requires : tie.Need-position-requires
 position-requires c κs = search needs
 
-place-requires : tie.Need-place-requires
-place-requires c κs = search needs
+slot-requires : tie.Need-slot-requires
+slot-requires c κs = search needs
 
 mul-e : tie.Need-mul-e
 mul-e c = search needs
@@ -44,8 +44,8 @@ returns c =
     let p = s .args .t1 in
     let at = positionOf (endIn (p .head)) (keptIn (p .head)) (natural (s .args .n)) in
     let i : (c .before .before .before .position .result) ≡ at = (c .before .before .before .position .ensures .0) ∙ ap (positionOf (endIn (p .head)) (keptIn (p .head))) ((c .before .before .before .before .number .ensures) ∙ ap natural (toZ-ofZ (s .fits .n))) in
-    let e : (c .fate-answer .result) ≡ fateAnswer at (getD (p .edits) (placeOf at) noRecord) = (c .fate-answer .ensures) ∙ (λ j. fateAnswer (i j) (getD (p .edits) (((c .before .before .place .ensures .0) ∙ ap placeOf i) j) noRecord)) in
-    accepted-meets (fate-of (s .args .n)) p _ refl (ap answerOf e ∙ fate-is p (s .args .n)) refl (fate-unrefused p at (getD (p .edits) (placeOf at) noRecord) e)
+    let e : (c .fate-answer .result) ≡ fateAnswer at (getD (p .edits) (slotAt at) noRecord) = (c .fate-answer .ensures) ∙ (λ j. fateAnswer (i j) (getD (p .edits) (((c .before .before .slot .ensures .0) ∙ ap slotAt i) j) noRecord)) in
+    accepted-meets (fate-of (s .args .n)) p _ refl (ap answerOf e ∙ fate-is p (s .args .n)) refl (fate-unrefused p at (getD (p .edits) (slotAt at) noRecord) e)
 
 pub fate-spec : {M : Type 1} → statement M
 fate-spec =
@@ -53,7 +53,7 @@ fate-spec =
     (tie.spec
     number-requires
     position-requires
-    place-requires
+    slot-requires
     mul-e
     element-copy-out-e
     fate-answer-requires

@@ -22,7 +22,7 @@ slice-aggregate-result c =
     let a = c .before .before .before .before .before .args in
     let h = c .before .before .show-in .ensures in
     let z = toZ-ofZ (c .before .before .before .before .before .fits .s) in
-    let n = h .0 ∙ ap (λ x. length (shown x (view (a .p)) (a .buffer .now) .part)) z in
+    let n = h .0 ∙ ap (λ x. length (shown x (view (a .p)) (a .buffer .now) .front)) z in
     let l = ap length (h .2 ∙ ap (λ x. shown x (view (a .p)) (a .buffer .now) .buffer) z) in
     let r = shown-room (a .s) (view (a .p)) (a .buffer .now) in
     sym (length-take-le (c .before .before .show-in .result) _ (omega (arith, n, l, r)))
@@ -33,7 +33,7 @@ returns c =
     let h = c .before .before .show-in .ensures in
     let z = toZ-ofZ (c .before .before .before .before .before .fits .s) in (
       h .1 ∙ ap (λ x. shown x (view (a .p)) (a .buffer .now) .refusal) z,
-      ap₂ take (h .0 ∙ ap (λ x. length (shown x (view (a .p)) (a .buffer .now) .part)) z) (h .2 ∙ ap (λ x. shown x (view (a .p)) (a .buffer .now) .buffer) z) ∙ shown-front (a .s) (view (a .p)) (a .buffer .now),
+      ap₂ take (h .0 ∙ ap (λ x. length (shown x (view (a .p)) (a .buffer .now) .front)) z) (h .2 ∙ ap (λ x. shown x (view (a .p)) (a .buffer .now) .buffer) z) ∙ shown-front (a .s) (view (a .p)) (a .buffer .now),
     )
 
 pub show-spec : {M : Type 1} → statement M

@@ -53,7 +53,7 @@ returns : tie.Need-returns
 returns c =
     let a = c .before .before .before .before .args in
     let e = shown-refused (a .t1) (a .s) (a .buffer .now) _ (verdict-refused (first (asked (c .before .before .before .before))) _ (verdict (c .before)) (c .if1 .taken)) in
-    (sym (ap (λ x. length (x .part)) e), sym (ap (λ x. x .refusal) e), sym (ap (λ x. x .buffer) e))
+    (sym (ap (λ x. length (x .front)) e), sym (ap (λ x. x .refusal) e), sym (ap (λ x. x .buffer) e))
 
 capped-requires : tie.Need-capped-requires
 capped-requires c κs = search needs
@@ -77,7 +77,7 @@ returns-2 c =
     let e = shown-fine (a .t1) (a .s) (a .buffer .now) (accepted (c .before .before .before .before .before .before .before)) in
     let n = c .before .before .before .before .before .before .capped .ensures in
     let o = c .before .before .before .before .before .offset .ensures .0 ∙ ap offsetOf (side (c .before .before .before .before .before .before .before .before .before)) in (
-      n ∙ sym (row-length (a .t1 .values) (offsetOf (natural (a .s))) (measuresIn (a .t1 .head))) ∙ sym (ap (λ x. length (x .part)) e),
+      n ∙ sym (row-length (a .t1 .values) (offsetOf (natural (a .s))) (measuresIn (a .t1 .head))) ∙ sym (ap (λ x. length (x .front)) e),
       c .before .before .before .before .before .before .before .if1 .left ∙ sym (ap (λ x. x .refusal) e),
       c .before .fill .ensures ∙ ap₂ (λ at m. row (a .t1 .values) at m ++ drop m (a .buffer .now)) o n ∙ sym (ap (λ x. x .buffer) e),
     )

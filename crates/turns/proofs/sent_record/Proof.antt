@@ -1,7 +1,7 @@
 use Rattle.records.specs.Records.{keptAt, testOf}
 use Rattle.records.specs.declared.Test.the-variants.{UnsentOf}
 use mathlib.Core.Path.{sym, _∙_}
-use Rattle.turns.proofs.Sends.{bit-some, sent-other}
+use Rattle.turns.proofs.Sends.{bit-some, mark-sent-other}
 use borrow.Author.Needs.{needs}
 use Rattle.turns.proofs.sent_record.Statement.{statement}
 use Rattle.turns.proofs.sent_record.Tie as tie
@@ -14,7 +14,7 @@ satisfies-requires : tie.Need-satisfies-requires
 satisfies-requires c κs = search needs
 
 returns : tie.Need-returns
-returns c = sent-other (c .before .before .args .s) (c .before .before .args .e) (sym (c .before .satisfies .ensures) ∙ (c .if1 .taken))
+returns c = mark-sent-other (c .before .before .args .s) (c .before .before .args .e) (sym (c .before .satisfies .ensures) ∙ (c .if1 .taken))
 
 with-fate-requires : tie.Need-with-fate-requires
 with-fate-requires c κs = search needs
