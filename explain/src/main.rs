@@ -11,8 +11,8 @@ use std::io::{self, Write};
 use std::process::ExitCode;
 
 fn main() -> ExitCode {
-    match run(&env::args().skip(1).collect::<Vec<_>>()) {
-        Ok(()) => ExitCode::SUCCESS,
+    match explained(&env::args().skip(1).collect::<Vec<_>>()) {
+        Ok(text) => print(&text),
         Err(problem) => {
             eprintln!("explain: {problem}");
             ExitCode::from(2)
@@ -20,7 +20,7 @@ fn main() -> ExitCode {
     }
 }
 
-fn run(arguments: &[String]) -> Result<(), String> {
+fn explained(arguments: &[String]) -> Result<String, String> {
     let (sheet, answers, names) = match arguments {
         [sheet, answers] => (sheet, answers, Names::default()),
         [sheet, answers, names] => {
@@ -29,11 +29,18 @@ fn run(arguments: &[String]) -> Result<(), String> {
         }
         _ => return Err("usage: explain SHEET ANSWERS [NAMES]".to_string()),
     };
-    let text = explain(&read(sheet)?, &read(answers)?, names);
-    match io::stdout().write_all(text.as_bytes()) {
-        // A reader that has seen enough, as `head`, is no fault.
-        Err(error) if error.kind() != io::ErrorKind::BrokenPipe => Err(error.to_string()),
-        _ => Ok(()),
+    Ok(explain(&read(sheet)?, &read(answers)?, names))
+}
+
+/// Fails where not all was written, also where the reader had seen enough, as `head`.
+fn print(text: &str) -> ExitCode {
+    let mut out = io::stdout();
+    match out.write_all(text.as_bytes()).and_then(|()| out.flush()) {
+        Ok(()) => ExitCode::SUCCESS,
+        Err(error) => {
+            eprintln!("explain: the answers cannot be written: {error}");
+            ExitCode::FAILURE
+        }
     }
 }
 

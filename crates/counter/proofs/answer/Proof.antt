@@ -10,7 +10,7 @@ use Rattle.counter.proofs.answer.Reads as reads
 use Rattle.counter.proofs.answer.Lts as lts
 use Rattle.counter.proofs.least.Reads as least-reads
 use Rattle.io.proofs.large_buffer.Reads as large-buffer-reads
-use Rattle.io.proofs.write_all.Reads as write-all-reads
+use Rattle.counter.proofs.write_answers.Reads as write-answers-reads
 use Rattle.progress.proofs.advance.Reads as advance-reads
 use Rattle.state.proofs.blank.Reads as blank-reads
 
@@ -45,12 +45,12 @@ array-share-prefix-out : tie.Need-array-share-prefix-out Inv-loop μ-loop
 array-share-prefix-out c =
     let e = (c .before .before .advance .kept .1 .1 .1 .1 .0) ∙ (c .before .before .before .before .before .before .loop .inv) in let h = (c .least .ensures) in omega (arith, e, h)
 
-slice-aggregate-write-all : tie.Need-slice-aggregate-write-all Inv-loop μ-loop
-slice-aggregate-write-all c =
+slice-aggregate-write-answers : tie.Need-slice-aggregate-write-answers Inv-loop μ-loop
+slice-aggregate-write-answers c =
     let e = (c .before .before .before .advance .kept .1 .1 .1 .1 .0) ∙ (c .before .before .before .before .before .before .before .loop .inv) in let h = (c .before .least .ensures) in sym (length-take-le _ _ (omega (arith, e, h)))
 
-write-all-requires : tie.Need-write-all-requires Inv-loop μ-loop
-write-all-requires c κs = search needs
+write-answers-requires : tie.Need-write-answers-requires Inv-loop μ-loop
+write-answers-requires c κs = search needs
 
 returns-2 : tie.Need-returns-2 Inv-loop μ-loop
 returns-2 c = tt
@@ -84,8 +84,8 @@ answer-spec =
     advance-requires
     least-requires
     array-share-prefix-out
-    slice-aggregate-write-all
-    write-all-requires
+    slice-aggregate-write-answers
+    write-answers-requires
     returns-2
     add-turns
     loop-less
