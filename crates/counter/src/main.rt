@@ -4,16 +4,13 @@
 // A sheet that cannot be read to its end is not run, and after a failed write nothing more is written. Either is said on standard error.
 // There is no exit status: whoever starts the program with the argument `report` is told by a last line on standard error that the sheet
 // was read and every answer written. That line missing, for whatever reason, means that they were not.
-ghost use Prim.Native.Nat.{ℕ, _≤_};
+ghost use Prim.Native.Nat.{ℕ};
 ghost use mathlib.Core.Path.{_≡_};
 ghost use Rattle.io.specs.Counts.{Counts};
 use libc::STDERR_FILENO;
 use libc::STDIN_FILENO;
 use libc::STDOUT_FILENO;
 use libc::types::timespec;
-
-// Room for the longest answer line: `ok`, 32 numbers of up to 11 bytes with a space before each, and a line feed.
-const RESERVE: usize = 387;
 
 // A proved loop has to end, and nothing says that the other end of a pipe ever does something. So the loops below count their turns down,
 // from a number that no run uses up.
@@ -122,41 +119,22 @@ fn write_answers(answers: &[u8]) -> bool {
     unwritten()
 }
 
-fn least(a: usize, b: usize) -> usize
-    ensures { λ r. ⌜ r ≤ b ⌝ }
-{
-    if a < b { a } else { b }
-}
-
-// Answers whether every answer was written. Each turn makes at least one line, and a sheet has at most as many lines as bytes, so the turns
-// are not used up.
+// Writes the answers to a sheet, and answers whether it did: piece by piece, each from where the one before it ended, until the sheet is over.
 fn answer(sheet: &[u8]) -> bool {
     let mut p = state::blank();
     let mut out = io::large_buffer();
     let mut from: usize = 0;
-    let mut turns: usize = 0;
-    while turns <= sheet.len() {
-        if sheet.len() <= from {
-            return true;
-        }
-        let r = progress::advance(p, RESERVE, sheet, from, &mut out);
-        let n = least(r.written, 65536);
+    while from < sheet.len() {
+        let r = sheet::next_piece(p, sheet, from, &mut out);
+        let n = r.written;
         if !write_answers(&out[..n]) {
             return false;
         }
         let q = r.state;
         p = q;
         from = r.next;
-        turns += 1;
     }
-    false
-}
-
-// The one answer to a sheet over 65,536 bytes.
-fn refuse(sheet: &[u8]) -> bool {
-    let mut line = [0u8; 6];
-    sheet::run(sheet, &mut line);
-    write_answers(&line)
+    true
 }
 
 // Whether the program was started with the one argument `report`.
@@ -167,16 +145,12 @@ fn is_reporting() -> bool {
 }
 
 fn main() {
+    // One byte more than a sheet has at the most, so that one that is too long is told from one that is not.
     let mut sheet = [0u8; 65537];
     let Reading::All(n) = read_sheet(&mut sheet) else {
         return;
     };
-    let is_answered = if 65536 < n {
-        refuse(&sheet)
-    } else {
-        answer(&sheet[..n])
-    };
-    if is_answered && is_reporting() {
+    if answer(&sheet[..n]) && is_reporting() {
         io::write_all(STDERR_FILENO, b"counter: complete\n");
     }
 }

@@ -1,6 +1,12 @@
 use borrow.Author.Needs.{needs}
 use Rattle.counter.proofs.main.Statement.{statement}
 use Rattle.counter.proofs.main.Tie as tie
+use Rattle.counter.proofs.main.Reads as reads
+use Rattle.counter.proofs.main.Lts as lts
+use Rattle.counter.proofs.answer.Reads as answer-reads
+use Rattle.counter.proofs.is_reporting.Reads as is-reporting-reads
+use Rattle.counter.proofs.read_sheet.Reads as read-sheet-reads
+use Rattle.io.proofs.write_all.Reads as write-all-reads
 
 slice-aggregate-read-sheet : tie.Need-slice-aggregate-read-sheet
 slice-aggregate-read-sheet c = search needs
@@ -17,17 +23,11 @@ enum-told c = search needs
 returns : tie.Need-returns
 returns c = search needs
 
-slice-aggregate-refuse : tie.Need-slice-aggregate-refuse
-slice-aggregate-refuse c = search needs
-
-refuse-requires : tie.Need-refuse-requires
-refuse-requires c κs = search needs
-
 array-share-prefix-sheet : tie.Need-array-share-prefix-sheet
-array-share-prefix-sheet c = search needs
+array-share-prefix-sheet c = (c .before .before .before .before .read-sheet .ensures _ (c .before .n .given .1)) .0
 
 slice-aggregate-answer : tie.Need-slice-aggregate-answer
-slice-aggregate-answer c = (c .before .before .before .before .before .before .read-sheet .ensures _ (c .before .before .before .n .given .1)) .1
+slice-aggregate-answer c = (c .before .before .before .before .before .read-sheet .ensures _ (c .before .before .n .given .1)) .1
 
 answer-requires : tie.Need-answer-requires
 answer-requires c κs = search needs
@@ -56,8 +56,6 @@ main-spec =
     enum-known-n
     enum-told
     returns
-    slice-aggregate-refuse
-    refuse-requires
     array-share-prefix-sheet
     slice-aggregate-answer
     answer-requires
