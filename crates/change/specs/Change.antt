@@ -1,4 +1,4 @@
--- The change of the protocol that a declared one stands for, and the answers of the functions on changes. Assumes nothing.
+-- Believed: the change of the protocol that a declared one stands for, and the answers of the functions on changes. Assumes nothing.
 use Prim.Native.Nat.{ℕ}
 use mathlib.Core.Bool.{Bool, true, false, cond}
 use lib.Dec.{eqb}

@@ -14,22 +14,24 @@ use Rattle.protocol.specs.Plan.{Rule, blank, is, modeNumber, measureLimit, rule
 use Rattle.protocol.specs.Calls.{Call, measure, rule, open-plan, Check, Verdict, fine, refused, first, checks, further, firstValues, onValues, ruleOf, after, gives, ok}
 use Rattle.protocol.proofs.Laws.{is-yes, yes-is, Pass}
 use Rattle.rows.specs.Rows.{row}
-use Rattle.rules.specs.Rules.{rulesIn}
+use Rattle.rules.specs.Table.{rulesIn}
 use Rattle.rows.proofs.Spans.{length-span, span-same, span-snoc, getD-set, getD-other}
 use Rattle.rules.proofs.Rows.{holds-is}
 use Rattle.state.specs.declared.Answer.the-variants.{Refused, Done}
 use Rattle.heads.specs.declared.Head.{Head}
-use Rattle.state.specs.declared.State.{State}
+use Rattle.state.specs.Spread.{Spread}
 use Rattle.heads.specs.Heads.{modeOf, sidesIn, measuresIn}
-use Rattle.state.specs.View.{view, sideOf, rulesOf}
-use Rattle.state.proofs.Views.{Sized, plan-same, sides-modify, sides-least, first-row, row-snoc, row-length}
-use Rattle.state.specs.Meets.{answerOf, SameIfRefused, Meets}
+use Rattle.state.specs.Spread.{planOf, sideOf, rulesOf}
+use Rattle.state.specs.Sizes.{Sized}
+use Rattle.state.proofs.Views.{plan-same, sides-modify, sides-least, first-row, row-snoc, row-length}
+use Rattle.state.specs.Meets.{answerOf}
+use Rattle.state.specs.Spread.{SameIfRefused, MeetsSpread}
 use Rattle.state.proofs.Meeting.{refused-meets, accepted-meets, fine-pass}
 use Rattle.state.proofs.Steps.{stored}
-use Rattle.limits.specs.declared.Drawing.{Drawing}
-use Rattle.limits.specs.Draw.{drawCall, measureChecks, ruleChecks, openChecks, measured, ruled, opened, refusedDrawing, drawBy, measureDrawing, measureDecision, ruleDrawing, ruleDecision, openDrawing, openDecision, drawDecision, entryOf, drawnIn}
+use Rattle.draw.specs.declared.Drawing.{Drawing}
+use Rattle.draw.specs.Draw.{drawCall, measureChecks, ruleChecks, openChecks, measured, ruled, opened, refusedDrawing, drawBy, measureDrawing, measureDecision, ruleDrawing, ruleDecision, openDrawing, openDecision, drawDecision, entryOf, drawnIn}
 
-drawn-length : (p : State) → length (firstValues (view p .content)) ≡ measuresIn (p .head)
+drawn-length : (p : Spread) → length (firstValues (planOf p .content)) ≡ measuresIn (p .head)
 drawn-length p = ap length (first-row p) ∙ row-length (p .values) 0 (measuresIn (p .head))
 
 -- a blank plan has one side
@@ -38,36 +40,36 @@ alone h e = rw (eqb→eq (modeNumber (modeOf (h .mode))) 0 (is-yes e))
 
 -- ---- a decision carried out
 
-abbrev withHead : State → Head → State
+abbrev withHead : Spread → Head → Spread
 withHead p h = stored p h (p .base) (p .draft) (p .values) (p .arrived) (p .confirmed) (p .edits)
 
 -- what stands behind those that count, stored again, with whatever answer
-entry-same : (p : State) (h : Head) → drawnIn p (record { head = h; entry = entryOf p; answer = Done }) ≡ withHead p h
+entry-same : (p : Spread) (h : Head) → drawnIn p (record { head = h; entry = entryOf p; answer = Done }) ≡ withHead p h
 entry-same p h =
     let i = min (p .head .rules) 63 in
     rw (set-getD (p .values) (min (p .head .measures) 31) (pos 0), set-getD (p .lower) i 0, set-getD (p .gap) i (pos 0), set-getD (p .upper) i 0, set-getD (p .firm) i false)
 
 -- by the verdict on the checks
-decided : (c : Call) (p : State) (cs : List Check) (d : Drawing) → first (checks c (view p)) ≡ first cs
-    → (Pass cs → answerOf (d .answer) ≡ ok (gives c (view p .mode) (view p .content))) → (Pass cs → view (drawnIn p d) ≡ after c (view p .mode) (view p .content)) → SameIfRefused (d .answer) p (drawnIn p d)
-    → let x = drawBy (first cs) d (p .head) (entryOf p) in Meets c p (record { state = drawnIn p x; answer = x .answer })
+decided : (c : Call) (p : Spread) (cs : List Check) (d : Drawing) → first (checks c (planOf p)) ≡ first cs
+    → (Pass cs → answerOf (d .answer) ≡ ok (gives c (planOf p .mode) (planOf p .content))) → (Pass cs → planOf (drawnIn p d) ≡ after c (planOf p .mode) (planOf p .content)) → SameIfRefused (d .answer) p (drawnIn p d)
+    → let x = drawBy (first cs) d (p .head) (entryOf p) in MeetsSpread c p (record { state = drawnIn p x; answer = x .answer })
 decided c p cs d same given next s = by (first cs) refl
   where
-    by : (v : Verdict) → first cs ≡ v → let x = drawBy v d (p .head) (entryOf p) in Meets c p (record { state = drawnIn p x; answer = x .answer })
+    by : (v : Verdict) → first cs ≡ v → let x = drawBy v d (p .head) (entryOf p) in MeetsSpread c p (record { state = drawnIn p x; answer = x .answer })
     by fine e = let f = fine-pass cs e in accepted-meets c p (record { state = drawnIn p d; answer = d .answer }) (same ∙ e) (given f) (next f) s
-    by (refused k) e = subst (λ q. Meets c p (record { state = q; answer = Refused k })) (sym (entry-same p (p .head))) (refused-meets c p k (same ∙ e))
+    by (refused k) e = subst (λ q. MeetsSpread c p (record { state = q; answer = Refused k })) (sym (entry-same p (p .head))) (refused-meets c p k (same ∙ e))
 
 -- ---- measure
 
-measure-checks : (p : State) (v : ℤ) → first (checks (measure v) (view p)) ≡ first (measureChecks (p .head) v)
+measure-checks : (p : Spread) (v : ℤ) → first (checks (measure v) (planOf p)) ≡ first (measureChecks (p .head) v)
 unfolding checks further
 measure-checks p v = rw (drawn-length p)
 
 -- the state with a measure more
-abbrev measureTo : State → ℕ → ℤ → State
+abbrev measureTo : Spread → ℕ → ℤ → Spread
 measureTo p n v = stored p (measured (p .head) (n + 1)) (p .base) (p .draft) (set (p .values) n v) (p .arrived) (p .confirmed) (p .edits)
 
-longer : (p : State) → Sized p → (v : ℤ) → p .head .measures < 32 → let n = min (p .head .measures) 31 in row (set (p .values) n v) 0 (min (n + 1) 32) ≡ snoc (row (p .values) 0 (measuresIn (p .head))) v
+longer : (p : Spread) → Sized p → (v : ℤ) → p .head .measures < 32 → let n = min (p .head .measures) 31 in row (set (p .values) n v) 0 (min (n + 1) 32) ≡ snoc (row (p .values) 0 (measuresIn (p .head))) v
 longer p z v h =
     let n = min (p .head .measures) 31 in
     let m : min (n + 1) 32 ≡ suc n = omega arith in
@@ -75,7 +77,7 @@ longer p z v h =
     let f : 0 + n ≡ n = omega arith in
     ap (row (set (p .values) n v) 0) m ∙ ap (λ k. row (set (p .values) k v) 0 (suc n)) (sym f) ∙ row-snoc (p .values) 0 n v (let l = z .values in omega arith) ∙ ap (λ k. snoc (row (p .values) 0 k) v) o
 
-measure-next : (p : State) → Sized p → (v : ℤ) → is blank (modeOf (p .head .mode)) ≡ true → p .head .measures < 32 → view (measureTo p (min (p .head .measures) 31) v) ≡ after (measure v) (view p .mode) (view p .content)
+measure-next : (p : Spread) → Sized p → (v : ℤ) → is blank (modeOf (p .head .mode)) ≡ true → p .head .measures < 32 → planOf (measureTo p (min (p .head .measures) 31) v) ≡ after (measure v) (planOf p .mode) (planOf p .content)
 unfolding after
 measure-next p z v b h =
     plan-same refl refl refl refl refl
@@ -84,23 +86,23 @@ measure-next p z v b h =
     (λ k a c ne. absurd (ne (let one = alone (p .head) b in omega arith))))
     refl
 
-measure-given : (p : State) (v : ℤ) → p .head .measures < 32 → _≡_ {A = List ℤ} (pos (min (p .head .measures) 31 + 1) ∷ []) (gives (measure v) (view p .mode) (view p .content))
+measure-given : (p : Spread) (v : ℤ) → p .head .measures < 32 → _≡_ {A = List ℤ} (pos (min (p .head .measures) 31 + 1) ∷ []) (gives (measure v) (planOf p .mode) (planOf p .content))
 unfolding gives
-measure-given p v h = let e = drawn-length p in let n : min (p .head .measures) 31 + 1 ≡ suc (length (firstValues (view p .content))) = omega arith in ap {B = List ℤ} (λ k. pos k ∷ []) n
+measure-given p v h = let e = drawn-length p in let n : min (p .head .measures) 31 + 1 ≡ suc (length (firstValues (planOf p .content))) = omega arith in ap {B = List ℤ} (λ k. pos k ∷ []) n
 
-abbrev measureOf : State → ℤ → Drawing
+abbrev measureOf : Spread → ℤ → Drawing
 measureOf p v = measureDrawing (p .head) v (entryOf p)
 
-measure-drawn : (p : State) (v : ℤ) → drawnIn p (measureOf p v) ≡ measureTo p (min (p .head .measures) 31) v
+measure-drawn : (p : Spread) (v : ℤ) → drawnIn p (measureOf p v) ≡ measureTo p (min (p .head .measures) 31) v
 measure-drawn p v =
     let i = min (p .head .rules) 63 in
     rw (set-getD (p .lower) i 0, set-getD (p .gap) i (pos 0), set-getD (p .upper) i 0, set-getD (p .firm) i false)
 
-pub measure-decided : (p : State) → Sized p → (v : ℤ) → let d = measureDecision (p .head) v (entryOf p) in Meets (measure v) p (record { state = drawnIn p d; answer = d .answer })
+pub measure-decided : (p : Spread) → Sized p → (v : ℤ) → let d = measureDecision (p .head) v (entryOf p) in MeetsSpread (measure v) p (record { state = drawnIn p d; answer = d .answer })
 measure-decided p z v =
     decided (measure v) p (measureChecks (p .head) v) (measureOf p v) (measure-checks p v)
     (λ t. ap ok (measure-given p v (room (t .1 .0))))
-    (λ t. ap view (measure-drawn p v) ∙ measure-next p z v (yes-is _ (t .0)) (room (t .1 .0)))
+    (λ t. ap planOf (measure-drawn p v) ∙ measure-next p z v (yes-is _ (t .0)) (room (t .1 .0)))
     tt
   where
     room : T (ltb (measuresIn (p .head)) measureLimit) → p .head .measures < 32
@@ -108,15 +110,15 @@ measure-decided p z v =
 
 -- ---- rule
 
-pub rules-length : (p : State) → length (rulesOf p) ≡ min (p .head .rules) 64
+pub rules-length : (p : Spread) → length (rulesOf p) ≡ min (p .head .rules) 64
 rules-length p = length-span 0 (min (p .head .rules) 64) _
 
-rule-checks : (p : State) (a c b f : ℤ) → first (checks (rule a c b f) (view p)) ≡ first (ruleChecks (p .head) (natural a) c (natural b) f)
+rule-checks : (p : Spread) (a c b f : ℤ) → first (checks (rule a c b f) (planOf p)) ≡ first (ruleChecks (p .head) (natural a) c (natural b) f)
 unfolding checks further
 rule-checks p a c b f = rw (drawn-length p, rules-length p)
 
 -- the state with a rule more
-abbrev ruleTo : State → ℕ → Rule → State
+abbrev ruleTo : Spread → ℕ → Rule → Spread
 ruleTo p n r =
     record {
       head = ruled (p .head) (n + 1);
@@ -132,7 +134,7 @@ ruleTo p n r =
       edits = p .edits;
     }
 
-rules-snoc : (p : State) → Sized p → (n : ℕ) (r : Rule) → n < 64
+rules-snoc : (p : Spread) → Sized p → (n : ℕ) (r : Rule) → n < 64
     → rulesIn (set (p .lower) n (r .lower)) (set (p .gap) n (r .gap)) (set (p .upper) n (r .upper)) (set (p .firm) n (r .firm)) (suc n)
     ≡ snoc (rulesIn (p .lower) (p .gap) (p .upper) (p .firm) n) r
 rules-snoc p z n r h =
@@ -167,7 +169,7 @@ rules-snoc p z n r h =
           firm = getD-set (p .firm) n (r .firm) false (let l = z .firm in omega arith) i;
         }
 
-rule-next : (p : State) → Sized p → (a c b f : ℤ) → p .head .rules < 64 → view (ruleTo p (min (p .head .rules) 63) (ruleOf a c b f)) ≡ after (rule a c b f) (view p .mode) (view p .content)
+rule-next : (p : Spread) → Sized p → (a c b f : ℤ) → p .head .rules < 64 → planOf (ruleTo p (min (p .head .rules) 63) (ruleOf a c b f)) ≡ after (rule a c b f) (planOf p .mode) (planOf p .content)
 unfolding after
 rule-next p z a c b f h =
     let n = min (p .head .rules) 63 in
@@ -178,21 +180,21 @@ rule-next p z a c b f h =
     (ap (rulesIn (set (p .lower) n (r .lower)) (set (p .gap) n (r .gap)) (set (p .upper) n (r .upper)) (set (p .firm) n (r .firm))) m ∙ rules-snoc p z n r (omega arith) ∙ ap (λ k. snoc (rulesIn (p .lower) (p .gap) (p .upper) (p .firm) k) r) o)
     refl refl refl refl refl
 
-rule-given : (p : State) (a c b f : ℤ) → p .head .rules < 64 → _≡_ {A = List ℤ} (pos (min (p .head .rules) 63 + 1) ∷ []) (gives (rule a c b f) (view p .mode) (view p .content))
+rule-given : (p : Spread) (a c b f : ℤ) → p .head .rules < 64 → _≡_ {A = List ℤ} (pos (min (p .head .rules) 63 + 1) ∷ []) (gives (rule a c b f) (planOf p .mode) (planOf p .content))
 unfolding gives
 rule-given p a c b f h = let e = rules-length p in let n : min (p .head .rules) 63 + 1 ≡ suc (length (rulesOf p)) = omega arith in ap {B = List ℤ} (λ k. pos k ∷ []) n
 
-abbrev ruleIn : State → (a c b f : ℤ) → Drawing
+abbrev ruleIn : Spread → (a c b f : ℤ) → Drawing
 ruleIn p a c b f = ruleDrawing (p .head) a c b f (entryOf p)
 
-rule-drawn : (p : State) (a c b f : ℤ) → drawnIn p (ruleIn p a c b f) ≡ ruleTo p (min (p .head .rules) 63) (ruleOf a c b f)
+rule-drawn : (p : Spread) (a c b f : ℤ) → drawnIn p (ruleIn p a c b f) ≡ ruleTo p (min (p .head .rules) 63) (ruleOf a c b f)
 rule-drawn p a c b f = rw (set-getD (p .values) (min (p .head .measures) 31) (pos 0))
 
-pub rule-decided : (p : State) → Sized p → (a c b f : ℤ) → let d = ruleDecision (p .head) a c b f (entryOf p) in Meets (rule a c b f) p (record { state = drawnIn p d; answer = d .answer })
+pub rule-decided : (p : Spread) → Sized p → (a c b f : ℤ) → let d = ruleDecision (p .head) a c b f (entryOf p) in MeetsSpread (rule a c b f) p (record { state = drawnIn p d; answer = d .answer })
 rule-decided p z a c b f =
     decided (rule a c b f) p (ruleChecks (p .head) (natural a) c (natural b) f) (ruleIn p a c b f) (rule-checks p a c b f)
     (λ t. ap ok (rule-given p a c b f (room (t .1 .0))))
-    (λ t. ap view (rule-drawn p a c b f) ∙ rule-next p z a c b f (room (t .1 .0)))
+    (λ t. ap planOf (rule-drawn p a c b f) ∙ rule-next p z a c b f (room (t .1 .0)))
     tt
   where
     room : T (ltb (min (p .head .rules) 64) ruleLimit) → p .head .rules < 64
@@ -200,40 +202,40 @@ rule-decided p z a c b f =
 
 -- ---- open
 
-open-checks : (p : State) → first (checks open-plan (view p)) ≡ first (openChecks (p .head) (p .lower) (p .gap) (p .upper) (p .values))
+open-checks : (p : Spread) → first (checks open-plan (planOf p)) ≡ first (openChecks (p .head) (p .lower) (p .gap) (p .upper) (p .values))
 unfolding checks further
 open-checks p = rw (drawn-length p, first-row p, holds-is (p .lower) (p .gap) (p .upper) (p .firm) (min (p .head .rules) 64) (row (p .values) 0 (measuresIn (p .head))))
 
-open-next : (p : State) → is blank (modeOf (p .head .mode)) ≡ true → view (withHead p (opened (p .head))) ≡ after open-plan (view p .mode) (view p .content)
+open-next : (p : Spread) → is blank (modeOf (p .head .mode)) ≡ true → planOf (withHead p (opened (p .head))) ≡ after open-plan (planOf p .mode) (planOf p .content)
 unfolding after
 open-next p b =
     let e = eqb→eq (modeNumber (modeOf (p .head .mode))) 0 (is-yes b) in
     plan-same refl refl refl refl refl (rw e) (rw e)
 
-pub open-decided : (p : State) → Sized p → let d = openDecision (p .head) (p .lower) (p .gap) (p .upper) (p .values) (entryOf p) in Meets open-plan p (record { state = drawnIn p d; answer = d .answer })
+pub open-decided : (p : Spread) → Sized p → let d = openDecision (p .head) (p .lower) (p .gap) (p .upper) (p .values) (entryOf p) in MeetsSpread open-plan p (record { state = drawnIn p d; answer = d .answer })
 unfolding gives
 open-decided p z =
     decided open-plan p (openChecks (p .head) (p .lower) (p .gap) (p .upper) (p .values)) (openDrawing (p .head) (entryOf p)) (open-checks p)
     (λ t. refl)
-    (λ t. ap view (entry-same p (opened (p .head))) ∙ open-next p (yes-is _ (t .0)))
+    (λ t. ap planOf (entry-same p (opened (p .head))) ∙ open-next p (yes-is _ (t .0)))
     tt
 
 -- ---- the call by its number
 
-abbrev chosen : Bool → Bool → (a b c d : ℤ) → State → Drawing
+abbrev chosen : Bool → Bool → (a b c d : ℤ) → Spread → Drawing
 chosen x y a b c d p =
     cond x (measureDecision (p .head) a (entryOf p)) (cond y (ruleDecision (p .head) a b c d (entryOf p)) (openDecision (p .head) (p .lower) (p .gap) (p .upper) (p .values) (entryOf p)))
 
-pub draw-decided : (op : ℕ) (a b c d : ℤ) (p : State) → Sized p → let x = drawDecision op a b c d (p .head) (p .lower) (p .gap) (p .upper) (p .values) (entryOf p) in
-    Meets (drawCall op a b c d) p (record { state = drawnIn p x; answer = x .answer })
+pub draw-decided : (op : ℕ) (a b c d : ℤ) (p : Spread) → Sized p → let x = drawDecision op a b c d (p .head) (p .lower) (p .gap) (p .upper) (p .values) (entryOf p) in
+    MeetsSpread (drawCall op a b c d) p (record { state = drawnIn p x; answer = x .answer })
 draw-decided op a b c d p z = by (eqb op 1) (eqb op 2)
   where
-    by : (x y : Bool) → let r = chosen x y a b c d p in Meets (cond x (measure a) (cond y (rule a b c d) open-plan)) p (record { state = drawnIn p r; answer = r .answer })
+    by : (x y : Bool) → let r = chosen x y a b c d p in MeetsSpread (cond x (measure a) (cond y (rule a b c d) open-plan)) p (record { state = drawnIn p r; answer = r .answer })
     by true y = measure-decided p z a
     by false true = rule-decided p z a b c d
     by false false = open-decided p z
 
-pub drawn-sized : (p : State) (d : Drawing) → Sized p → Sized (drawnIn p d)
+pub drawn-sized : (p : Spread) (d : Drawing) → Sized p → Sized (drawnIn p d)
 drawn-sized p d z =
     record {
       base = z .base;

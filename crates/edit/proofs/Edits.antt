@@ -2,7 +2,7 @@
 use Prim.Native.Nat.{ℕ, suc, min, _+_, _-_, _<_, _≤_}
 use native.Mathlib.Omega.{arith}
 use mathlib.Core.Bool.{Bool, true, false, not, _&&_, _||_}
-use mathlib.Core.Path.{_≡_, refl, sym, ap, _∙_}
+use mathlib.Core.Path.{_≡_, refl, sym, ap, ap₂, _∙_}
 use mathlib.Core.Logic.{_≢_}
 use mathlib.Core.List.{List}
 use lib.IntN.{ℤ, pos}
@@ -12,30 +12,33 @@ use lib.Seq.{set-getD}
 use borrow.Author.Tests.{leb-false}
 use Rattle.protocol.specs.Lists.{natural, oneTo, modify, snoc}
 use Rattle.protocol.specs.Plan as model
-use Rattle.protocol.specs.Plan.{is, blank, whole, split, joining, modeNumber, holds, allowed, applied, value, made, unsent, sideAt}
+use Rattle.protocol.specs.Plan.{is, blank, whole, split, joining, modeNumber, holds, firmlyNamed, allowed, applied, value, made, unsent, sideAt}
 use Rattle.protocol.specs.Calls.{Call, edit, Check, Verdict, fine, refused, first, apart, checks, further, onValues, after, gives, stepBy, step}
 use Rattle.protocol.proofs.Laws.{cases, yes-is, no-is, is-yes, which, range, Fine, Pass, passed}
 use Rattle.change.specs.declared.Change.{Change}
 use Rattle.change.specs.Change.{madeOf}
 use Rattle.rows.specs.Rows.{span, row}
 use Rattle.rows.proofs.Spans.{length-span}
-use Rattle.rules.specs.Rules.{LinkedIf, RuleTest, testedIn, testedBy}
-use Rattle.rules.proofs.Rows.{tested-all, tested-sound, made-with, row-set, row-apart}
-use Rattle.rules.proofs.Links.{tested-linked}
+use Rattle.rules.specs.Rules.{RuleTest, testedIn, firmIn}
+use Rattle.rules.specs.Index.{IndexedIf, FirmTest, testedBy, firmBy}
+use Rattle.rules.proofs.Rows.{tested-all, tested-sound, firm-is, made-with, row-set, row-apart}
+use Rattle.rules.proofs.Indexes.{tested-indexed, firm-indexed}
 use Rattle.records.specs.declared.EditRecord.{EditRecord}
 use Rattle.records.specs.declared.Fate.the-variants.{Unsent}
 use Rattle.heads.specs.declared.Head.{Head}
-use Rattle.state.specs.declared.State.{State}
+use Rattle.state.specs.Spread.{Spread}
 use Rattle.heads.specs.Heads.{modeOf, single, sidesIn, offsetOf, measuresIn, keptIn, endIn, slotAt, namedAt}
 use Rattle.records.specs.Records.{keptAt, logOf, keptOf, noRecord}
-use Rattle.state.specs.View.{view, sideOf, rulesOf}
-use Rattle.state.specs.Parts.{namedIn}
-use Rattle.state.specs.Meets.{answerOf, SameIfRefused, Meets}
-use Rattle.state.proofs.Views.{Sized, plan-same, sides-most, sides-length, side-at, sides-modify, lookup-named}
+use Rattle.state.specs.Spread.{planOf, sideOf, rulesOf}
+use Rattle.state.specs.Spread.{namedIn}
+use Rattle.state.specs.Meets.{answerOf}
+use Rattle.state.specs.Spread.{SameIfRefused, MeetsSpread}
+use Rattle.state.specs.Sizes.{Sized}
+use Rattle.state.proofs.Views.{plan-same, sides-most, sides-length, side-at, sides-modify, lookup-named}
 use Rattle.records.proofs.Logs.{log-snoc}
-use Rattle.ruling.specs.declared.Decision.{Decision}
-use Rattle.ruling.specs.Edits.{editChecks, ruled, changeOf, changeIn, editRuling, editHead, editDecision, spotOf, slotOf, editFrom, editBy, editIn, stored}
-use Rattle.ruling.proofs.Rulings.{made-change}
+use Rattle.edit.specs.declared.Decision.{Decision}
+use Rattle.edit.specs.Edits.{editChecks, ruled, changeOf, changeIn, editRuling, editHead, editDecision, spotOf, slotOf, editFrom, editBy, editIn, stored}
+use Rattle.edit.proofs.Rulings.{made-change}
 
 -- two sides' rows do not meet
 rows-apart : (s k i j : ℕ) → 0 < s → s ≤ 8 → 0 < k → k ≤ 8 → k ≢ s → j < 32 → offsetOf k ≤ i → i < offsetOf k + 32 → i ≢ offsetOf s + j
@@ -49,13 +52,16 @@ single-apart h t = which (is split (modeOf (h .mode))) (is joining (modeOf (h .m
     (λ u. rw (eqb→eq (modeNumber (modeOf (h .mode))) 2 u))
     (λ u. rw (eqb→eq (modeNumber (modeOf (h .mode))) 3 u))
 
--- what the test of the rules finds counts only where the plan is drawn up and the side is one of its own
-checks-found : (mode : model.Mode) (sides : ℕ) (rules : List model.Rule) (named : model.Kept) (kept next : ℕ) (vs : List ℤ) (s : ℕ) (client n : ℤ) (m : ℕ) (ch : model.Change) (held held′ : Bool)
+-- what the tests of the rules find counts only where the plan is drawn up, the side is one of its own and, for the firm ones, the measure is
+checks-found : (mode : model.Mode) (sides : ℕ) (named : model.Kept) (kept next : ℕ) (vs : List ℤ) (s : ℕ) (client n : ℤ) (m : ℕ) (ch : model.Change) (held held′ firm firm′ : Bool)
     → (T (not (is blank mode)) → T (oneTo sides s) → held ≡ held′)
-    → first (editChecks held mode sides rules named kept next vs s client n m ch) ≡ first (editChecks held′ mode sides rules named kept next vs s client n m ch)
-checks-found mode sides rules named kept next vs s client n m ch held held′ h = cases (is whole mode || apart mode)
+    → (T (not (is blank mode)) → T (oneTo (length vs) m) → firm ≡ firm′)
+    → first (editChecks held mode sides firm named kept next vs s client n m ch) ≡ first (editChecks held′ mode sides firm′ named kept next vs s client n m ch)
+checks-found mode sides named kept next vs s client n m ch held held′ firm firm′ h f = cases (is whole mode || apart mode)
     (λ t. cases (oneTo sides s)
-    (λ u. ap (λ b. first (editChecks b mode sides rules named kept next vs s client n m ch)) (h (drawn mode (is-yes t)) (is-yes u)))
+    (λ u. cases (oneTo (length vs) m)
+    (λ v. ap₂ (λ b f. first (editChecks b mode sides f named kept next vs s client n m ch)) (h (drawn mode (is-yes t)) (is-yes u)) (f (drawn mode (is-yes t)) (is-yes v)))
+    (λ v. rw (t, u, v)))
     (λ u. rw (t, u)))
     (λ t. rw t)
   where
@@ -67,37 +73,48 @@ checks-found mode sides rules named kept next vs s client n m ch held held′ h 
     drawn model.joining t = tt
     drawn model.closing t = tt
 
--- so two tests of the rules that then find the same make the same decision
-decision-same : (test test′ : RuleTest) (p : State) (s client n m kind k : ℤ)
-    → (let vs = row (p .values) (offsetOf (natural s)) (measuresIn (p .head)) in let ws = made (natural m) (changeOf (natural kind) k) vs in
-    T (not (is blank (modeOf (p .head .mode)))) → T (oneTo (sidesIn (p .head)) (natural s)) → test (natural m) (p .lower) (p .gap) (p .upper) (min (p .head .rules) 64) ws ≡ test′ (natural m) (p .lower) (p .gap) (p .upper) (min (p .head .rules) 64) ws)
-    → editBy test p s client n m kind k ≡ editBy test′ p s client n m kind k
+-- a row has 32 values at most
+row-length : (p : Spread) (s : ℤ) → length (row (p .values) (offsetOf (natural s)) (measuresIn (p .head))) ≤ 32
+row-length p s = let l = length-span (offsetOf (natural s)) (measuresIn (p .head)) (λ i. getD (p .values) i (pos 0)) in omega arith
+
+-- so tests of the rules that then find the same make the same decision
+decision-same : (test test′ : RuleTest) (firmly firmly′ : FirmTest) (p : Spread) (s client n m kind k : ℤ)
+    → (let vs = row (p .values) (offsetOf (natural s)) (measuresIn (p .head)) in let x = applied (changeOf (natural kind) k) (value vs (natural m)) in
+    T (not (is blank (modeOf (p .head .mode)))) → T (oneTo (sidesIn (p .head)) (natural s)) → test (natural m) (p .lower) (p .gap) (p .upper) (min (p .head .rules) 64) x vs ≡ test′ (natural m) (p .lower) (p .gap) (p .upper) (min (p .head .rules) 64) x vs)
+    → (T (not (is blank (modeOf (p .head .mode)))) → 0 < natural m → natural m ≤ 32 → firmly (p .lower) (p .upper) (p .firm) (min (p .head .rules) 64) (natural m) ≡ firmly′ (p .lower) (p .upper) (p .firm) (min (p .head .rules) 64) (natural m))
+    → editBy test firmly p s client n m kind k ≡ editBy test′ firmly′ p s client n m kind k
 unfolding editRuling
-decision-same test test′ p s client n m kind k h =
+decision-same test test′ firmly firmly′ p s client n m kind k h f =
     let ch = changeOf (natural kind) k in
     let vs = row (p .values) (offsetOf (natural s)) (measuresIn (p .head)) in
     ap (λ v. editDecision (p .head) (ruled v (changeIn (madeOf (natural kind) k)) (applied ch (value vs (natural m))))
     (getD (p .values) (spotOf (natural s) (natural m)) (pos 0)) (natural s) (natural client) (natural n) (natural m))
-    (checks-found (modeOf (p .head .mode)) (sidesIn (p .head)) (rulesOf p) (keptAt 0 (namedIn p (natural n))) (keptIn (p .head)) (p .head .next) vs (natural s) client n (natural m) ch _ _ h)
+    (checks-found (modeOf (p .head .mode)) (sidesIn (p .head)) (keptAt 0 (namedIn p (natural n))) (keptIn (p .head)) (p .head .next) vs (natural s) client n (natural m) ch _ _ _ _ h
+    (λ d o. let r = range (length vs) (natural m) o in f d (r .0) (omega (arith, r .1, row-length p s))))
 
--- the decision that the code makes, with the rules' own links, is the one in the state
-pub edit-decided : (sound : Bool) (p : State) (s client n m kind k : ℤ) {i seat : ℕ} {links : List ℕ} {d : Decision}
+-- the decision that the code makes, with the rules' own index, is the one in the state
+pub edit-decided : (sound : Bool) (p : Spread) (s client n m kind k : ℤ) {i seat : ℕ} {index : List ℤ} {d : Decision}
     → i ≡ namedAt (p .head) n → seat ≡ slotAt i
-    → d ≡ editFrom (testedBy sound links) (p .head) (p .lower) (p .gap) (p .upper) (p .firm) (p .values) i (getD (p .edits) seat noRecord) s client n m kind k
-    → LinkedIf sound links (p .lower) (p .upper) (min (p .head .rules) 64)
+    → d ≡ editFrom (testedBy sound index) (firmBy sound index) (p .head) (p .lower) (p .gap) (p .upper) (p .firm) (p .values) i (getD (p .edits) seat noRecord) s client n m kind k
+    → (T (not (is blank (modeOf (p .head .mode)))) → IndexedIf sound index (p .lower) (p .gap) (p .upper) (p .firm) (min (p .head .rules) 64))
     → d ≡ editIn sound p s client n m kind k
-edit-decided sound p s client n m kind k {links = links} i-is seat-is d-is linked =
+edit-decided sound p s client n m kind k {index = index} i-is seat-is d-is indexed =
     let seat = seat-is ∙ ap slotAt i-is in
-    d-is ∙ (λ j. editFrom (testedBy sound links) (p .head) (p .lower) (p .gap) (p .upper) (p .firm) (p .values) (i-is j) (getD (p .edits) (seat j) noRecord) s client n m kind k)
-    ∙ decision-same (testedBy sound links) (testedIn sound) p s client n m kind k (λ d o. tested-linked sound links (natural m) (p .lower) (p .gap) (p .upper) _ _ linked)
+    d-is ∙ (λ j. editFrom (testedBy sound index) (firmBy sound index) (p .head) (p .lower) (p .gap) (p .upper) (p .firm) (p .values) (i-is j) (getD (p .edits) (seat j) noRecord) s client n m kind k)
+    ∙ decision-same (testedBy sound index) (testedIn sound) (firmBy sound index) firmIn p s client n m kind k
+    (λ d o. tested-indexed sound index (natural m) (p .lower) (p .gap) (p .upper) (p .firm) _ _ _ (row-length p s) (indexed d))
+    (λ d a b. firm-indexed sound index (p .lower) (p .gap) (p .upper) (p .firm) _ (natural m) a b (indexed d))
 
 -- where all rules held on the side's row, it is enough to test those that name the measure
-pub edit-sound : (p : State) (s client n m kind k : ℤ)
+pub edit-sound : (p : Spread) (s client n m kind k : ℤ)
     → (T (not (is blank (modeOf (p .head .mode)))) → T (oneTo (sidesIn (p .head)) (natural s)) → holds (rulesOf p) (row (p .values) (offsetOf (natural s)) (measuresIn (p .head))) ≡ true)
     → editIn true p s client n m kind k ≡ editIn false p s client n m kind k
-edit-sound p s client n m kind k h = decision-same (testedIn true) (testedIn false) p s client n m kind k (λ d o. tested-sound (p .lower) (p .gap) (p .upper) (p .firm) (min (p .head .rules) 64) (natural m) (changeOf (natural kind) k) _ (h d o))
+edit-sound p s client n m kind k h =
+    decision-same (testedIn true) (testedIn false) firmIn firmIn p s client n m kind k
+    (λ d o. tested-sound (p .lower) (p .gap) (p .upper) (p .firm) (min (p .head .rules) 64) (natural m) _ _ (row-length p s) (h d o))
+    (λ d a b. refl)
 
-module _ (p : State) (z : Sized p) (s client n m kind k : ℤ) where
+module _ (p : Spread) (z : Sized p) (s client n m kind k : ℤ) where
   abbrev h : Head
   h = p .head
 
@@ -114,26 +131,26 @@ module _ (p : State) (z : Sized p) (s client n m kind k : ℤ) where
   vs = row (p .values) (offsetOf (natural s)) (measuresIn h)
 
   abbrev held : Bool
-  held = testedIn false (natural m) (p .lower) (p .gap) (p .upper) (min (h .rules) 64) (made (natural m) ch vs)
+  held = testedIn false (natural m) (p .lower) (p .gap) (p .upper) (min (h .rules) 64) (applied ch (value vs (natural m))) vs
 
   abbrev Checks : List Check
-  Checks = editChecks held mode (sidesIn h) (rulesOf p) (keptAt 0 (namedIn p (natural n))) (keptIn h) (h .next) vs (natural s) client n (natural m) ch
+  Checks = editChecks held mode (sidesIn h) (firmIn (p .lower) (p .upper) (p .firm) (min (h .rules) 64) (natural m)) (keptAt 0 (namedIn p (natural n))) (keptIn h) (h .next) vs (natural s) client n (natural m) ch
 
   kept-length : length (keptOf h (p .edits)) ≡ keptIn h
   kept-length = length-span 0 (keptIn h) (λ i. keptAt (endIn h - (keptIn h - i)) (getD (p .edits) i noRecord))
 
-  side-is : T (oneTo (sidesIn h) (natural s)) → sideAt (view p .content) (natural s) ≡ sideOf p (natural s)
+  side-is : T (oneTo (sidesIn h) (natural s)) → sideAt (planOf p .content) (natural s) ≡ sideOf p (natural s)
   side-is t = let r = range (sidesIn h) (natural s) t in side-at p (natural s) (r .0) (r .1)
 
   -- the decision's checks are the protocol's
-  checks-same : first (checks call (view p)) ≡ first Checks
+  checks-same : first (checks call (planOf p)) ≡ first Checks
   unfolding checks further
   checks-same =
       rw (sides-length p, kept-length, lookup-named p (natural n))
       (cases (oneTo (sidesIn h) (natural s))
       (λ t.
-      ap (λ ws. first (editChecks (holds (rulesOf p) (made (natural m) ch ws)) mode (sidesIn h) (rulesOf p) (keptAt 0 (namedIn p (natural n))) (keptIn h) (h .next) ws (natural s) client n (natural m) ch)) (ap (λ x. x .values) (side-is (is-yes t)))
-      ∙ ap (λ b. first (editChecks b mode (sidesIn h) (rulesOf p) (keptAt 0 (namedIn p (natural n))) (keptIn h) (h .next) vs (natural s) client n (natural m) ch)) (tested-all (p .lower) (p .gap) (p .upper) (p .firm) (min (h .rules) 64) (natural m) (made (natural m) ch vs)))
+      ap (λ ws. first (editChecks (holds (rulesOf p) (made (natural m) ch ws)) mode (sidesIn h) (firmlyNamed (rulesOf p) (natural m)) (keptAt 0 (namedIn p (natural n))) (keptIn h) (h .next) ws (natural s) client n (natural m) ch)) (ap (λ x. x .values) (side-is (is-yes t)))
+      ∙ ap₂ (λ b f. first (editChecks b mode (sidesIn h) f (keptAt 0 (namedIn p (natural n))) (keptIn h) (h .next) vs (natural s) client n (natural m) ch)) (tested-all (p .lower) (p .gap) (p .upper) (p .firm) (min (h .rules) 64) (natural m) ch vs) (firm-is (p .lower) (p .gap) (p .upper) (p .firm) (min (h .rules) 64) (natural m)))
       (λ t. rw t))
 
   abbrev change : Change
@@ -145,7 +162,7 @@ module _ (p : State) (z : Sized p) (s client n m kind k : ℤ) where
   abbrev decided : Verdict → Decision
   decided v = editDecision h (ruled v change x) (getD (p .values) (spotOf (natural s) (natural m)) (pos 0)) (natural s) (natural client) (natural n) (natural m)
 
-  abbrev next : Verdict → State
+  abbrev next : Verdict → Spread
   next v = stored p (spotOf (natural s) (natural m)) (slotOf h) (decided v)
 
   -- the side's values are changed, and no other's
@@ -216,18 +233,18 @@ module _ (p : State) (z : Sized p) (s client n m kind k : ℤ) where
       ∙ log-snoc (h .next) (slotOf h) (p .edits) r (let l = z .edits in omega arith)
       ∙ (λ i. snoc (logOf (e′ i) (c′ i) (p .edits)) (newKept (made-change (natural kind) k (yes-is (allowed ch) (f .1 .1 .1 .1 .0)) i)))
 
-  kept-next : Pass Checks → kept-after ≡ after call mode (view p .content) .content .kept
+  kept-next : Pass Checks → kept-after ≡ after call mode (planOf p .content) .content .kept
   unfolding after
   kept-next f = cases (is whole mode) (λ w. kept-whole w ∙ rw w) (λ w. kept-apart f w ∙ rw w)
 
   -- by the verdict on the checks
-  by : (v : Verdict) → (Fine v → Pass Checks) → (answerOf (decided v .answer) ≡ stepBy v call (view p) .answer) × (view (next v) ≡ stepBy v call (view p) .plan) × SameIfRefused (decided v .answer) p (next v)
+  by : (v : Verdict) → (Fine v → Pass Checks) → (answerOf (decided v .answer) ≡ stepBy v call (planOf p) .answer) × (planOf (next v) ≡ stepBy v call (planOf p) .plan) × SameIfRefused (decided v .answer) p (next v)
   unfolding gives after
   by (refused j) f =
       let same : next (refused j) ≡ p = rw (set-getD (p .values) (spotOf (natural s) (natural m)) (pos 0)) in
-      (refl, ap view same, same)
+      (refl, ap planOf same, same)
   by fine f = let g = f tt in (refl, plan-same refl refl (let o = number g in omega arith) refl refl (sides-next g) (kept-next g), tt)
 
-  pub edit-meets : let d = editIn false p s client n m kind k in Meets call p (record { state = stored p (spotOf (natural s) (natural m)) (slotOf h) d; answer = d .answer })
+  pub edit-meets : let d = editIn false p s client n m kind k in MeetsSpread call p (record { state = stored p (spotOf (natural s) (natural m)) (slotOf h) d; answer = d .answer })
   unfolding step editRuling
   edit-meets = let b = by (first Checks) (passed Checks) in record { answer = rw checks-same (b .0); plan = rw checks-same (b .1); same = b .2 }

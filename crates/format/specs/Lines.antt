@@ -1,4 +1,4 @@
--- Lines and the calls that they ask for (01, "The sheet program"). Assumes nothing.
+-- Believed: lines and the calls that they ask for (01, "The sheet program"). Assumes nothing.
 use Prim.Native.Nat.{ℕ}
 use mathlib.Core.Bool.{Bool, true, false, cond, _&&_}
 use mathlib.Core.List.{List, [], _∷_}

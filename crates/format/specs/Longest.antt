@@ -1,4 +1,4 @@
--- How long an answer line can be: what has to be free before a line is begun whose answer must not be lost. Assumes nothing.
+-- Believed: how long an answer line can be: what has to be free before a line is begun whose answer must not be lost. Assumes nothing.
 use Prim.Native.Nat.{ℕ, _+_, _*_}
 use Rattle.protocol.specs.Plan.{measureLimit}
 

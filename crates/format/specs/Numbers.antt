@@ -1,4 +1,4 @@
--- Numbers as bytes, read and written (01, "The sheet program"). Assumes nothing.
+-- Believed: numbers as bytes, read and written (01, "The sheet program"). Assumes nothing.
 use Prim.Native.Nat.{ℕ, zero, suc, _+_, _*_, _-_, _/_, _%_}
 use mathlib.Core.Bool.{Bool, false, not, cond, _&&_, _||_}
 use mathlib.Core.List.{List, [], _∷_}

@@ -1,4 +1,4 @@
--- Samples of the definitions, computed: the edges of numbers and lines. Assumes nothing.
+-- Computed: samples of the definitions: the edges of numbers and lines. Assumes nothing.
 use mathlib.Core.Path.{_≡_, refl}
 use mathlib.Core.List.{[], _∷_, map}
 use mathlib.Core.Option.{none, some}

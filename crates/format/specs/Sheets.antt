@@ -1,4 +1,4 @@
--- The answers to a sheet, and the buffer that they are put into (01, "The sheet program"). Assumes nothing.
+-- Believed: the answers to a sheet, and the buffer that they are put into (01, "The sheet program"). Assumes nothing.
 use Prim.Native.Nat.{ℕ, _+_, _*_, _-_}
 use mathlib.Core.Bool.{Bool, true, false, cond, _||_}
 use mathlib.Core.List.{List, [], _∷_, _++_}

@@ -1,4 +1,4 @@
--- Condition 3, and condition 2's order: one claim about every list of calls. Each field is one of its clauses. Assumes nothing.
+-- Believed: Condition 3, and condition 2's order: one claim about every list of calls. Each field is one of its clauses. Assumes nothing.
 use Prim.Native.Nat.{ℕ, suc, _+_, _<_, _≤_}
 use mathlib.Core.Path.{_≡_}
 use mathlib.Core.Logic.{_⊎_}

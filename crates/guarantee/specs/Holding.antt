@@ -1,4 +1,4 @@
--- That the rules hold in a plan, whatever history led to it. Assumes nothing.
+-- Scaffolding: that the rules hold in a plan, whatever history led to it. Assumes nothing.
 use mathlib.Core.Path.{_≡_}
 use mathlib.Core.Bool.{not, _||_}
 use lib.ListN.{length}

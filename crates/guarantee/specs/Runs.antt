@@ -1,4 +1,4 @@
--- What the guarantee speaks of: lists of calls made one after the other, and the sorts of calls. Assumes nothing.
+-- Believed: what the guarantee speaks of: lists of calls made one after the other, and the sorts of calls. Assumes nothing.
 use Prim.Native.Nat.{ℕ, _+_}
 use mathlib.Core.Path.{_≡_}
 use mathlib.Core.Bool.{Bool, true, false, not, cond, _&&_}

@@ -1,4 +1,4 @@
--- Modes and counts as the protocol has them, and where sides and kept edits stand. Assumes nothing.
+-- Believed: modes and counts as the protocol has them, and where sides and kept edits stand. Assumes nothing.
 use Prim.Native.Nat.{ℕ, suc, _*_, _-_, min}
 use mathlib.Core.Bool.{Bool, false, cond, not, _&&_}
 use mathlib.Core.List.{List}

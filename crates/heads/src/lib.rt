@@ -96,7 +96,7 @@ pub fn offset(s: u32) -> usize
 }
 
 // The number that the kept edits' numbers end below.
-pub fn end(h: Head) -> u32
+fn end(h: Head) -> u32
     ensures { λ r. ⌜ r ≡ endIn h ⌝ }
 {
     let m = h.mode;

@@ -12,8 +12,7 @@ use Rattle.protocol.proofs.Laws.{cases, Fine}
 use Rattle.guarantee.specs.Runs.{Trace, begun, called}
 use Rattle.guarantee.proofs.Guaranteed.{guarantee-traced, reading}
 use Rattle.state.specs.declared.State.{State}
-use Rattle.state.specs.View.{view}
-use Rattle.state.specs.Parts.{blankState}
+use Rattle.state.specs.View.{view, blankState}
 use Rattle.state.specs.Meets.{answerOf, refusalOf}
 use Rattle.state.proofs.Meeting.{verdict-fine}
 use Rattle.plan.specs.Promise.{shownAnswer, Reached, begun as fromBlank, called as byCall, showed, Promised}

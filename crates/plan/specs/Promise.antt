@@ -1,4 +1,4 @@
--- Condition 3 for the program: what holds of every state that calls made as their contracts say lead to. Assumes nothing.
+-- Believed: Condition 3 for the program: what holds of every state that calls made as their contracts say lead to. Assumes nothing.
 use Prim.Native.Nat.{ℕ}
 use mathlib.Core.Bool.{cond}
 use mathlib.Core.Path.{_≡_}
@@ -9,11 +9,10 @@ use lib.ListN.{length}
 use Rattle.protocol.specs.Calls.{Call, show, Answer, no, ok, shown}
 use Rattle.protocol.specs.History.{History, empty, recorded}
 use Rattle.guarantee.specs.Guarantee.{Guarantee}
-use Rattle.state.specs.declared.State.{State}
-use Rattle.state.specs.declared.Answered.{Answered}
-use Rattle.state.specs.View.{view}
-use Rattle.state.specs.Parts.{blankState}
 use Rattle.state.specs.Meets.{answerOf, Meets}
+use Rattle.state.specs.declared.State.{State}
+use Rattle.state.specs.View.{view, blankState}
+use Rattle.state.specs.declared.Answered.{Answered}
 
 -- what show answers, by the refusal number and the part that it hands back
 abbrev pub shownAnswer : ℕ → List ℤ → Answer

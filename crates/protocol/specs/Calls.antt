@@ -1,4 +1,4 @@
--- The calls (01, "The calls" and "Who can be told no, and why"): when each is refused, what it gives, the plan after it. Assumes nothing.
+-- Believed: the calls (01, "The calls" and "Who can be told no, and why"): when each is refused, what it gives, the plan after it. Assumes nothing.
 use Prim.Native.Nat.{ℕ, suc, _+_}
 use mathlib.Core.Bool.{Bool, true, false, not, cond, _&&_, _||_}
 use mathlib.Core.List.{List, [], _∷_, _++_, map}

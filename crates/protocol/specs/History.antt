@@ -1,4 +1,4 @@
--- The history (01's "book"), kept of a list of calls from their numbers and answers alone. Assumes nothing.
+-- Believed: the history (01's "book"), kept of a list of calls from their numbers and answers alone. Assumes nothing.
 use Prim.Native.Nat.{ℕ, suc, _+_}
 use mathlib.Core.Bool.{Bool, true, false, not, cond, _&&_, _||_}
 use mathlib.Core.List.{List, [], _∷_}

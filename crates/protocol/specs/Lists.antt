@@ -1,4 +1,4 @@
--- Counting, looking up and changing, over any list; ranges of whole numbers. Assumes nothing.
+-- Believed: counting, looking up and changing, over any list; ranges of whole numbers. Assumes nothing.
 use Prim.Native.Nat.{ℕ, zero, suc, _+_}
 use mathlib.Core.Bool.{Bool, true, false, _&&_, _||_}
 use mathlib.Core.List.{List, [], _∷_, _++_}

@@ -1,4 +1,4 @@
--- The plan (01, "The plan"): what it holds, what a change does, when it takes effect. Assumes nothing.
+-- Believed: the plan (01, "The plan"): what it holds, what a change does, when it takes effect. Assumes nothing.
 use Prim.Native.Nat.{ℕ, zero, _+_}
 use mathlib.Core.Bool.{Bool, false, not, cond, _&&_, _||_}
 use mathlib.Core.List.{List, [], _∷_}

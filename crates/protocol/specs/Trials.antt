@@ -1,4 +1,4 @@
--- The trials P1 to P12 (01, "Trials at the edges") and the wrong joins (01, "Wrong joins that look plausible") as rows of one table. Assumes nothing.
+-- Computed: the trials P1 to P12 (01, "Trials at the edges") and the wrong joins (01, "Wrong joins that look plausible") as rows of one table. Assumes nothing.
 use Prim.Native.Nat.{ℕ, _+_, _-_}
 use mathlib.Core.Path.{_≡_, refl}
 use mathlib.Core.List.{List, [], _∷_, _++_, map}

@@ -19,17 +19,18 @@ use Rattle.rows.specs.Rows.{span, row, copied, copiedIn}
 use Rattle.rows.proofs.Spans.{getD-set, getD-other, below}
 use Rattle.records.specs.declared.EditRecord.{EditRecord}
 use Rattle.heads.specs.declared.Head.{Head}
-use Rattle.state.specs.declared.State.{State}
+use Rattle.state.specs.Spread.{Spread}
 use Rattle.heads.specs.Heads.{sidesIn, indexOf, offsetOf, measuresIn, endIn, keptIn, positionOf, slotAt, unsetIn}
 use Rattle.records.specs.Records.{fateOf, keptAt, logOf, keptOf, noRecord}
-use Rattle.state.specs.View.{view}
+use Rattle.state.specs.Spread.{planOf}
 use Rattle.heads.proofs.Flags.{index-suc}
 use Rattle.state.proofs.Views.{sides-most, sides-length, side-at, row-length}
 use Rattle.state.proofs.Meeting.{fine-pass}
 use Rattle.records.proofs.Logs.{Placed, placed}
 use Rattle.state.specs.declared.Answer.{Answer}
-use Rattle.state.specs.Meets.{answerOf, SameIfRefused}
-use Rattle.figures.specs.Reads.{fateAnswer, showChecks, pendingIn, unsentCounts, leftNumber}
+use Rattle.state.specs.Meets.{answerOf}
+use Rattle.state.specs.Spread.{SameIfRefused}
+use Rattle.query.specs.Reads.{fateAnswer, showChecks, pendingIn, unsentCounts, leftNumber}
 
 -- ---- fate
 
@@ -75,7 +76,7 @@ fate-some e k n es most h = by (placed e k n es)
         ∙ ap fateAndPlace (q .4 ∙ ap (λ i. keptAt n (getD es i noRecord)) (sym p ∙ ap slotAt (sym (q .2))))
 
 -- the answer from the record that is found
-pub fate-is : (p : State) (n : ℤ) → let i = positionOf (endIn (p .head)) (keptIn (p .head)) (natural n) in answerOf (fateAnswer i (getD (p .edits) (slotAt i) noRecord)) ≡ ok (fateIn (natural n) (view p .content .kept))
+pub fate-is : (p : Spread) (n : ℤ) → let i = positionOf (endIn (p .head)) (keptIn (p .head)) (natural n) in answerOf (fateAnswer i (getD (p .edits) (slotAt i) noRecord)) ≡ ok (fateIn (natural n) (planOf p .content .kept))
 fate-is p n =
     let e = endIn (p .head) in
     let k = keptIn (p .head) in
@@ -84,7 +85,7 @@ fate-is p n =
     (λ t. rw t (ap ok (sym (fate-some e k (natural n) (p .edits) (omega arith) (eqb-false (positionOf e k (natural n)) 0 t)))))
 
 -- and it is no refusal
-pub fate-unrefused : (p : State) (i : ℕ) (e : EditRecord) {a : Answer} → a ≡ fateAnswer i e → SameIfRefused a p p
+pub fate-unrefused : (p : Spread) (i : ℕ) (e : EditRecord) {a : Answer} → a ≡ fateAnswer i e → SameIfRefused a p p
 fate-unrefused p i e h = rw h (cases (eqb i 0) (λ t. rw t tt) (λ t. rw t tt))
 
 -- ---- left
@@ -109,26 +110,26 @@ counts-side h es zero l m = absurd (omega arith)
 counts-side h es (suc s) l m = ap (λ i. getD (unsentCounts h es 8) i 0) (index-suc s (omega arith)) ∙ counts-at h es 8 s (omega arith) (omega arith)
 
 -- the number left from counts that are the protocol's, whoever keeps them
-pub left-by : (p : State) (unsent : List ℕ) → ((s : ℕ) → 0 < s → s ≤ 8 → getD unsent (indexOf s) 0 ≡ unsentOf s (keptOf (p .head) (p .edits)))
-    → leftNumber (p .head) (p .arrived) (p .confirmed) unsent (count isOpen (keptOf (p .head) (p .edits))) ≡ leftIn (view p)
+pub left-by : (p : Spread) (unsent : List ℕ) → ((s : ℕ) → 0 < s → s ≤ 8 → getD unsent (indexOf s) 0 ≡ unsentOf s (keptOf (p .head) (p .edits)))
+    → leftNumber (p .head) (p .arrived) (p .confirmed) unsent (count isOpen (keptOf (p .head) (p .edits))) ≡ leftIn (planOf p)
 left-by p unsent h = rw (sides-length p, waiting, unconfirmed)
   where
-    waiting : pendingIn (p .arrived) unsent (sidesIn (p .head)) ≡ countTo (pending (view p .content)) (sidesIn (p .head))
+    waiting : pendingIn (p .arrived) unsent (sidesIn (p .head)) ≡ countTo (pending (planOf p .content)) (sidesIn (p .head))
     waiting = count-to-same _ _ (sidesIn (p .head)) (λ s a b. ap₂ (λ x n. not x || ltb 0 n) (ap (λ x. x .arrived) (sym (side-at p s a b))) (h s a (let m = sides-most (p .head) in omega arith)))
 
-    unconfirmed : unsetIn (p .confirmed) (sidesIn (p .head)) ≡ countTo (λ s. not (sideAt (view p .content) s .confirmed)) (sidesIn (p .head))
+    unconfirmed : unsetIn (p .confirmed) (sidesIn (p .head)) ≡ countTo (λ s. not (sideAt (planOf p .content) s .confirmed)) (sidesIn (p .head))
     unconfirmed = count-to-same _ _ (sidesIn (p .head)) (λ s a b. ap (λ x. not (x .confirmed)) (sym (side-at p s a b)))
 
-pub left-is : (p : State) → leftNumber (p .head) (p .arrived) (p .confirmed) (unsentCounts (p .head) (p .edits) 8) (count isOpen (keptOf (p .head) (p .edits))) ≡ leftIn (view p)
+pub left-is : (p : Spread) → leftNumber (p .head) (p .arrived) (p .confirmed) (unsentCounts (p .head) (p .edits) 8) (count isOpen (keptOf (p .head) (p .edits))) ≡ leftIn (planOf p)
 left-is p = left-by p (unsentCounts (p .head) (p .edits) 8) (counts-side (p .head) (p .edits))
 
 -- ---- show
 
-pub shown-row : (p : State) (s : ℤ) → oneTo (sidesIn (p .head)) (natural s) ≡ true → sideAt (view p .content) (natural s) .values ≡ row (p .values) (offsetOf (natural s)) (measuresIn (p .head))
+pub shown-row : (p : Spread) (s : ℤ) → oneTo (sidesIn (p .head)) (natural s) ≡ true → sideAt (planOf p .content) (natural s) .values ≡ row (p .values) (offsetOf (natural s)) (measuresIn (p .head))
 shown-row p s t = let r = range (sidesIn (p .head)) (natural s) (is-yes t) in ap (λ x. x .values) (side-at p (natural s) (r .0) (r .1))
 
 -- the length of a side's values is asked only of a side that there is
-pub show-checks : (p : State) (s : ℤ) (room : ℕ) → first (checks (show s room) (view p)) ≡ first (showChecks (p .head) (natural s) room)
+pub show-checks : (p : Spread) (s : ℤ) (room : ℕ) → first (checks (show s room) (planOf p)) ≡ first (showChecks (p .head) (natural s) room)
 unfolding checks further
 show-checks p s room =
     rw (sides-length p)
@@ -136,12 +137,12 @@ show-checks p s room =
     (λ t. rw (t, ap length (shown-row p s t), row-length (p .values) (offsetOf (natural s)) (measuresIn (p .head))))
     (λ t. rw t))
 
-pub shown-refused : (p : State) (s : ℤ) (buffer : List ℤ) (k : ℕ) → first (showChecks (p .head) (natural s) (length buffer)) ≡ refused k → shown s (view p) buffer ≡ record { refusal = k; front = []; buffer = buffer }
+pub shown-refused : (p : Spread) (s : ℤ) (buffer : List ℤ) (k : ℕ) → first (showChecks (p .head) (natural s) (length buffer)) ≡ refused k → shown s (planOf p) buffer ≡ record { refusal = k; front = []; buffer = buffer }
 unfolding shown step
 shown-refused p s buffer k e = rw (show-checks p s (length buffer) ∙ e)
 
-pub shown-fine : (p : State) (s : ℤ) (buffer : List ℤ) → first (showChecks (p .head) (natural s) (length buffer)) ≡ fine
-    → let n = measuresIn (p .head) in let r = row (p .values) (offsetOf (natural s)) n in shown s (view p) buffer ≡ record { refusal = 0; front = r; buffer = r ++ drop n buffer }
+pub shown-fine : (p : Spread) (s : ℤ) (buffer : List ℤ) → first (showChecks (p .head) (natural s) (length buffer)) ≡ fine
+    → let n = measuresIn (p .head) in let r = row (p .values) (offsetOf (natural s)) n in shown s (planOf p) buffer ≡ record { refusal = 0; front = r; buffer = r ++ drop n buffer }
 unfolding shown step gives
 shown-fine p s buffer e =
     let t = fine-pass (showChecks (p .head) (natural s) (length buffer)) e in

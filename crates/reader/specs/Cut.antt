@@ -1,4 +1,4 @@
--- The bytes up to a mark. Assumes nothing.
+-- Scaffolding: the bytes up to a mark. Assumes nothing.
 use Prim.Native.Nat.{ℕ}
 use mathlib.Core.Bool.{cond}
 use mathlib.Core.List.{List, [], _∷_}

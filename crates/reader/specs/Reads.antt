@@ -1,4 +1,4 @@
--- What the reader answers, in the terms of the sheet. Assumes nothing.
+-- Scaffolding: what the reader answers, in the terms of the sheet. Assumes nothing.
 use Prim.Native.Nat.{ℕ, zero, suc, _+_, _*_, _≤_}
 use mathlib.Core.Bool.{Bool, cond, _&&_, _||_}
 use mathlib.Core.List.{List, [], _∷_}

@@ -1,4 +1,4 @@
--- Kept edits as the protocol has them. Assumes nothing.
+-- Believed: kept edits as the protocol has them. Assumes nothing.
 use Prim.Native.Nat.{ℕ, _-_}
 use mathlib.Core.Bool.{Bool, false, cond, _&&_}
 use mathlib.Core.List.{List}

@@ -1,5 +1,5 @@
 -- A replay's decision, carried out, is the protocol's step. Assumes nothing.
-use Prim.Native.Nat.{ℕ, min, _+_}
+use Prim.Native.Nat.{ℕ, min, _+_, _≤_}
 use native.Mathlib.Omega.{arith}
 use native.Mathlib.Numerals.{add-one}
 use mathlib.Core.Bool.{Bool, true, false, not, cond, _&&_}
@@ -18,27 +18,30 @@ use Rattle.protocol.proofs.Laws.{cases, is-yes, range, Fine, Pass, passed}
 use Rattle.change.specs.Change.{viewChange}
 use Rattle.rows.specs.Rows.{row}
 use Rattle.rows.proofs.Spans.{length-span}
-use Rattle.rules.specs.Rules.{LinkedIf, RuleTest, testedIn, testedBy}
+use Rattle.rules.specs.Rules.{RuleTest, testedIn}
+use Rattle.rules.specs.Index.{IndexedIf, testedBy}
 use Rattle.rules.proofs.Rows.{made-with, modify-out, tested-all, tested-sound, row-set}
-use Rattle.rules.proofs.Links.{tested-linked}
+use Rattle.rules.proofs.Indexes.{tested-indexed}
 use Rattle.records.specs.declared.EditRecord.{EditRecord}
 use Rattle.heads.specs.declared.Head.{Head}
-use Rattle.state.specs.declared.State.{State}
+use Rattle.state.specs.Spread.{Spread}
 use Rattle.heads.specs.Heads.{modeOf, sidesIn, keptIn, endIn, slotAt, namedAt, seatOf, unsetIn}
 use Rattle.records.specs.Records.{keptAt, keptOf, noRecord, recordOf}
-use Rattle.state.specs.View.{view, rulesOf}
-use Rattle.state.specs.Parts.{namedIn}
-use Rattle.state.specs.Meets.{answerOf, SameIfRefused, Meets}
-use Rattle.state.proofs.Views.{Sized, plan-same, flags-unset, lookup-named}
+use Rattle.state.specs.Spread.{planOf, rulesOf}
+use Rattle.state.specs.Spread.{namedIn}
+use Rattle.state.specs.Meets.{answerOf}
+use Rattle.state.specs.Spread.{SameIfRefused, MeetsSpread}
+use Rattle.state.specs.Sizes.{Sized}
+use Rattle.state.proofs.Views.{plan-same, flags-unset, lookup-named}
 use Rattle.records.proofs.Logs.{Placed, placed, log-modify}
-use Rattle.settling.specs.declared.Outcome.the-variants.{Settled}
-use Rattle.settling.specs.declared.Decision.{Decision}
-use Rattle.settling.specs.Replays.{replayChecks, draftIn, effectiveIn, draftOutcome, settledBy, replayOutcome, settledRecord, replayDecision, pointOf, earlierAt, standingIn, replayFrom, replayBy, replayIn, stored}
+use Rattle.replay.specs.declared.Outcome.the-variants.{Settled}
+use Rattle.replay.specs.declared.Decision.{Decision}
+use Rattle.replay.specs.Replays.{replayChecks, draftIn, effectiveIn, draftOutcome, settledBy, replayOutcome, settledRecord, replayDecision, pointOf, earlierAt, standingIn, replayFrom, replayBy, replayIn, stored}
 
 -- what the test of the rules finds counts only where the plan is joining or closing: two tests that then find the same make the same decision
-decision-same : (test test′ : RuleTest) (p : State) (n : ℤ)
-    → (let e = namedIn p (natural n) in let ws = made (e .measure) (viewChange (e .change)) (draftIn (p .head) (p .draft)) in
-    T (active (modeOf (p .head .mode))) → test (e .measure) (p .lower) (p .gap) (p .upper) (min (p .head .rules) 64) ws ≡ test′ (e .measure) (p .lower) (p .gap) (p .upper) (min (p .head .rules) 64) ws)
+decision-same : (test test′ : RuleTest) (p : Spread) (n : ℤ)
+    → (let e = namedIn p (natural n) in let vs = draftIn (p .head) (p .draft) in let x = applied (viewChange (e .change)) (value vs (e .measure)) in
+    T (active (modeOf (p .head .mode))) → test (e .measure) (p .lower) (p .gap) (p .upper) (min (p .head .rules) 64) x vs ≡ test′ (e .measure) (p .lower) (p .gap) (p .upper) (min (p .head .rules) 64) x vs)
     → replayBy test p n ≡ replayBy test′ p n
 unfolding replayOutcome draftOutcome effectiveIn
 decision-same test test′ p n h = cases (active (modeOf (p .head .mode)))
@@ -54,29 +57,33 @@ decision-same test test′ p n h = cases (active (modeOf (p .head .mode)))
     (h (is-yes t)))
     (λ t. rw t)
 
--- the decision that the code makes, with the rules' own links, is the one in the state
-pub replay-decided : (sound : Bool) (p : State) (n : ℤ) {i slot j seat place : ℕ} {links : List ℕ} {d : Decision}
+-- a draft has 32 values at most
+draft-length : (p : Spread) → length (draftIn (p .head) (p .draft)) ≤ 32
+draft-length p = let l = length-span 0 (min (p .head .drafted) 32) (λ i. getD (p .draft) i (pos 0)) in omega arith
+
+-- the decision that the code makes, with the rules' own index, is the one in the state
+pub replay-decided : (sound : Bool) (p : Spread) (n : ℤ) {i slot j seat place : ℕ} {index : List ℤ} {d : Decision}
     → i ≡ namedAt (p .head) n → slot ≡ slotAt i → j ≡ earlierAt (p .head) i (getD (p .edits) slot noRecord) → seat ≡ slotAt j → place ≡ count isSettled (keptOf (p .head) (p .edits)) + 1
-    → d ≡ replayFrom (testedBy sound links) (p .head) (p .lower) (p .gap) (p .upper) (p .draft) (p .arrived) i (getD (p .edits) slot noRecord) j (getD (p .edits) seat noRecord) place
-    → LinkedIf sound links (p .lower) (p .upper) (min (p .head .rules) 64)
+    → d ≡ replayFrom (testedBy sound index) (p .head) (p .lower) (p .gap) (p .upper) (p .draft) (p .arrived) i (getD (p .edits) slot noRecord) j (getD (p .edits) seat noRecord) place
+    → (T (active (modeOf (p .head .mode))) → IndexedIf sound index (p .lower) (p .gap) (p .upper) (p .firm) (min (p .head .rules) 64))
     → d ≡ replayIn sound p n
-replay-decided sound p n {links = links} i-is slot-is j-is seat-is place-is d-is linked =
+replay-decided sound p n {index = index} i-is slot-is j-is seat-is place-is d-is indexed =
     let standing = ap (λ x. getD (p .edits) x noRecord) (slot-is ∙ ap slotAt i-is) in
     let earlier = j-is ∙ (λ x. earlierAt (p .head) (i-is x) (standing x)) in
     let seen = ap (λ x. getD (p .edits) x noRecord) (seat-is ∙ ap slotAt earlier) in
-    d-is ∙ (λ x. replayFrom (testedBy sound links) (p .head) (p .lower) (p .gap) (p .upper) (p .draft) (p .arrived) (i-is x) (standing x) (earlier x) (seen x) (place-is x))
-    ∙ decision-same (testedBy sound links) (testedIn sound) p n (λ t. tested-linked sound links _ (p .lower) (p .gap) (p .upper) _ _ linked)
+    d-is ∙ (λ x. replayFrom (testedBy sound index) (p .head) (p .lower) (p .gap) (p .upper) (p .draft) (p .arrived) (i-is x) (standing x) (earlier x) (seen x) (place-is x))
+    ∙ decision-same (testedBy sound index) (testedIn sound) p n (λ t. tested-indexed sound index _ (p .lower) (p .gap) (p .upper) (p .firm) _ _ _ (draft-length p) (indexed t))
 
 -- and its measure's place in the draft is the edit's
-pub point-decided : (p : State) (n : ℤ) {i slot point : ℕ} → i ≡ namedAt (p .head) n → slot ≡ slotAt i → point ≡ pointOf (recordOf i (getD (p .edits) slot noRecord) .measure) → point ≡ pointOf (namedIn p (natural n) .measure)
+pub point-decided : (p : Spread) (n : ℤ) {i slot point : ℕ} → i ≡ namedAt (p .head) n → slot ≡ slotAt i → point ≡ pointOf (recordOf i (getD (p .edits) slot noRecord) .measure) → point ≡ pointOf (namedIn p (natural n) .measure)
 point-decided p n i-is slot-is point-is =
     let slot = slot-is ∙ ap slotAt i-is in point-is ∙ (λ x. pointOf (recordOf (i-is x) (getD (p .edits) (slot x) noRecord) .measure))
 
 -- where all rules held on the draft, it is enough to test those that name the measure
-pub replay-sound : (p : State) (n : ℤ) → (T (active (modeOf (p .head .mode))) → holds (rulesOf p) (draftIn (p .head) (p .draft)) ≡ true) → replayIn true p n ≡ replayIn false p n
-replay-sound p n h = decision-same (testedIn true) (testedIn false) p n (λ t. tested-sound (p .lower) (p .gap) (p .upper) (p .firm) (min (p .head .rules) 64) (namedIn p (natural n) .measure) (viewChange (namedIn p (natural n) .change)) _ (h t))
+pub replay-sound : (p : Spread) (n : ℤ) → (T (active (modeOf (p .head .mode))) → holds (rulesOf p) (draftIn (p .head) (p .draft)) ≡ true) → replayIn true p n ≡ replayIn false p n
+replay-sound p n h = decision-same (testedIn true) (testedIn false) p n (λ t. tested-sound (p .lower) (p .gap) (p .upper) (p .firm) (min (p .head .rules) 64) (namedIn p (natural n) .measure) _ _ (draft-length p) (h t))
 
-module _ (p : State) (z : Sized p) (n : ℤ) where
+module _ (p : Spread) (z : Sized p) (n : ℤ) where
   abbrev h : Head
   h = p .head
 
@@ -96,14 +103,14 @@ module _ (p : State) (z : Sized p) (n : ℤ) where
   Checks = replayChecks (modeOf (h .mode)) (unsetIn (p .arrived) (sidesIn h)) (keptAt 0 e) (keptAt 0 (namedIn p (e .earlier)))
 
   -- the decision's checks are the protocol's
-  checks-same : first (checks call (view p)) ≡ first Checks
+  checks-same : first (checks call (planOf p)) ≡ first Checks
   unfolding checks further
   checks-same = rw (flags-unset p (λ x. x .arrived) (p .arrived) (λ s. refl), lookup-named p (natural n), lookup-named p (e .earlier))
 
   -- and so is the trial
-  effect : replayable (view p .content) (natural n) ≡ effectiveIn (testedIn false) (p .lower) (p .gap) (p .upper) (min (h .rules) 64) (e .measure) ch vs
+  effect : replayable (planOf p .content) (natural n) ≡ effectiveIn (testedIn false) (p .lower) (p .gap) (p .upper) (min (h .rules) 64) (e .measure) ch vs
   unfolding replayable effective effectiveIn
-  effect = rw (lookup-named p (natural n)) (ap (λ b. fits (e .measure) ch vs && b) (tested-all (p .lower) (p .gap) (p .upper) (p .firm) (min (h .rules) 64) (e .measure) (made (e .measure) ch vs)))
+  effect = rw (lookup-named p (natural n)) (ap (λ b. fits (e .measure) ch vs && b) (tested-all (p .lower) (p .gap) (p .upper) (p .firm) (min (h .rules) 64) (e .measure) ch vs))
 
   abbrev b : Bool
   b = effectiveIn (testedIn false) (p .lower) (p .gap) (p .upper) (min (h .rules) 64) (e .measure) ch vs
@@ -167,7 +174,7 @@ module _ (p : State) (z : Sized p) (n : ℤ) where
   abbrev decided : Verdict → Decision
   decided v = replayDecision (settledBy v (draftOutcome (testedIn false) h (p .lower) (p .gap) (p .upper) (p .draft) (e .measure) (e .change) old)) standing old place
 
-  abbrev next : Verdict → State
+  abbrev next : Verdict → Spread
   next v = stored p (pointOf (e .measure)) (seatOf h n) (decided v)
 
   given : (w : Bool) → _≡_ {A = List ℤ} (pos (cond w 3 4) ∷ []) (pos (model.fateNumber (outcome w)) ∷ [])
@@ -175,11 +182,11 @@ module _ (p : State) (z : Sized p) (n : ℤ) where
   given false = refl
 
   -- by the verdict on the checks
-  by : (v : Verdict) → (Fine v → Pass Checks) → (answerOf (decided v .answer) ≡ stepBy v call (view p) .answer) × (view (next v) ≡ stepBy v call (view p) .plan) × SameIfRefused (decided v .answer) p (next v)
+  by : (v : Verdict) → (Fine v → Pass Checks) → (answerOf (decided v .answer) ≡ stepBy v call (planOf p) .answer) × (planOf (next v) ≡ stepBy v call (planOf p) .plan) × SameIfRefused (decided v .answer) p (next v)
   unfolding gives after draftOutcome
   by (refused j) f =
       let same : next (refused j) ≡ p = rw (set-getD (p .draft) (pointOf (e .measure)) (pos 0), set-getD (p .edits) (seatOf h n) noRecord) in
-      (refl, ap view same, same)
+      (refl, ap planOf same, same)
   by fine f =
       let g = f tt in
       let found = lookup-named p (natural n) in (
@@ -191,6 +198,6 @@ module _ (p : State) (z : Sized p) (n : ℤ) where
         tt,
       )
 
-  pub replay-meets : Meets call p (record { state = stored p (pointOf (e .measure)) (seatOf h n) (replayIn false p n); answer = replayIn false p n .answer })
+  pub replay-meets : MeetsSpread call p (record { state = stored p (pointOf (e .measure)) (seatOf h n) (replayIn false p n); answer = replayIn false p n .answer })
   unfolding step replayOutcome
   replay-meets = let r = by (first Checks) (passed Checks) in record { answer = rw checks-same (r .0); plan = rw checks-same (r .1); same = r .2 }

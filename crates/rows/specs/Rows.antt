@@ -1,4 +1,4 @@
--- Rows of values in an array, and rows copied. Assumes nothing.
+-- Believed: rows of values in an array, and rows copied. Assumes nothing.
 use Prim.Native.Nat.{ℕ, zero, suc, _+_, _-_, min}
 use mathlib.Core.List.{List, [], _∷_}
 use lib.IntN.{ℤ, pos}

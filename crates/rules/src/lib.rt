@@ -1,13 +1,18 @@
 // The rules of a plan as parallel number arrays, and their test on a row of values that lies in a larger array. Everything is lent.
 ghost use mathlib.Core.Path.{_≡_};
-ghost use mathlib.Core.Bool.{true, not, _&&_, _||_};
-ghost use Prim.Native.Nat.{_<_, _≤_, min};
-ghost use lib.IntN.{_+ℤ_};
+ghost use mathlib.Core.Bool.{false, cond, _&&_};
+ghost use Prim.Native.Nat.{_+_, _-_, _<_, _≤_, min};
+ghost use lib.Dec.{eqb};
+ghost use lib.IntN.{pos, negsuc, _+ℤ_};
+ghost use lib.ListN.{length, getD};
 ghost use lib.Signed.{ltZ};
+ghost use Rattle.protocol.specs.Lists.{natural, count, bit as bitOf};
 ghost use Rattle.protocol.specs.Plan.{value};
 ghost use Rattle.change.specs.Change.{viewChange};
-ghost use Rattle.rows.specs.Rows.{row};
-ghost use Rattle.rules.specs.Rules.{withValue, countedAs, pairHolds, namedPair, listedAs, linkAt, Linked, walkedIn, testedBy, firmIn, namesPair, trialOf};
+ghost use Rattle.rows.specs.Rows.{span, row};
+ghost use Rattle.rules.specs.Table.{lowers, gaps, uppers, firms, withRule};
+ghost use Rattle.rules.specs.Rules.{withValue, pairHolds, namesPair, namesAt, testedIn, firmIn, trialOf};
+ghost use Rattle.rules.specs.Index.{placeOf, otherOf, beyond, withNaming, NoneAbove, Added, Indexed, listedAs, sideHolds, indexedIn, testedBy, firmBy};
 use change::Applied;
 use change::Change;
 
@@ -36,6 +41,50 @@ fn value_at(values: &[i32], at: usize, n: usize, m: u32) -> i32
     0
 }
 
+// ---- the rule table
+
+// The rules as numbers, four to each: measure lower, plus gap, is less than measure upper; firm if 1. A negative number reads as 0.
+pub type Table = [i32; 256];
+
+pub fn lower_of(table: &Table, i: usize) -> u32
+    requires { ⌜ i < 64 ⌝ }
+    ensures { λ r. ⌜ r ≡ getD (lowers (now (table .entry))) i 0 ⌝ }
+{
+    exact::number(table[4 * i])
+}
+
+pub fn gap_of(table: &Table, i: usize) -> i32
+    requires { ⌜ i < 64 ⌝ }
+    ensures { λ r. ⌜ r ≡ getD (gaps (now (table .entry))) i (pos 0) ⌝ }
+{
+    table[4 * i + 1]
+}
+
+pub fn upper_of(table: &Table, i: usize) -> u32
+    requires { ⌜ i < 64 ⌝ }
+    ensures { λ r. ⌜ r ≡ getD (uppers (now (table .entry))) i 0 ⌝ }
+{
+    exact::number(table[4 * i + 2])
+}
+
+pub fn firm_of(table: &Table, i: usize) -> bool
+    requires { ⌜ i < 64 ⌝ }
+    ensures { λ r. ⌜ r ≡ getD (firms (now (table .entry))) i false ⌝ }
+{
+    exact::number(table[4 * i + 3]) == 1
+}
+
+// Writes rule i anew.
+pub fn put_rule(table: &mut Table, i: usize, a: i32, c: i32, b: i32, f: i32)
+    requires { ⌜ i < 64 ⌝ }
+    ensures { λ r. ⌜ now (table .exit) ≡ withRule (now (table .entry)) i a c b f ⌝ }
+{
+    table[4 * i] = a;
+    table[4 * i + 1] = c;
+    table[4 * i + 2] = b;
+    table[4 * i + 3] = f;
+}
+
 // ---- the rules on a row, where one measure counts as another number
 
 // Measure k of the row of n values that begins at a place, where measure m, if it is one of them, counts as x.
@@ -56,113 +105,12 @@ fn less_by(low: i32, g: i32, high: i32) -> bool
     exact::sum(low, g) < high as i64
 }
 
-// ---- which rules name a measure
+// ---- the index: which rules name a measure
 
-// Links between the rules, by which those that name a measure are found without a look at the others: at 128 + m the first rule that names
-// measure m, from 1 to 32; at i the next after rule i that names its lower measure, at 64 + i the same for its upper one. The number of
-// rules where there is none.
-pub type Links = [u8; 161];
-
-// A measure from 1 to 32 as it is; 0 for any other.
-fn listed(m: u32) -> usize
-    ensures { λ r. ⌜ (r ≡ listedAs m) × (r ≤ 32) ⌝ }
-{
-    if m <= 32 {
-        return m as usize;
-    }
-    0
-}
-
-// The links between the first k rules. From the last rule down: each takes over what its measures had for a first rule, and becomes it.
-pub fn indexed<'a>(lower: &'a [u32; 64], upper: &'a [u32; 64], k: u32) -> Links
-    ensures { λ r. ⌜ Linked r (now (lower .entry)) (now (upper .entry)) 0 (min k 64) ⌝ }
-{
-    let end = rows::capped(k, 64);
-    let none = end as u8;
-    let mut links = [none; 161];
-    let mut i = end;
-    while 0 < i {
-        i -= 1;
-        let a = 128 + listed(lower[i]);
-        let b = 128 + listed(upper[i]);
-        let below = links[a];
-        let above = links[b];
-        links[i] = below;
-        links[64 + i] = above;
-        links[a] = i as u8;
-        links[b] = i as u8;
-    }
-    links
-}
-
-fn wide(x: u8) -> usize
-    ensures { λ r. ⌜ r ≡ x ⌝ }
-{
-    x as usize
-}
-
-// Where the links lead from rule i, whose lower measure is a, on the way to the next that names measure m.
-fn onward(links: &Links, i: usize, a: u32, m: u32) -> usize
-    requires { ⌜ i < 64 ⌝ }
-    ensures { λ r. ⌜ r ≡ linkAt (now (links .entry)) i a m ⌝ }
-{
-    if a == m {
-        return wide(links[i]);
-    }
-    wide(links[64 + i])
-}
-
-// ---- the rules on a row
-
-// Whether a rule that names measure m holds on the row of n values that begins at a place, where m counts as y. It is not looked up again,
-// as nearly all tests are made here. A rule that does not name m is taken to have it for its upper measure.
-fn named_holds(values: &[i32], at: usize, n: usize, m: u32, y: i32, a: u32, g: i32, b: u32) -> bool
-    ensures { λ t. ⌜ t ≡ namedPair (countedAs m y (value (row (now (values .entry)) at n))) m a g b ⌝ }
-{
-    if a == m {
-        if b == m {
-            return less_by(y, g, y);
-        }
-        return less_by(y, g, value_at(values, at, n, b));
-    }
-    less_by(value_at(values, at, n, a), g, y)
-}
-
-// Whether each rule that names measure m holds, where m counts as x: a walk along the links. A link that does not lead on is not one of the
-// rules' own; it ends the walk, and the answer is false.
-fn linked_hold<'a>(
-    lower: &'a [u32; 64],
-    gap: &'a [i32; 64],
-    upper: &'a [u32; 64],
-    end: usize,
-    links: &'a Links,
-    values: &'a [i32],
-    at: usize,
-    n: usize,
-    m: u32,
-    x: i32,
-) -> bool
-    requires { ⌜ (end ≤ 64) × (0 < m) × (m ≤ 32) ⌝ }
-    ensures { λ t. ⌜ t ≡ walkedIn (now (links .entry)) m (now (lower .entry)) (now (gap .entry)) (now (upper .entry)) end (withValue m x (row (now (values .entry)) at n)) ⌝ }
-{
-    let y = value_with(values, at, n, m, x, m);
-    let first = m as usize;
-    let mut i = wide(links[128 + first]);
-    while i < end {
-        let a = lower[i];
-        let b = upper[i];
-        let g = gap[i];
-        if !named_holds(values, at, n, m, y, a, g, b) {
-            return false;
-        }
-        let j = onward(links, i, a, m);
-        if j <= i {
-            return false;
-        }
-        i = j;
-    }
-    true
-}
+// At m where the namings of measure m begin, at m + 1 where they end, from 1 to 32; at 64 + m 1 if a firm rule names m. From 128 on three numbers
+// for each naming, those of a measure in the order of the rules: the rule's number from 0, the place of its other measure, its gap. The place is from 0, 32 for
+// none of 32 measures and 33 for m itself; it is put below 0, as -1 minus it, where m is the rule's upper measure. A rule has two namings at most.
+pub type Index = [i32; 512];
 
 // A rule on measures a and b names measure m.
 fn names(a: u32, b: u32, m: u32) -> bool
@@ -174,25 +122,215 @@ fn names(a: u32, b: u32, m: u32) -> bool
     b == m
 }
 
-// Whether a rule holds, or needs no test: all rules held before (`sound`), and it does not name measure m.
-fn stands(
-    values: &[i32],
+// Where the other measure k of a rule that names measure m stands.
+fn place_of(k: u32, m: u32) -> i32
+    ensures { λ r. ⌜ r ≡ pos (placeOf m k) ⌝ }
+{
+    if k == m {
+        return 33;
+    }
+    if rows::one_to(32, k) {
+        return (k - 1) as i32;
+    }
+    32
+}
+
+// A number put below 0.
+fn below(z: i32) -> i32
+    ensures { λ r. ⌜ r ≡ negsuc (natural z) ⌝ }
+{
+    if z < 0 {
+        return -1;
+    }
+    -1 - z
+}
+
+// What a number below 0 stands for; 0 for any other.
+fn behind(z: i32) -> u32
+    ensures { λ r. ⌜ r ≡ beyond z ⌝ }
+{
+    if z < 0 {
+        return (-1 - z) as u32;
+    }
+    0
+}
+
+// The other measure of rule i, which names measure m.
+fn other_of(table: &Table, i: usize, m: u32) -> i32
+    requires { ⌜ i < 64 ⌝ }
+    ensures { λ r. ⌜ r ≡ otherOf m (getD (lowers (now (table .entry))) i 0) (getD (uppers (now (table .entry))) i 0) ⌝ }
+{
+    let a = lower_of(table, i);
+    if a == m {
+        return place_of(upper_of(table, i), m);
+    }
+    below(place_of(a, m))
+}
+
+fn put_naming(index: &mut Index, k: usize, i: i32, o: i32, g: i32)
+    requires { ⌜ k < 128 ⌝ }
+    ensures { λ r. ⌜ now (index .exit) ≡ withNaming (now (index .entry)) k i o g ⌝ }
+{
+    index[128 + 3 * k] = i;
+    index[129 + 3 * k] = o;
+    index[130 + 3 * k] = g;
+}
+
+fn larger(a: u32, b: u32) -> u32
+    ensures { λ r. ⌜ (a ≤ r) × (b ≤ r) ⌝ }
+{
+    if a < b { b } else { a }
+}
+
+// A number that no measure of the first rules is above.
+fn highest(table: &Table, end: usize) -> u32
+    requires { ⌜ end ≤ 64 ⌝ }
+    ensures { λ r. ⌜ NoneAbove (lowers (now (table .entry))) (uppers (now (table .entry))) end r ⌝ }
+{
+    let mut top: u32 = 0;
+    let mut i: usize = 0;
+    while i < end {
+        top = larger(top, larger(lower_of(table, i), upper_of(table, i)));
+        i += 1;
+    }
+    top
+}
+
+// Puts the namings of measure m among the first rules, none of which names one above `top`, behind the n that there are, and gives how many there are then.
+fn add_namings(index: &mut Index, table: &Table, end: usize, top: u32, m: u32, n: usize) -> usize
+    requires { ⌜ (length (now index) ≡ 512) × (end ≤ 64) × NoneAbove (lowers (now table)) (uppers (now table)) end top ×
+        (n + count (namesAt (lowers (now table)) (uppers (now table)) m) (span 0 end (λ i. i)) ≤ 128) ⌝ }
+    ensures { λ r. ⌜ Added (lowers (now (table .entry))) (gaps (now (table .entry))) (uppers (now (table .entry))) end m n r (now (index .entry)) (now (index .exit)) ⌝ }
+{
+    if top < m {
+        return n;
+    }
+    let mut next = n;
+    let mut i: usize = 0;
+    while i < end {
+        let a = lower_of(table, i);
+        let b = upper_of(table, i);
+        if names(a, b, m) {
+            let o = other_of(table, i, m);
+            let g = gap_of(table, i);
+            put_naming(index, next, i as i32, o, g);
+            next += 1;
+        }
+        i += 1;
+    }
+    next
+}
+
+fn bit(t: bool) -> i32
+    ensures { λ r. ⌜ r ≡ pos (bitOf t) ⌝ }
+{
+    if t { 1 } else { 0 }
+}
+
+// The index of the first k rules: measure by measure, rule by rule, each naming behind the last.
+pub fn indexed(table: &Table, k: u32) -> Index
+    ensures { λ r. ⌜ Indexed r (lowers (now (table .entry))) (gaps (now (table .entry))) (uppers (now (table .entry))) (firms (now (table .entry))) (min k 64) ⌝ }
+{
+    let rules = rows::capped(k, 64);
+    let top = highest(table, rules);
+    let mut index = [0i32; 512];
+    let mut n: usize = 0;
+    let mut m: usize = 1;
+    while m < 33 {
+        let measure = m as u32;
+        n = add_namings(&mut index, table, rules, top, measure, n);
+        index[m + 1] = n as i32;
+        index[64 + m] = bit(firm_below(table, k, top, measure));
+        m += 1;
+    }
+    index
+}
+
+// ---- the rules on a row
+
+// A measure from 1 to 32 as it is; 0 for any other.
+fn listed(m: u32) -> usize
+    ensures { λ r. ⌜ (r ≡ listedAs m) × (r ≤ 32) ⌝ }
+{
+    if m <= 32 {
+        return m as usize;
+    }
+    0
+}
+
+// How many of n values from a place on an array of so many has.
+fn room(len: usize, at: usize, n: usize) -> usize
+    ensures { λ r. ⌜ r ≡ min n (len - at) ⌝ }
+{
+    if at < len {
+        let k = len - at;
+        if n < k {
+            return n;
+        }
+        return k;
+    }
+    0
+}
+
+// The value at a place past a row, where the measure that is tested counts as y.
+fn outside(p: usize, y: i32) -> i32
+    ensures { λ r. ⌜ r ≡ cond (eqb p 33) y (pos 0) ⌝ }
+{
+    if p == 33 {
+        return y;
+    }
+    0
+}
+
+// Whether a rule holds that names a measure, which counts as y: from its other measure and its gap, as the index has them, on the row of n values that begins at a
+// place. Nearly all tests are made here, and one look at n is all that they need.
+fn naming_holds(values: &[i32], at: usize, n: usize, y: i32, o: i32, g: i32) -> bool
+    requires { ⌜ (n ≤ 32) × (n ≤ length (now values) - at) ⌝ }
+    ensures { λ t. ⌜ t ≡ sideHolds (value (row (now (values .entry)) at n)) y o g ⌝ }
+{
+    if o < 0 {
+        let p = behind(o) as usize;
+        if p < n {
+            return less_by(values[at + p], g, y);
+        }
+        return less_by(outside(p, y), g, y);
+    }
+    let p = exact::number(o) as usize;
+    if p < n {
+        return less_by(y, g, values[at + p]);
+    }
+    less_by(y, g, outside(p, y))
+}
+
+// Whether each rule holds that the index has for measure m, which counts as x. Any numbers may stand there.
+fn indexed_hold<'a>(
+    index: &'a Index,
+    values: &'a [i32],
     at: usize,
     n: usize,
     m: u32,
     x: i32,
-    a: u32,
-    g: i32,
-    b: u32,
-    sound: bool,
 ) -> bool
-    ensures { λ t. ⌜ t ≡ ((sound && not (namesPair a b m)) || pairHolds (value (withValue m x (row (now (values .entry)) at n))) a g b) ⌝ }
+    requires { ⌜ n ≤ 32 ⌝ }
+    ensures { λ t. ⌜ t ≡ indexedIn (now (index .entry)) m x (row (now (values .entry)) at n) ⌝ }
 {
-    if sound {
-        if !names(a, b, m) {
-            return true;
+    let y = value_with(values, at, n, m, x, m);
+    let size = room(values.len(), at, n);
+    let p = listed(m);
+    let last = rows::capped(exact::number(index[p + 1]), 128);
+    let mut k = exact::number(index[p]) as usize;
+    while k < last {
+        if !naming_holds(values, at, size, y, index[129 + 3 * k], index[130 + 3 * k]) {
+            return false;
         }
+        k += 1;
     }
+    true
+}
+
+fn pair_holds(values: &[i32], at: usize, n: usize, m: u32, x: i32, a: u32, g: i32, b: u32) -> bool
+    ensures { λ t. ⌜ t ≡ pairHolds (value (withValue m x (row (now (values .entry)) at n))) a g b ⌝ }
+{
     less_by(
         value_with(values, at, n, m, x, a),
         g,
@@ -200,15 +338,39 @@ fn stands(
     )
 }
 
-// Whether each of the first k rules that need a test holds on the row of at most 32 values that begins at a place, where measure m
-// counts as x. The caller that knows that all held before says so (`sound`) and lends links: then those along them are tested, which with the
-// rules' own (`Linked`) are the ones that name m.
-pub fn rules_hold<'a>(
-    lower: &'a [u32; 64],
-    gap: &'a [i32; 64],
-    upper: &'a [u32; 64],
+// Whether each of the first k rules holds on the row of at most 32 values that begins at a place, where measure m counts as x.
+pub fn all_hold<'a>(
+    table: &'a Table,
     k: u32,
-    links: &'a Links,
+    values: &'a [i32],
+    at: usize,
+    n: u32,
+    m: u32,
+    x: i32,
+) -> bool
+    ensures { λ t. ⌜ t ≡ testedIn false m (lowers (now (table .entry))) (gaps (now (table .entry))) (uppers (now (table .entry))) (min k 64) x (row (now (values .entry)) at (min n 32)) ⌝ }
+{
+    let end = rows::capped(k, 64);
+    let size = rows::capped(n, 32);
+    let mut i: usize = 0;
+    while i < end {
+        let a = lower_of(table, i);
+        let b = upper_of(table, i);
+        let g = gap_of(table, i);
+        if !pair_holds(values, at, size, m, x, a, g, b) {
+            return false;
+        }
+        i += 1;
+    }
+    true
+}
+
+// Whether each rule that needs a test holds, on such a row. The caller that knows that all held before says so (`sound`) and lends an index: then those
+// that it has for m are tested, which with the rules' own (`Indexed`) are the ones that name m.
+fn rules_hold<'a>(
+    table: &'a Table,
+    k: u32,
+    index: &'a Index,
     values: &'a [i32],
     at: usize,
     n: u32,
@@ -216,26 +378,13 @@ pub fn rules_hold<'a>(
     x: i32,
     sound: bool,
 ) -> bool
-    ensures { λ t. ⌜ t ≡ testedBy sound (now (links .entry)) m (now (lower .entry)) (now (gap .entry)) (now (upper .entry)) (min k 64) (withValue m x (row (now (values .entry)) at (min n 32))) ⌝ }
+    ensures { λ t. ⌜ t ≡ testedBy sound (now (index .entry)) m (lowers (now (table .entry))) (gaps (now (table .entry))) (uppers (now (table .entry)))
+        (min k 64) x (row (now (values .entry)) at (min n 32)) ⌝ }
 {
-    let end = rows::capped(k, 64);
-    let size = rows::capped(n, 32);
     if sound {
-        if rows::one_to(32, m) {
-            return linked_hold(lower, gap, upper, end, links, values, at, size, m, x);
-        }
+        return indexed_hold(index, values, at, rows::capped(n, 32), m, x);
     }
-    let mut i: usize = 0;
-    while i < end {
-        let a = lower[i];
-        let b = upper[i];
-        let g = gap[i];
-        if !stands(values, at, size, m, x, a, g, b, sound) {
-            return false;
-        }
-        i += 1;
-    }
-    true
+    all_hold(table, k, values, at, n, m, x)
 }
 
 // ---- firm rules
@@ -250,22 +399,16 @@ fn names_firmly(f: bool, a: u32, b: u32, m: u32) -> bool
     false
 }
 
-// Whether one of the first k rules is firm and names the measure.
-pub fn firm_named<'a>(
-    lower: &'a [u32; 64],
-    upper: &'a [u32; 64],
-    firm: &'a [bool; 64],
-    k: u32,
-    m: u32,
-) -> bool
-    ensures { λ t. ⌜ t ≡ firmIn (now (lower .entry)) (now (upper .entry)) (now (firm .entry)) (min k 64) m ⌝ }
+// Whether one of the first k rules is firm and names the measure: a search.
+fn firm_named(table: &Table, k: u32, m: u32) -> bool
+    ensures { λ t. ⌜ t ≡ firmIn (lowers (now (table .entry))) (uppers (now (table .entry))) (firms (now (table .entry))) (min k 64) m ⌝ }
 {
     let end = rows::capped(k, 64);
     let mut i: usize = 0;
     while i < end {
-        let f = firm[i];
-        let a = lower[i];
-        let b = upper[i];
+        let f = firm_of(table, i);
+        let a = lower_of(table, i);
+        let b = upper_of(table, i);
         if names_firmly(f, a, b, m) {
             return true;
         }
@@ -274,15 +417,34 @@ pub fn firm_named<'a>(
     false
 }
 
+// The same where no rule names a measure above `top`.
+fn firm_below(table: &Table, k: u32, top: u32, m: u32) -> bool
+    requires { ⌜ NoneAbove (lowers (now table)) (uppers (now table)) (min k 64) top ⌝ }
+    ensures { λ t. ⌜ t ≡ firmIn (lowers (now (table .entry))) (uppers (now (table .entry))) (firms (now (table .entry))) (min k 64) m ⌝ }
+{
+    if top < m {
+        return false;
+    }
+    firm_named(table, k, m)
+}
+
+// The same from an index that a caller lends, where it knows that all rules hold (`sound`): the rules' own (`Indexed`) says the same.
+pub fn firm_in<'a>(table: &'a Table, k: u32, index: &'a Index, m: u32, sound: bool) -> bool
+    ensures { λ t. ⌜ t ≡ firmBy sound (now (index .entry)) (lowers (now (table .entry))) (uppers (now (table .entry))) (firms (now (table .entry))) (min k 64) m ⌝ }
+{
+    if sound {
+        return exact::number(index[64 + listed(m)]) == 1;
+    }
+    firm_named(table, k, m)
+}
+
 // ---- a change
 
 // A change of measure m tried on a row of at most 32 values against the first k rules, all of which held before if `sound`.
 pub fn try_change<'a>(
-    lower: &'a [u32; 64],
-    gap: &'a [i32; 64],
-    upper: &'a [u32; 64],
+    table: &'a Table,
     k: u32,
-    links: &'a Links,
+    index: &'a Index,
     values: &'a [i32],
     at: usize,
     n: u32,
@@ -290,13 +452,15 @@ pub fn try_change<'a>(
     change: Change,
     sound: bool,
 ) -> Trial
-    ensures { λ r. ⌜ r ≡ trialOf (testedBy sound (now (links .entry)) m (now (lower .entry)) (now (gap .entry)) (now (upper .entry)) (min k 64)) m (viewChange change) (row (now (values .entry)) at (min n 32)) ⌝ }
+    ensures { λ r. ⌜ r ≡ trialOf
+        (testedBy sound (now (index .entry)) m (lowers (now (table .entry))) (gaps (now (table .entry))) (uppers (now (table .entry))) (min k 64)) m
+        (viewChange change) (row (now (values .entry)) at (min n 32)) ⌝ }
 {
     let made = change::apply(change, value_at(values, at, rows::capped(n, 32), m));
     let Applied::InRange(x) = made else {
         return Trial::OutOfRange;
     };
-    if rules_hold(lower, gap, upper, k, links, values, at, n, m, x, sound) {
+    if rules_hold(table, k, index, values, at, n, m, x, sound) {
         return Trial::Effective(x);
     }
     Trial::Broken

@@ -24,11 +24,11 @@ use Rattle.rows.specs.Rows.{span, row}
 use Rattle.rows.proofs.Spans.{length-span}
 use Rattle.heads.specs.Heads.{sidesIn, keptIn, measuresIn}
 use Rattle.state.specs.declared.State.{State}
-use Rattle.state.specs.View.{view, sideOf}
+use Rattle.state.specs.Spread.{spread, sideOf}
+use Rattle.state.specs.View.{view}
 use Rattle.state.proofs.Views.{sides-most}
-use Rattle.state.proofs.Ranges.{Ranged}
-use Rattle.progress.specs.declared.Progress.{Progress}
-use Rattle.progress.specs.Progress.{Ran, ran, Advanced}
+use Rattle.state.proofs.Owned.{Ranged}
+use Rattle.run.specs.Progress.{Ran, ran, Advanced}
 use Rattle.sheet.specs.Runs.{handedBack}
 use Rattle.sheet.specs.Door.{leaves}
 use Rattle.sheet.specs.declared.Piece.{Piece}
@@ -55,8 +55,8 @@ narrow-view p g = record {
   next = short (pos (p .head .next)) (omega (arith, g .next));
   base = row-narrow (p .base) 0 (min (p .head .based) 32) (omega arith) (g .base);
   draft = row-narrow (p .draft) 0 (min (p .head .drafted) 32) (omega arith) (g .draft);
-  sides = span-most 1 (sidesIn (p .head)) 8 (sideOf p) (sides-most (p .head));
-  values = every (λ x. isRow (x .values)) 1 (sidesIn (p .head)) (sideOf p) (λ s. row-narrow (p .values) _ (measuresIn (p .head)) (omega arith) (g .values));
+  sides = span-most 1 (sidesIn (p .head)) 8 (sideOf (spread p)) (sides-most (p .head));
+  values = every (λ x. isRow (x .values)) 1 (sidesIn (p .head)) (sideOf (spread p)) (λ s. row-narrow (p .values) _ (measuresIn (p .head)) (omega arith) (g .values));
   kept = span-most 0 (keptIn (p .head)) 256 _ (omega arith);
   places = every (λ (k : Kept). isShort (pos (k .place))) 0 (keptIn (p .head)) _ (λ i. short (pos (getD (p .edits) i _ .place)) (let b = g .places i in omega arith));
 }
@@ -134,13 +134,13 @@ moved sheet from next h = cases (ltb from next)
 
 module _ (sheet : List ℕ) (from : ℕ) (p : State) (lent : List ℕ) where
   -- of a sheet that is not too long
-  pub piece-run : Ranged p → (r : Progress) (after : List ℕ) → length sheet ≤ 65536 → Advanced longestAnswer sheet from p lent r after → Pieced sheet from p lent (record { state = r .state; next = r .next; written = r .written }) after
-  piece-run g r after fits h =
+  pub piece-run : Ranged p → (q : State) (next written : ℕ) (ended : Bool) (after : List ℕ) → length sheet ≤ 65536 → Advanced longestAnswer sheet from (view p) lent (view q) next written ended after → Pieced sheet from p lent (record { state = q; next = next; written = written }) after
+  piece-run g q next written ended after fits h =
       let s = shared (length lent) (view p) (lines (drop from sheet)) (narrow-view p g) in
       let short = le-ltb 65536 (length sheet) fits in
-      let w = h .written ∙ ap length (s .bytes) in
+      let w = h .put ∙ ap length (s .bytes) in
       let here : due sheet from (view p) ≡ answerLines (view p) (lines (drop from sheet)) = rw short in
-      let there : due sheet (r .next) (view (r .state)) ≡ answerLines (view (r .state)) (lines (drop (r .next) sheet)) = rw short in
+      let there : due sheet next (view q) ≡ answerLines (view q) (lines (drop next sheet)) = rw short in
       record {
         told = s .told;
         parts = here ∙ s .parts ∙ ap (λ ts. s .told ++ ts) (sym (there ∙ ap₂ answerLines (h .plan) (h .rest)));
@@ -152,7 +152,7 @@ module _ (sheet : List ℕ) (from : ℕ) (p : State) (lent : List ℕ) where
             let some = lines-some (drop from sheet) (let l = length-drop from sheet in omega arith) in
             let f = s .further room some in
             let e = ap length (h .rest) in
-            moved sheet from (r .next) (omega (arith, f, e));
+            moved sheet from next (omega (arith, f, e));
       }
 
   -- of one that is too long, where nothing is written

@@ -2,7 +2,7 @@
 use Prim.Native.Nat.{ℕ, _+_, _*_, _-_, _<_, _≤_}
 use native.Mathlib.Omega.{arith}
 use mathlib.Core.Path.{_≡_, refl, ap, ap₂, _∙_}
-use mathlib.Core.Bool.{true, false}
+use mathlib.Core.Bool.{Bool, true, false}
 use mathlib.Core.List.{List, [], _∷_}
 use borrow.Author.Tests.{le-ltb, leb-true, le-leb, lt-leb}
 use lib.Dec.{leb, ltb}
@@ -15,10 +15,8 @@ use Rattle.protocol.proofs.Laws.{cases}
 use Rattle.format.specs.Lines.{lines}
 use Rattle.format.specs.Numbers.{digits}
 use Rattle.format.specs.Sheets.{text, lineStep, answerLines, replies, Fitted, behind, fitted, inFront, screened, screen}
-use Rattle.state.specs.View.{view}
-use Rattle.state.specs.Parts.{blankState}
-use Rattle.progress.specs.declared.Progress.{Progress}
-use Rattle.progress.specs.Progress.{Ran, ran, Advanced}
+use Rattle.state.specs.View.{view, blankState}
+use Rattle.run.specs.Progress.{Ran, ran, Advanced}
 use Rattle.writer.proofs.Puts.{sets-front}
 use Rattle.sheet.specs.Runs.{handedBack}
 
@@ -43,21 +41,21 @@ fitted-most room (t ∷ ts) =
     (λ e. rw e (let a = length-append t (fitted (room - length t) ts .bytes) in let h = leb-true (length t) room e in omega arith))
     (λ e. rw e (omega arith))
 
-module _ (sheet area after : List ℕ) (r : Progress) (h : Advanced 0 sheet 0 blankState area r after) where
+module _ (sheet area after : List ℕ) (q : Plan) (next written : ℕ) (ended : Bool) (h : Advanced 0 sheet 0 (view blankState) area q next written ended after) where
   abbrev whole : Fitted
   whole = fitted (length area) (answerLines start (lines sheet))
 
   ran-whole : wholeOf (ran 0 (length area) (view blankState) (lines (drop 0 sheet))) ≡ whole
   ran-whole = ran-fitted (length area) start (lines sheet)
 
-  pub written-most : r .written ≤ length area
-  written-most = let e : r .written ≡ length (whole .bytes) = h .written ∙ ap (λ f. length (f .bytes)) ran-whole in let m = fitted-most (length area) (answerLines start (lines sheet)) in omega (arith, e, m)
+  pub written-most : written ≤ length area
+  written-most = let e : written ≡ length (whole .bytes) = h .put ∙ ap (λ f. length (f .bytes)) ran-whole in let m = fitted-most (length area) (answerLines start (lines sheet)) in omega (arith, e, m)
 
-  pub screened-is : (n : ℕ) → n ≡ 2 * r .written + bit (r .ended) → ltb 65536 (length sheet) ≡ false → handedBack n after ≡ screen sheet area
+  pub screened-is : (n : ℕ) → n ≡ 2 * written + bit ended → ltb 65536 (length sheet) ≡ false → handedBack n after ≡ screen sheet area
   unfolding screen replies
   screened-is n e f =
-      let w = h .written ∙ ap (λ x. length (x .bytes)) ran-whole in
-      let d = h .ended ∙ ap (λ x. x .ended) ran-whole in
+      let w = h .put ∙ ap (λ x. length (x .bytes)) ran-whole in
+      let d = h .over ∙ ap (λ x. x .ended) ran-whole in
       let b = h .buffer ∙ ap (λ x. inFront (x .bytes) area) ran-whole in
       rw f (λ i. record { number = (e ∙ (λ j. 2 * w j + bit (d j))) i; buffer = b i })
 

@@ -1,4 +1,4 @@
--- A sheet answered piece by piece: the answer lines that are due from a place of it on, and what a piece writes of them. Assumes nothing.
+-- Believed: a sheet answered piece by piece: the answer lines that are due from a place of it on, and what a piece writes of them. Assumes nothing.
 use Prim.Native.Nat.{ℕ, _<_, _≤_}
 use mathlib.Core.Path.{_≡_}
 use mathlib.Core.Bool.{false, cond}

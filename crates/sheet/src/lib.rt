@@ -59,7 +59,7 @@ pub fn run(sheet: &[u8], area: &mut [u8]) -> u64
         return refuse_sheet(area);
     }
     let p = state::blank();
-    let r = progress::advance(p, 0, sheet, 0, area);
+    let r = run::advance(p, 0, sheet, 0, area);
     handed(r.written, r.ended)
 }
 
@@ -98,7 +98,7 @@ pub fn next_piece(p: State, sheet: &[u8], from: usize, area: &mut [u8]) -> Piece
     if LIMIT < sheet.len() {
         return refuse_piece(p, sheet, from, area);
     }
-    let r = progress::advance(p, RESERVE, sheet, from, area);
+    let r = run::advance(p, RESERVE, sheet, from, area);
     let state = r.state;
     Piece {
         state,

@@ -1,14 +1,10 @@
--- Laws of the view of a state: lengths, sides, kept edits, the whole. Assumes nothing.
+-- Laws of the planOf of a state: lengths, sides, kept edits, the whole. Assumes nothing.
 use Prim.Native.Nat.{ℕ, zero, suc, _+_, _<_, _≤_, min}
 use native.Mathlib.Omega.{arith}
 use mathlib.Core.Bool.{Bool, true, false, not, cond}
 use mathlib.Core.Path.{_≡_, sym, ap, ap₂, _∙_}
 use mathlib.Core.Logic.{_≢_}
 use mathlib.Core.List.{List, [], _∷_, map}
-use borrow.Author.Needs.{needs}
-use denote.Laws.{Is}
-use denote.Struct.Declared as Declared
-use denote.Struct.Laws.{val}
 use lib.Dec.{eqb, ltb}
 use lib.IntN.{ℤ, pos}
 use lib.ListN.{length, getD, set, length-map}
@@ -17,30 +13,17 @@ use Rattle.protocol.specs.Plan.{Side, Mode, modeNumber, Content, Plan, absentSi
 use Rattle.protocol.proofs.Laws.{count-to-same}
 use Rattle.rows.specs.Rows.{span, row}
 use Rattle.rows.proofs.Spans.{length-span, span-same, span-snoc, nth-span, modify-span, getD-set, getD-other}
-use Rattle.state.proofs.State.{the-type}
-use Rattle.state.proofs.State.Laws.{the-laws}
 use Rattle.heads.specs.declared.Head.{Head}
-use Rattle.state.specs.declared.State.{State}
+use Rattle.state.specs.Spread.{Spread}
 use Rattle.heads.specs.Heads.{modeOf, sidesIn, indexOf, measuresIn, endIn, keptIn, positionOf, slotAt, unsetIn}
 use Rattle.records.specs.declared.EditRecord.{EditRecord}
 use Rattle.records.specs.Records.{keptAt, noRecord, recordOf}
-use Rattle.state.specs.View.{view, sideOf}
-use Rattle.state.specs.Parts.{namedIn}
+use Rattle.state.specs.Spread.{planOf, sideOf}
+use Rattle.state.specs.Sizes.{Sized}
+use Rattle.state.specs.Spread.{namedIn}
 use Rattle.records.proofs.Logs.{lookup-record}
 
 -- ---- lengths
-
-pub record Sized (p : State) : Type 0 where
-  pub base : length (p .base) ≡ 32
-  pub draft : length (p .draft) ≡ 32
-  pub values : length (p .values) ≡ 256
-  pub arrived : length (p .arrived) ≡ 8
-  pub confirmed : length (p .confirmed) ≡ 8
-  pub lower : length (p .lower) ≡ 64
-  pub gap : length (p .gap) ≡ 64
-  pub upper : length (p .upper) ≡ 64
-  pub firm : length (p .firm) ≡ 64
-  pub edits : length (p .edits) ≡ 256
 
 -- what owning a struct tells of a field that is an array of structs: its length, under a map
 pub unmapped : (A B : Type 0) (f : A → B) (l : List A) (n : ℕ) → length (map f l) ≡ n → length l ≡ n
@@ -62,10 +45,10 @@ sides-most h = by (ltb (modeNumber (modeOf (h .mode))) 2)
     by true = omega arith
     by false = omega arith
 
-pub sides-length : (p : State) → length (view p .content .sides) ≡ sidesIn (p .head)
+pub sides-length : (p : Spread) → length (planOf p .content .sides) ≡ sidesIn (p .head)
 sides-length p = length-span 1 (sidesIn (p .head)) (sideOf p)
 
-pub side-at : (p : State) (s : ℕ) → 0 < s → s ≤ sidesIn (p .head) → sideAt (view p .content) s ≡ sideOf p s
+pub side-at : (p : Spread) (s : ℕ) → 0 < s → s ≤ sidesIn (p .head) → sideAt (planOf p .content) s ≡ sideOf p s
 side-at p zero h k = absurd (omega arith)
 side-at p (suc s) h k = nth-span absentSide 1 (sidesIn (p .head)) (sideOf p) s (omega arith) ∙ (let e : 1 + s ≡ suc s = omega arith in ap (sideOf p) e)
 
@@ -88,7 +71,7 @@ sides-least h = by (ltb (modeNumber (modeOf (h .mode))) 2)
     by false = omega arith
 
 -- side 1's values, where a blank plan has its measures
-pub first-row : (p : State) → sideAt (view p .content) 1 .values ≡ row (p .values) 0 (measuresIn (p .head))
+pub first-row : (p : Spread) → sideAt (planOf p .content) 1 .values ≡ row (p .values) 0 (measuresIn (p .head))
 first-row p = ap (λ x. x .values) (side-at p 1 (omega arith) (sides-least (p .head)))
 
 -- one value more in a row
@@ -98,30 +81,14 @@ row-snoc vs at n v h =
     ∙ ap₂ (λ xs x. snoc xs x) (span-same at n _ _ (λ k a b. getD-other vs (at + n) k v (pos 0) (λ e. omega arith))) (getD-set vs (at + n) v (pos 0) h)
 
 -- how many sides have a flag that is not set, as the protocol counts them
-pub flags-unset : (p : State) (flag : Side → Bool) (flags : List Bool) → ((s : ℕ) → flag (sideOf p s) ≡ getD flags (indexOf s) false) → sidesThat (λ s. not (flag (sideAt (view p .content) s))) (view p .content) ≡ unsetIn flags (sidesIn (p .head))
+pub flags-unset : (p : Spread) (flag : Side → Bool) (flags : List Bool) → ((s : ℕ) → flag (sideOf p s) ≡ getD flags (indexOf s) false) → sidesThat (λ s. not (flag (sideAt (planOf p .content) s))) (planOf p .content) ≡ unsetIn flags (sidesIn (p .head))
 flags-unset p flag flags h =
-    ap (countTo (λ s. not (flag (sideAt (view p .content) s)))) (sides-length p)
+    ap (countTo (λ s. not (flag (sideAt (planOf p .content) s)))) (sides-length p)
     ∙ count-to-same _ _ (sidesIn (p .head)) (λ s a b. ap (λ x. not (flag x)) (side-at p s a b) ∙ ap not (h s))
 
 -- the edit that a number names, as the protocol finds it
-pub lookup-named : (p : State) (n : ℕ) → lookup n (view p .content .kept) ≡ keptAt (cond (eqb (positionOf (endIn (p .head)) (keptIn (p .head)) n) 0) 0 n) (namedIn p n)
+pub lookup-named : (p : Spread) (n : ℕ) → lookup n (planOf p .content .kept) ≡ keptAt (cond (eqb (positionOf (endIn (p .head)) (keptIn (p .head)) n) 0) 0 n) (namedIn p n)
 lookup-named p n = lookup-record (endIn (p .head)) (keptIn (p .head)) n (p .edits) (omega arith)
 
 pub row-length : (vs : List ℤ) (at n : ℕ) → length (row vs at n) ≡ n
 row-length vs at n = length-span at n (λ i. getD vs i (pos 0))
-
--- ---- what owning a state tells, as a parameter's `good` says it
-
-pub owned-sized : (p : State) → Is (Declared.row the-type) p (val the-type the-laws p ∷ []) → Sized p
-owned-sized p g = record {
-  base = search needs;
-  draft = search needs;
-  values = search needs;
-  arrived = search needs;
-  confirmed = search needs;
-  lower = search needs;
-  gap = search needs;
-  upper = search needs;
-  firm = search needs;
-  edits = search unmapped;
-}

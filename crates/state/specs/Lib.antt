@@ -1,3 +1,4 @@
 pub mod View
-pub mod Parts
 pub mod Meets
+pub mod Spread
+pub mod Sizes

@@ -1,4 +1,4 @@
--- The line of an answer, and the area that it is put into. Assumes nothing.
+-- Scaffolding: the line of an answer, and the area that it is put into. Assumes nothing.
 use Prim.Native.Nat.{ℕ}
 use mathlib.Core.Bool.{Bool, cond}
 use mathlib.Core.List.{List, [], _∷_, _++_}

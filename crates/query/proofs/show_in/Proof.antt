@@ -11,9 +11,10 @@ use Rattle.protocol.specs.Calls.{Check, first, fine}
 use Rattle.rows.specs.Rows.{row}
 use Rattle.heads.specs.Heads.{measuresIn, offsetOf}
 use Rattle.state.specs.Meets.{refusalOf}
+use Rattle.state.specs.Spread.{spread}
 use Rattle.state.proofs.Views.{row-length}
 use Rattle.state.proofs.Meeting.{verdict-refused, verdict-fine, fine-pass}
-use Rattle.figures.specs.Reads.{showChecks}
+use Rattle.query.specs.Reads.{showChecks}
 use Rattle.query.proofs.Readings.{shown-refused, shown-fine}
 use borrow.Author.Needs.{needs}
 use Rattle.query.proofs.show_in.Statement.{statement}
@@ -21,7 +22,7 @@ use Rattle.query.proofs.show_in.Tie as tie
 use Rattle.query.proofs.show_in.Reads as reads
 use Rattle.query.proofs.show_in.Lts as lts
 use Rattle.exact.proofs.number.Reads as number-reads
-use Rattle.figures.proofs.show_refusal.Reads as show-refusal-reads
+use Rattle.query.proofs.show_refusal.Reads as show-refusal-reads
 use Rattle.heads.proofs.offset.Reads as offset-reads
 use Rattle.query.proofs.fill.Reads as fill-reads
 use Rattle.rows.proofs.capped.Reads as capped-reads
@@ -52,7 +53,7 @@ show-refusal-requires c κs = search needs
 returns : tie.Need-returns
 returns c =
     let a = c .before .before .before .before .args in
-    let e = shown-refused (a .t1) (a .s) (a .buffer .now) _ (verdict-refused (first (asked (c .before .before .before .before))) _ (verdict (c .before)) (c .if1 .taken)) in
+    let e = shown-refused (spread (a .t1)) (a .s) (a .buffer .now) _ (verdict-refused (first (asked (c .before .before .before .before))) _ (verdict (c .before)) (c .if1 .taken)) in
     (sym (ap (λ x. length (x .front)) e), sym (ap (λ x. x .refusal) e), sym (ap (λ x. x .buffer) e))
 
 capped-requires : tie.Need-capped-requires
@@ -74,7 +75,7 @@ same-length c = search needs
 returns-2 : tie.Need-returns-2
 returns-2 c =
     let a = c .before .before .before .before .before .before .before .before .before .before .before .args in
-    let e = shown-fine (a .t1) (a .s) (a .buffer .now) (accepted (c .before .before .before .before .before .before .before)) in
+    let e = shown-fine (spread (a .t1)) (a .s) (a .buffer .now) (accepted (c .before .before .before .before .before .before .before)) in
     let n = c .before .before .before .before .before .before .capped .ensures in
     let o = c .before .before .before .before .before .offset .ensures .0 ∙ ap offsetOf (side (c .before .before .before .before .before .before .before .before .before)) in (
       n ∙ sym (row-length (a .t1 .values) (offsetOf (natural (a .s))) (measuresIn (a .t1 .head))) ∙ sym (ap (λ x. length (x .front)) e),

@@ -1,9 +1,11 @@
+use Rattle.rules.specs.Table.{lowers, gaps, uppers, firms}
 use borrow.Author.Needs.{needs}
 use native.Mathlib.Omega.{arith}
 use Prim.Native.Nat.{_-_, min}
-use mathlib.Core.Path.{sym, _∙_}
+use mathlib.Core.Path.{_≡_, sym, _∙_}
+use mathlib.Core.Bool.{_&&_}
 use Rattle.protocol.specs.Lists.{any}
-use Rattle.rules.specs.Rules.{firmAt, firmIn}
+use Rattle.rules.specs.Rules.{namesPair, firmAt, firmIn}
 use Rattle.rows.proofs.Spans.{Walked, walk-begin, any-next, any-stop, any-over}
 use Rattle.rules.proofs.firm_named.Statement.{statement}
 use Rattle.rules.proofs.firm_named.Tie as tie
@@ -13,10 +15,10 @@ use Rattle.rows.proofs.capped.Reads as capped-reads
 use Rattle.rules.proofs.names_firmly.Reads as names-firmly-reads
 
 abbrev Inv-loop : tie.InvT-loop
-Inv-loop lower upper firm k m end i₀ i = Walked (any (firmAt lower upper firm m)) (λ j. j) (min k 64) i
+Inv-loop table k m end i₀ i = Walked (any (firmAt (lowers table) (uppers table) (firms table) m)) (λ j. j) (min k 64) i
 
 abbrev μ-loop : tie.MeasureT-loop
-μ-loop lower upper firm k m end i₀ i = end - i
+μ-loop table k m end i₀ i = end - i
 
 capped-requires : tie.Need-capped-requires Inv-loop μ-loop
 capped-requires c κs = search needs
@@ -24,20 +26,23 @@ capped-requires c κs = search needs
 loop-holds : tie.Need-loop-holds Inv-loop μ-loop
 loop-holds c = walk-begin _ _ _
 
-element-copy-out-f : tie.Need-element-copy-out-f Inv-loop μ-loop
-element-copy-out-f c = omega arith
+-- the rule at hand
+tested : (c : tie.After-names-firmly Inv-loop μ-loop) → let b = c .before .before .before .before .before .before .before .args .table .now in c .names-firmly .result ≡ firmAt (lowers b) (uppers b) (firms b) (c .before .before .before .before .before .before .before .args .m) (c .before .before .before .before .before .loop .i)
+tested c =
+    let m = c .before .before .before .before .before .before .before .args .m in
+    let f = c .before .before .before .firm-of .ensures in
+    let a = c .before .before .lower-of .ensures in
+    let b = c .before .upper-of .ensures in
+    c .names-firmly .ensures ∙ (λ j. f j && namesPair (a j) (b j) m)
 
-mul-a : tie.Need-mul-a Inv-loop μ-loop
-mul-a c = omega arith
+firm-of-requires : tie.Need-firm-of-requires Inv-loop μ-loop
+firm-of-requires c κs = omega arith
 
-element-copy-out-a : tie.Need-element-copy-out-a Inv-loop μ-loop
-element-copy-out-a c = omega arith
+lower-of-requires : tie.Need-lower-of-requires Inv-loop μ-loop
+lower-of-requires c κs = omega arith
 
-mul-b : tie.Need-mul-b Inv-loop μ-loop
-mul-b c = omega arith
-
-element-copy-out-b : tie.Need-element-copy-out-b Inv-loop μ-loop
-element-copy-out-b c = omega arith
+upper-of-requires : tie.Need-upper-of-requires Inv-loop μ-loop
+upper-of-requires c κs = omega arith
 
 names-firmly-requires : tie.Need-names-firmly-requires Inv-loop μ-loop
 names-firmly-requires c κs = search needs
@@ -45,7 +50,7 @@ names-firmly-requires c κs = search needs
 returns : tie.Need-returns Inv-loop μ-loop
 unfolding firmIn
 returns c =
-    any-stop _ _ _ _ ((c .before .before .before .before .before .before .loop .inv)) (omega arith) (sym ((c .before .names-firmly .ensures)) ∙ (c .if1 .taken))
+    any-stop _ _ _ _ ((c .before .before .before .before .before .before .loop .inv)) (omega arith) (sym (tested (c .before)) ∙ (c .if1 .taken))
 
 add-i : tie.Need-add-i Inv-loop μ-loop
 add-i c = omega arith
@@ -55,7 +60,7 @@ loop-less c = omega arith
 
 loop-again : tie.Need-loop-again Inv-loop μ-loop
 loop-again c =
-    any-next _ _ _ _ ((c .before .before .before .before .before .before .loop .inv)) (omega arith) (sym ((c .before .names-firmly .ensures)) ∙ (c .if1 .left))
+    any-next _ _ _ _ ((c .before .before .before .before .before .before .loop .inv)) (omega arith) (sym (tested (c .before)) ∙ (c .if1 .left))
 
 returns-2 : tie.Need-returns-2 Inv-loop μ-loop
 unfolding firmIn
@@ -69,11 +74,9 @@ firm-named-spec =
     μ-loop
     capped-requires
     loop-holds
-    element-copy-out-f
-    mul-a
-    element-copy-out-a
-    mul-b
-    element-copy-out-b
+    firm-of-requires
+    lower-of-requires
+    upper-of-requires
     names-firmly-requires
     returns
     add-i

@@ -1,109 +1,97 @@
 use borrow.Author.Needs.{needs}
+use Prim.Native.Nat.{_+_, _-_, _<_, _≤_, min}
 use native.Mathlib.Omega.{arith}
-use Prim.Native.Nat.{_+_, _-_, _≤_, min}
-use mathlib.Core.Path.{_≡_, refl, sym, subst, _∙_}
-use lib.ListN.{length, replicate, length-set, getD-replicate}
-use Rattle.rules.specs.Rules.{Linked}
-use Rattle.rules.proofs.Links.{link-begin, link-next}
+use mathlib.Core.Path.{_≡_, refl, sym, ap, subst, _∙_}
+use lib.IntN.{pos}
+use lib.ListN.{length, replicate}
+use mir.Facts.{toZ-ofZ}
+use Rattle.exact.proofs.Ints.{fits32}
+use Rattle.rows.proofs.Spans.{getD-blank}
+use Rattle.rules.specs.Table.{lowers, gaps, uppers, firms}
+use Rattle.rules.specs.Rules.{firmIn}
+use Rattle.rules.specs.Index.{NoneAbove, Indexed}
+use Rattle.rules.proofs.Making.{Indexing, indexing-begin, indexing-over, indexing-room, indexing-few, indexing-next}
 use Rattle.rules.proofs.indexed.Statement.{statement}
 use Rattle.rules.proofs.indexed.Tie as tie
 use Rattle.rules.proofs.indexed.Reads as reads
 use Rattle.rules.proofs.indexed.Lts as lts
 use Rattle.rows.proofs.capped.Reads as capped-reads
-use Rattle.rules.proofs.listed.Reads as listed-reads
+use Rattle.rules.proofs.add_namings.Reads as add-namings-reads
+use Rattle.rules.proofs.bit.Reads as bit-reads
+use Rattle.rules.proofs.firm_below.Reads as firm-below-reads
 
 abbrev Inv-loop : tie.InvT-loop
-Inv-loop lower upper k end none links₀ i₀ links i = (i ≤ end) × (length links ≡ 161) × Linked links lower upper i (min k 64)
+Inv-loop table k rules top index₀ n₀ m₀ index n m = Indexing (lowers table) (gaps table) (uppers table) (firms table) rules index n m
 
 abbrev μ-loop : tie.MeasureT-loop
-μ-loop lower upper k end none links₀ i₀ links i = i
+μ-loop table k rules top index₀ n₀ m₀ index n m = 33 - m
 
 capped-requires : tie.Need-capped-requires Inv-loop μ-loop
 capped-requires c κs = search needs
 
-cast-none : tie.Need-cast-none Inv-loop μ-loop
-cast-none c = omega arith
+highest-requires : tie.Need-highest-requires Inv-loop μ-loop
+highest-requires c κs = search needs
 
 loop-holds : tie.Need-loop-holds Inv-loop μ-loop
-loop-holds c =
-    let a = (c .before .args) in
-    let n = (c .capped .result) in
-    let e = (c .capped .ensures) in
-    (omega arith, refl, subst (λ i. Linked (replicate 161 n) (a .lower .now) (a .upper .now) i (min (a .k) 64)) (sym e) (link-begin (replicate 161 n) (a .lower .now) (a .upper .now) (min (a .k) 64) (λ j h. getD-replicate 161 j n 0 h ∙ e)))
+loop-holds c = indexing-begin _ _ _ _ _ (replicate 512 (pos 0)) refl (λ j. getD-blank 512 j (pos 0))
 
-sub-i : tie.Need-sub-i Inv-loop μ-loop
-sub-i c = omega arith
+cast-measure : tie.Need-cast-measure Inv-loop μ-loop
+cast-measure c = omega arith
 
-mul-listed : tie.Need-mul-listed Inv-loop μ-loop
-mul-listed c = omega arith
+add-namings-requires : tie.Need-add-namings-requires Inv-loop μ-loop
+add-namings-requires c κs =
+    ((c .before .before .loop .inv .long), omega arith, (c .before .before .before .highest .ensures), indexing-room _ _ _ _ _ _ _ _ (c .before .before .loop .inv) (omega arith) (omega arith))
 
-element-copy-out-listed : tie.Need-element-copy-out-listed Inv-loop μ-loop
-element-copy-out-listed c = omega arith
+cast-index : tie.Need-cast-index Inv-loop μ-loop
+cast-index c =
+    fits32 _ (let f = indexing-few _ _ _ _ _ _ _ _ (c .before .before .before .loop .inv) (omega arith) (omega arith) _ _ (c .add-namings .ensures) in omega arith)
 
-listed-requires : tie.Need-listed-requires Inv-loop μ-loop
-listed-requires c κs = search needs
+add-index : tie.Need-add-index Inv-loop μ-loop
+add-index c = omega arith
 
-add-a : tie.Need-add-a Inv-loop μ-loop
-add-a c = omega arith
+mul-index : tie.Need-mul-index Inv-loop μ-loop
+mul-index c = omega arith
 
-mul-listed-2 : tie.Need-mul-listed-2 Inv-loop μ-loop
-mul-listed-2 c = omega arith
+array-set-from-index : tie.Need-array-set-from-index Inv-loop μ-loop
+array-set-from-index c = omega arith
 
-element-copy-out-listed-2 : tie.Need-element-copy-out-listed-2 Inv-loop μ-loop
-element-copy-out-listed-2 c = omega arith
+firm-below-requires : tie.Need-firm-below-requires Inv-loop μ-loop
+firm-below-requires c κs =
+    let s = c .before .before .before .before .before .before in subst (λ n. NoneAbove (lowers (s .args .table .now)) (uppers (s .args .table .now)) n (c .before .before .before .before .highest .result)) (c .before .before .before .before .before .capped .ensures) (c .before .before .before .before .highest .ensures)
 
-listed-requires-2 : tie.Need-listed-requires-2 Inv-loop μ-loop
-listed-requires-2 c κs = search needs
+bit-requires : tie.Need-bit-requires Inv-loop μ-loop
+bit-requires c κs = search needs
 
-add-b : tie.Need-add-b Inv-loop μ-loop
-add-b c = omega arith
+add-index-2 : tie.Need-add-index-2 Inv-loop μ-loop
+add-index-2 c = omega arith
 
-array-read-below : tie.Need-array-read-below Inv-loop μ-loop
-array-read-below c = omega arith
+mul-index-2 : tie.Need-mul-index-2 Inv-loop μ-loop
+mul-index-2 c = omega arith
 
-array-read-above : tie.Need-array-read-above Inv-loop μ-loop
-array-read-above c = omega arith
+array-set-from-index-2 : tie.Need-array-set-from-index-2 Inv-loop μ-loop
+array-set-from-index-2 c = omega arith
 
-array-write-links : tie.Need-array-write-links Inv-loop μ-loop
-array-write-links c = omega arith
-
-add-links : tie.Need-add-links Inv-loop μ-loop
-add-links c = omega arith
-
-array-write-links-2 : tie.Need-array-write-links-2 Inv-loop μ-loop
-array-write-links-2 c = omega arith
-
-cast-links : tie.Need-cast-links Inv-loop μ-loop
-cast-links c = omega arith
-
-array-write-links-3 : tie.Need-array-write-links-3 Inv-loop μ-loop
-array-write-links-3 c = omega arith
-
-cast-links-2 : tie.Need-cast-links-2 Inv-loop μ-loop
-cast-links-2 c = omega arith
-
-array-write-links-4 : tie.Need-array-write-links-4 Inv-loop μ-loop
-array-write-links-4 c = omega arith
+add-m : tie.Need-add-m Inv-loop μ-loop
+add-m c = omega arith
 
 loop-less : tie.Need-loop-less Inv-loop μ-loop
 loop-less c = omega arith
 
 loop-again : tie.Need-loop-again Inv-loop μ-loop
 loop-again c =
-    let a = (c .before .before .before .before .before .before .before .args) in
-    let l = (c .before .before .before .before .before .loop) in
-    let same : l .i ≡ l .i - 1 + 1 = omega arith in (
-      omega arith,
-      simp length-set (l .inv .1),
-      link-next (l .links) (a .lower .now) (a .upper .now) (min (a .k) 64) (l .i - 1) (c .before .before .listed .result) (c .listed2 .result) (subst (λ i. Linked (l .links) (a .lower .now) (a .upper .now) i (min (a .k) 64)) same (l .inv .2)) (omega arith) (omega arith) (l .inv .1) (c .before .before .listed .ensures .0) (c .listed2 .ensures .0) (c .before .before .listed .ensures .1) (c .listed2 .ensures .1),
-    )
+    let a = (c .before .before .before .before .before .before .before .before .args) in
+    let next = (c .before .before .add-namings .result) in
+    let b = (c .bit) in
+    let size : (c .before .before .before .before .before .before .before .capped .result) ≤ 64 = omega arith in
+    let h : (c .before .before .before .before .before .loop .m) < 33 = omega arith in
+    let few = indexing-few _ _ _ _ _ _ _ _ (c .before .before .before .before .before .loop .inv) size h _ _ (c .before .before .add-namings .ensures) in
+    rw (toZ-ofZ (fits32 (pos next) (omega arith)), toZ-ofZ (fits32 (b .result) (b .ok)) ∙ b .ensures)
+    (indexing-next _ _ _ _ _ _ _ _ (c .before .before .before .before .before .loop .inv) size h _ _ (c .before .before .add-namings .ensures) (c .before .firm-below .result) ((c .before .firm-below .ensures) ∙ ap (λ n. firmIn (lowers (a .table .now)) (uppers (a .table .now)) (firms (a .table .now)) n (c .before .before .before .before .before .loop .m)) (sym (c .before .before .before .before .before .before .before .capped .ensures))))
 
 returns : tie.Need-returns Inv-loop μ-loop
 returns c =
-    let a = (c .before .before .before .args) in
-    let l = (c .before .loop) in
-    let e : l .i ≡ 0 = omega arith in
-    subst (λ i. Linked (l .links) (a .lower .now) (a .upper .now) i (min (a .k) 64)) e (l .inv .2)
+    let a = (c .before .before .before .before .args) in
+    subst (Indexed (c .before .loop .index) (lowers (a .table .now)) (gaps (a .table .now)) (uppers (a .table .now)) (firms (a .table .now))) (c .before .before .before .capped .ensures) (indexing-over _ _ _ _ _ _ _ _ (c .before .loop .inv) (omega arith))
 
 pub indexed-spec : {M : Type 1} → statement M
 indexed-spec =
@@ -112,26 +100,20 @@ indexed-spec =
     Inv-loop
     μ-loop
     capped-requires
-    cast-none
+    highest-requires
     loop-holds
-    sub-i
-    mul-listed
-    element-copy-out-listed
-    listed-requires
-    add-a
-    mul-listed-2
-    element-copy-out-listed-2
-    listed-requires-2
-    add-b
-    array-read-below
-    array-read-above
-    array-write-links
-    add-links
-    array-write-links-2
-    cast-links
-    array-write-links-3
-    cast-links-2
-    array-write-links-4
+    cast-measure
+    add-namings-requires
+    cast-index
+    add-index
+    mul-index
+    array-set-from-index
+    firm-below-requires
+    bit-requires
+    add-index-2
+    mul-index-2
+    array-set-from-index-2
+    add-m
     loop-less
     loop-again
     returns)

@@ -1,3 +1,4 @@
+use Rattle.rules.specs.Table.{lowers, gaps, uppers, firms}
 use mathlib.Core.Path.{_≡_, sym, ap, _∙_}
 use Prim.Native.Nat.{min}
 use lib.IntN.{ℤ}
@@ -12,7 +13,8 @@ use mathlib.Core.Bool.{Bool, true, cond}
 use mathlib.Core.List.{List}
 use Rattle.rules.specs.declared.Trial.the-variants.{Effective, Broken}
 use Rattle.rows.specs.Rows.{row}
-use Rattle.rules.specs.Rules.{withValue, testedBy, trialOf}
+use Rattle.rules.specs.Rules.{trialOf}
+use Rattle.rules.specs.Index.{testedBy}
 use Rattle.rules.proofs.Rows.{trial-parts}
 use borrow.Author.Needs.{needs}
 use Rattle.rules.proofs.try_change.Statement.{statement}
@@ -46,8 +48,8 @@ module _ (c : tie.After-rules-hold) where
   abbrev values : List ℤ
   values = row (start .args .values .now) (start .args .at) (min (start .args .n) 32)
 
-  abbrev test : List ℤ → Bool
-  test = testedBy (start .args .sound) (start .args .links .now) (start .args .m) (start .args .lower .now) (start .args .gap .now) (start .args .upper .now) (min (start .args .k) 64)
+  abbrev test : ℤ → List ℤ → Bool
+  test = testedBy (start .args .sound) (start .args .index .now) (start .args .m) (lowers (start .args .table .now)) (gaps (start .args .table .now)) (uppers (start .args .table .now)) (min (start .args .k) 64)
 
   tried : (inRange (result start) ≡ true) × (x ≡ result start)
   tried = ranged-in (result start) x (sym (c .before .before .made .given .1) ∙ gives (c .before .before .before .before))
@@ -55,8 +57,8 @@ module _ (c : tie.After-rules-hold) where
   same : toZ w32 (ofZ w32 x) ≡ result start
   same = toZ-ofZ (fits32 x (c .before .known-told .given .0 .1)) ∙ tried .1
 
-  tested : c .rules-hold .result ≡ test (withValue (start .args .m) (result start) values)
-  tested = c .rules-hold .ensures ∙ ap (λ y. test (withValue (start .args .m) y values)) same
+  tested : c .rules-hold .result ≡ test (result start) values
+  tested = c .rules-hold .ensures ∙ ap (λ y. test y values) same
 
   parts : trialOf test (start .args .m) (viewChange (start .args .change)) values ≡ cond (c .rules-hold .result) (Effective (result start)) Broken
   parts = trial-parts test (start .args .m) (viewChange (start .args .change)) values ∙ rw (tried .0, ← tested)

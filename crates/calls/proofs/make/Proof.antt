@@ -1,0 +1,84 @@
+use mathlib.Core.Path.{sym, _∙_}
+use Rattle.calls.proofs.Turning.{line-rest}
+use borrow.Author.Needs.{needs}
+use Rattle.calls.proofs.make.Statement.{statement}
+use Rattle.calls.proofs.make.Tie as tie
+use Rattle.calls.proofs.make.Reads as reads
+use Rattle.calls.proofs.make.Lts as lts
+use Rattle.calls.proofs.draw_in.Reads as draw-in-reads
+use Rattle.calls.proofs.draws.Reads as draws-reads
+use Rattle.calls.proofs.edit_in.Reads as edit-in-reads
+use Rattle.calls.proofs.move_in.Reads as move-in-reads
+use Rattle.calls.proofs.moves.Reads as moves-reads
+use Rattle.calls.proofs.read_in.Reads as read-in-reads
+use Rattle.calls.proofs.replay_in.Reads as replay-in-reads
+use Rattle.calls.proofs.send_in.Reads as send-in-reads
+
+edit-in-requires : tie.Need-edit-in-requires
+edit-in-requires c κs = search needs
+
+returns : tie.Need-returns
+returns c =
+    let a = (c .before .before .before .before .before .before .args) in (c .edit-in .ensures) (a .base .now) (a .draft .now) (a .confirmed .now)
+
+replay-in-requires : tie.Need-replay-in-requires
+replay-in-requires c κs = search needs
+
+returns-2 : tie.Need-returns-2
+returns-2 c =
+    let a = (c .before .before .before .before .before .before .before .args) in (c .replay-in .ensures) (a .base .now) (a .values .now) (a .confirmed .now)
+
+send-in-requires : tie.Need-send-in-requires
+send-in-requires c κs = search needs
+
+returns-3 : tie.Need-returns-3
+returns-3 c =
+    let a = (c .before .before .before .before .before .args) in (c .send-in .ensures) (a .base .now) (a .draft .now) (a .values .now) (a .confirmed .now) (a .table .now) (a .index .now) (a .look) (a .sound)
+
+moves-requires : tie.Need-moves-requires
+moves-requires c κs = search needs
+
+move-in-requires : tie.Need-move-in-requires
+move-in-requires c κs =
+    sym (c .before .before .before .before .before .before .moves .ensures) ∙ (c .before .before .before .before .before .if4 .taken)
+
+returns-4 : tie.Need-returns-4
+returns-4 c =
+    let a = (c .before .before .before .before .before .before .before .before .before .before .before .args) in (c .move-in .ensures) (a .table .now) (a .index .now) (a .look) (a .sound)
+
+draws-requires : tie.Need-draws-requires
+draws-requires c κs = search needs
+
+draw-in-requires : tie.Need-draw-in-requires
+draw-in-requires c κs = sym (c .before .before .before .before .draws .ensures) ∙ (c .before .before .before .if5 .taken)
+
+returns-5 : tie.Need-returns-5
+returns-5 c =
+    let a = (c .before .before .before .before .before .before .before .before .before .before .before .args) in (c .draw-in .ensures) (a .base .now) (a .draft .now) (a .arrived .now) (a .confirmed .now) (a .look) (a .sound)
+
+read-in-requires : tie.Need-read-in-requires
+read-in-requires c κs =
+    line-rest (c .before .before .before .before .before .before .before .args .l) (c .before .before .before .before .before .before .if1 .left) (c .before .before .before .before .before .if2 .left) (c .before .before .before .before .if3 .left) (sym (c .before .before .before .moves .ensures) ∙ (c .before .before .if4 .left)) (sym (c .before .draws .ensures) ∙ (c .if5 .left))
+
+returns-6 : tie.Need-returns-6
+returns-6 c =
+    let a = (c .before .before .before .before .before .before .before .before .args) in (c .read-in .ensures) (a .base .now) (a .draft .now) (a .values .now) (a .arrived .now) (a .confirmed .now) (a .table .now) (a .index .now) (a .sound)
+
+pub make-spec : {M : Type 1} → statement M
+make-spec =
+    tie.close
+    (tie.spec
+    edit-in-requires
+    returns
+    replay-in-requires
+    returns-2
+    send-in-requires
+    returns-3
+    moves-requires
+    move-in-requires
+    returns-4
+    draws-requires
+    draw-in-requires
+    returns-5
+    read-in-requires
+    returns-6)

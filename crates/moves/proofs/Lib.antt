@@ -1,0 +1,3 @@
+pub mod Partings
+pub mod Moves
+pub mod Sends

@@ -1,0 +1,4 @@
+pub mod Rare
+pub mod Frames
+pub mod Parting
+pub mod Moves

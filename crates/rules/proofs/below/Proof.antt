@@ -1,0 +1,24 @@
+use mathlib.Core.Path.{sym, ap, _∙_}
+use lib.IntN.{negsuc}
+use mir.Facts.{toZ-ofZ}
+use Rattle.exact.proofs.Ints.{flag, natural-below}
+use Rattle.rules.proofs.Signs.{below-is, below-fits}
+use Rattle.rules.proofs.below.Statement.{statement}
+use Rattle.rules.proofs.below.Tie as tie
+use Rattle.rules.proofs.below.Reads as reads
+use Rattle.rules.proofs.below.Lts as lts
+
+returns : tie.Need-returns
+returns c = ap negsuc (sym (natural-below (c .before .args .z) (flag _ (c .before .fits .z) (c .if1 .taken))))
+
+sub-result : tie.Need-sub-result
+sub-result c =
+    rw (toZ-ofZ (c .before .fits .z)) (below-fits (c .before .args .z) (flag _ (c .before .fits .z) (c .if1 .left)) (c .before .fits .z))
+
+returns-2 : tie.Need-returns-2
+returns-2 c =
+    let e = flag _ (c .before .fits .z) (c .if1 .left) in
+    rw (toZ-ofZ (c .before .fits .z)) (toZ-ofZ (below-fits (c .before .args .z) e (c .before .fits .z)) ∙ below-is (c .before .args .z) e)
+
+pub below-spec : {M : Type 1} → statement M
+below-spec = tie.close (tie.spec returns sub-result returns-2)

@@ -1,0 +1,149 @@
+// The run over a sheet (01, "The sheet program"): each line is read, made on the plan and answered. The loop owns the plan: it lends its numbers to the call, and keeps its edits.
+ghost use mathlib.Core.Path.{_≡_};
+ghost use mathlib.Core.Bool.{true};
+ghost use Rattle.protocol.specs.Plan.{is, blank};
+ghost use Rattle.heads.specs.Heads.{modeOf};
+ghost use Rattle.counts.specs.Tallies.{Tallied};
+ghost use Rattle.state.specs.View.{view};
+ghost use Rattle.run.specs.Progress.{lastOf, Advanced};
+use calls::Look;
+use counts::Tallies;
+use records::Test;
+use state::State;
+
+// Where a run stands: the plan, the place of the line that comes next, how many bytes were written, and whether an answer did not fit.
+pub struct Progress {
+    pub state: State,
+    pub next: usize,
+    pub written: usize,
+    pub ended: bool,
+}
+
+// Where the last line that is begun ends: nowhere, if an answer did not fit or less room is left than the reserve.
+fn last(len: usize, ended: bool, room: usize, reserve: usize) -> usize
+    ensures { λ r. ⌜ r ≡ lastOf len ended room reserve ⌝ }
+{
+    if ended {
+        return 0;
+    }
+    if room < reserve {
+        return 0;
+    }
+    len
+}
+
+// The loop. In a plan that was handed in blank (`sound`) every rule holds once it is open, and every call keeps it so; its rules are indexed then.
+fn go(
+    p: State,
+    t: Tallies,
+    sound: bool,
+    reserve: usize,
+    sheet: &[u8],
+    from: usize,
+    area: &mut [u8],
+) -> Progress
+    requires { ⌜ Tallied t (view p) × (sound ≡ true → is blank (modeOf (p .head .mode)) ≡ true) ⌝ }
+    ensures { λ r. ⌜ Advanced reserve (now (sheet .entry)) from (view p) (now (area .entry)) (view (r .state)) (r .next) (r .written) (r .ended) (now (area .exit)) ⌝ }
+{
+    let mut head = p.head;
+    let mut base = p.base;
+    let mut draft = p.draft;
+    let mut values = p.values;
+    let mut arrived = p.arrived;
+    let mut confirmed = p.confirmed;
+    let mut table = p.table;
+    let mut edits = p.edits;
+    let mut counts = t;
+    let mut index = [0i32; 512];
+    let mut at: usize = 0;
+    let mut i = from;
+    let mut ended = false;
+    let mut stop = last(sheet.len(), ended, area.len(), reserve);
+    while i < stop {
+        let line = reader::read_line(&sheet[i..]);
+        let named = calls::first_look(line, head);
+        let slot = heads::slot(named);
+        let standing = edits[slot];
+        let next = calls::second_look(line, head, named, standing);
+        let seat = heads::slot(next);
+        let seen = edits[seat];
+        let look = Look {
+            named,
+            standing,
+            next,
+            seen,
+        };
+        let e = calls::make(
+            line,
+            head,
+            &mut base,
+            &mut draft,
+            &mut values,
+            &mut arrived,
+            &mut confirmed,
+            &mut table,
+            &mut index,
+            look,
+            counts,
+            sound,
+        );
+        let h = e.head;
+        let c = e.counts;
+        let place = e.slot;
+        let entry = e.entry;
+        head = h;
+        counts = c;
+        if e.kept {
+            edits[place] = entry;
+        }
+        let side = exact::number(line.a);
+        let marked = e.marked;
+        let mut j: usize = 0;
+        while j < marked {
+            let r = edits[j];
+            if records::satisfies(r, Test::UnsentOf(side)) != 0 {
+                let s = moves::sent_record(r, side);
+                edits[j] = s;
+            }
+            j += 1;
+        }
+        let first = e.from;
+        let width = e.width;
+        let answer = e.answer;
+        let vs = &values[..];
+        let n = writer::put(answer, &vs[first..first + width], &mut area[at..]);
+        ended = n == 0;
+        at += n;
+        i = i + line.end + 1;
+        stop = last(sheet.len(), ended, area.len() - at, reserve);
+    }
+    let state = State {
+        head,
+        base,
+        draft,
+        values,
+        arrived,
+        confirmed,
+        table,
+        edits,
+    };
+    Progress {
+        state,
+        next: i,
+        written: at,
+        ended,
+    }
+}
+
+// Goes on from a line of the sheet, as long as `reserve` bytes of the area are free and each answer fits. The rules of a plan that is handed in
+// blank are tested when it is opened; of another nothing is known.
+pub fn advance(p: State, reserve: usize, sheet: &[u8], from: usize, area: &mut [u8]) -> Progress
+    ensures { λ r. ⌜ Advanced reserve (now (sheet .entry)) from (view p) (now (area .entry)) (view (r .state)) (r .next) (r .written) (r .ended) (now (area .exit)) ⌝ }
+{
+    let h = p.head;
+    let mode = h.mode;
+    let sound = heads::mode_number(mode) == 0;
+    let edits = p.edits;
+    let counts = query::tallies(edits, h, &p.arrived, &p.confirmed);
+    go(p, counts, sound, reserve, sheet, from, area)
+}
