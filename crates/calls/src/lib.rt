@@ -1,5 +1,5 @@
-// The fourteen calls (01, "The calls"), each made on what the owner of a plan lends: numbers in place, kept edits as the owner's part. There is one contract for
-// all (specs/Makes): for all kept edits of which what was handed over is true, the answer and the plan are the protocol's.
+// Internal, for `run` and `plan`: the fourteen calls (01, "The calls"), each made on what the owner of a plan lends: numbers in place, kept edits as the
+// owner's part. There is one contract for all (specs/Makes): for all kept edits of which what was handed over is true, the answer and the plan are the protocol's.
 ghost use mathlib.Core.Path.{_≡_};
 ghost use mathlib.Core.Bool.{Bool, true, false, cond, _&&_};
 ghost use mathlib.Core.List.{List};

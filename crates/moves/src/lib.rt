@@ -1,4 +1,5 @@
-// The calls that part a plan and join it again (01, "The calls"): split, join, send, stop, confirm, install. Each stores into arrays that it is lent.
+// Internal, for `calls`: the calls that part a plan and join it again (01, "The calls"): split, join, send, stop, confirm, install. Each stores into arrays
+// that it is lent.
 ghost use Prim.Native.Nat.{_≤_, ℕ};
 ghost use lib.Dec.{T};
 ghost use lib.IntN.{ℤ};
