@@ -12,7 +12,7 @@ use lib.ListN.{length, getD, set, length-set}
 use lib.Seq.{set-getD}
 use Rattle.protocol.specs.Lists.{natural, oneTo}
 use Rattle.protocol.specs.Plan.{Mode, is, blank, whole, split, joining, closing, active, unsentOf}
-use Rattle.protocol.specs.Calls.{Call, edit, send, replay, Verdict, fine, refused, first, belongs}
+use Rattle.protocol.specs.Calls.{Call, edit, send, replay, belongs}
 use Rattle.protocol.proofs.Laws.{cases, range, is-yes}
 use Rattle.format.specs.Sheets.{stepOf}
 use Rattle.rows.specs.Rows.{row}
@@ -35,27 +35,30 @@ use Rattle.state.proofs.Views.{sides-most}
 use Rattle.moves.specs.declared.Told.{Told}
 use Rattle.moves.specs.Frames.{frameFrom, movedTo, Moves}
 use Rattle.moves.specs.Rare.{moveCall, Counts}
-use Rattle.edit.specs.declared.Decision.{Decision}
-use Rattle.edit.specs.Edits.{spotOf, slotOf, editFrom, editIn, stored}
+use Rattle.change.specs.declared.Change.{Change}
+use Rattle.edit.specs.declared.Ruling.{Ruling}
+use Rattle.edit.specs.declared.Ruling.the-variants.{Refused as Denied, Granted}
+use Rattle.edit.specs.Edits as editing
+use Rattle.edit.specs.Edits.{Decision, spotOf, slotOf, editHead, editRecord, editDecision, rulingFrom, editFrom, editIn}
 use Rattle.edit.proofs.Edits.{edit-decided, edit-meets}
-use Rattle.replay.specs.declared.Decision as settling
+use Rattle.replay.specs.declared.Outcome.{Outcome}
+use Rattle.replay.specs.declared.Outcome.the-variants.{Refused as Barred, Settled}
 use Rattle.replay.specs.Replays as replays
-use Rattle.replay.specs.Replays.{earlierAt, pointOf, replayFrom}
+use Rattle.replay.specs.Replays.{earlierAt, pointOf, outcomeFrom, replayFrom}
 use Rattle.replay.proofs.Replays.{replay-decided, point-decided, replay-meets}
 use Rattle.moves.specs.declared.Sending.{Sending}
 use Rattle.moves.specs.Moves.{sendDecision, Marked}
 use Rattle.moves.proofs.Sends.{send-few}
 use Rattle.moves.proofs.Moves.{Named, send-decided}
 use Rattle.draw.specs.declared.Drawing.{Drawing}
-use Rattle.draw.specs.declared.Entry.{Entry}
-use Rattle.draw.specs.Draw.{drawBy, measureChecks, measureDrawing, ruleChecks, ruleDrawing, openChecks, openDrawing, drawCall, drawDecision, entryAt, entryOf, drawnIn}
+use Rattle.draw.specs.Draw.{drawCall, drawDecision, drawnIn}
 use Rattle.draw.proofs.Draws.{draw-decided, drawn-sized}
 use Rattle.query.specs.declared.Reading.{Reading}
 use Rattle.query.specs.Readings.{readCall, readingOf}
 use Rattle.query.proofs.Right.{alone-row, readingIn, reading-right, reading-bounds}
-use Rattle.counts.specs.declared.Tallies.{Tallies}
-use Rattle.counts.specs.Tallies.{Tallied, isAccepted, oneUnsent, allSent, oneSettled, moveTally}
-use Rattle.counts.proofs.Counts.{tallyAfter}
+use Rattle.counts.specs.Tallies.{Tallied, waitingIn, settledIn, leftIn, missingIn, oneUnsent, allSent, oneSettled, moveTally}
+use Rattle.state.specs.Spread.{isAccepted}
+use Rattle.counts.proofs.Counts.{tallyAfter, missing-unset}
 use Rattle.reader.specs.declared.Line.{Line}
 use Rattle.reader.specs.Reads.{lineIn}
 use Rattle.writer.specs.Writes.{withRow}
@@ -64,8 +67,8 @@ use Rattle.state.specs.Spread.{spread}
 use Rattle.state.specs.View.{view, stateOf}
 use Rattle.calls.specs.declared.Effect.{Effect}
 use Rattle.calls.specs.declared.Look.{Look}
-use Rattle.calls.specs.Makes.{asked, looksAt, askedAt, IndexedIn, Known, SameIf, Makes, noted, Making, isMove, isDraw, plain}
-use Rattle.calls.proofs.Turning.{line-edit, line-replay, line-send, line-moves, line-draws, Made, meets-made, edit-rules, move-rules, drawn-before, drawn-blank, indexed-still, edit-held, replay-held, tallied-made, settled-few, edit-counts, move-counts, draw-counts, by-draw}
+use Rattle.calls.specs.Makes.{asked, looksAt, askedAt, IndexedIn, Known, SameIf, Makes, noted, Making, isMove, isDraw, plain, stored}
+use Rattle.calls.proofs.Turning.{line-edit, line-replay, line-send, line-moves, line-draws, Made, meets-made, edit-rules, move-rules, drawn-before, drawn-blank, indexed-still, edit-held, replay-held, tallied-made, settled-few, edit-counts, send-counts, move-counts, draw-counts}
 
 -- ---- a refusal leaves the state as it was
 
@@ -120,10 +123,10 @@ joined closing t = tt
 
 -- ---- from a call's contract on states
 
-module _ {l : Line} {p : State} {index : List ℤ} {look : Look} {t : Tallies} {sound : Bool} (k : Known l p index look t sound) where
-  pub met : (c : Call) (q : State) (e : Effect) → lineIn l ≡ some c → belongs c blank ≡ false → MeetsSpread c (spread p) (record { state = spread q; answer = e .answer }) → q .table ≡ p .table → e .from ≡ 0 → e .width ≡ 0
-      → e .counts ≡ cond (isAccepted (e .answer)) (tallyAfter c (view p) t) t → Sized (spread q) → min (q .head .rules) 64 ≡ min (p .head .rules) 64 → Makes l p q t index index e
-  met c q e line u m b f w counts z n =
+module _ {l : Line} {p : State} {index : List ℤ} {look : Look} {t : List ℕ} {sound : Bool} (k : Known l p index look t sound) where
+  pub met : (c : Call) (q : State) (e : Effect) (t′ : List ℕ) → lineIn l ≡ some c → belongs c blank ≡ false → MeetsSpread c (spread p) (record { state = spread q; answer = e .answer }) → q .table ≡ p .table → e .from ≡ 0 → e .width ≡ 0
+      → t′ ≡ cond (isAccepted (e .answer)) (tallyAfter c (view p) t) t → Sized (spread q) → min (q .head .rules) 64 ≡ min (p .head .rules) 64 → Makes l p q t t′ index index e
+  met c q e t′ line u m b f w counts z n =
       let made = meets-made c (spread p) (record { state = spread q; answer = e .answer }) m in
       record {
         answer = (λ i. withRow (answerOf (e .answer)) (row (q .values) (f i) (w i))) ∙ made .answer ∙ ap (λ o. stepOf o (view p) .answer) (sym line);
@@ -139,105 +142,188 @@ module _ {l : Line} {p : State} {index : List ℤ} {look : Look} {t : Tallies} {
       }
 
 -- a call that gives no row answers alone
-pub bare-answer : {l : Line} {p q : State} {t : Tallies} {index index′ : List ℤ} {e : Effect} → Makes l p q t index index′ e → eqb (l .op) 12 ≡ false → answerOf (e .answer) ≡ stepOf (lineIn l) (view p) .answer
+pub bare-answer : {l : Line} {p q : State} {t t′ : List ℕ} {index index′ : List ℤ} {e : Effect} → Makes l p q t t′ index index′ e → eqb (l .op) 12 ≡ false → answerOf (e .answer) ≡ stepOf (lineIn l) (view p) .answer
 bare-answer {q = q} {e = e} m x = sym (alone-row (e .answer)) ∙ sym (ap (λ n. withRow (answerOf (e .answer)) (row (q .values) (e .from) n)) (m .bare x)) ∙ m .answer
+
+-- ---- heads and the effect in other words
+
+pub lent : {l : Line} {h h₁ : Head} {base draft values : List ℤ} {arrived confirmed : List Bool} {table index : List ℤ} {look : Look} {t : List ℕ} {sound : Bool} {e e₁ : Effect}
+    {h′ h₂ : Head} {base′ draft′ values′ : List ℤ} {arrived′ confirmed′ : List Bool} {table′ index′ : List ℤ} {t′ : List ℕ} → h ≡ h₁ → e₁ ≡ e → h₂ ≡ h′
+    → Making l h base draft values arrived confirmed table index look t sound e h′ base′ draft′ values′ arrived′ confirmed′ table′ index′ t′
+    → Making l h₁ base draft values arrived confirmed table index look t sound e₁ h₂ base′ draft′ values′ arrived′ confirmed′ table′ index′ t′
+lent {l} {h} {h₁} {base} {draft} {values} {arrived} {confirmed} {table} {index} {look} {t} {sound} {e} {e₁} {h′} {h₂} {base′} {draft′} {values′} {arrived′} {confirmed′} {table′} {index′} {t′} before effect after m =
+    subst (λ x. Making l x base draft values arrived confirmed table index look t sound e₁ h₂ base′ draft′ values′ arrived′ confirmed′ table′ index′ t′) before
+    (subst (λ x. Making l h base draft values arrived confirmed table index look t sound x h₂ base′ draft′ values′ arrived′ confirmed′ table′ index′ t′) (sym effect)
+    (subst (λ x. Making l h base draft values arrived confirmed table index look t sound e x base′ draft′ values′ arrived′ confirmed′ table′ index′ t′) (sym after) m))
 
 -- ---- the calls
 
-module _ (l : Line) (h : Head) (base draft values : List ℤ) (arrived confirmed : List Bool) (table : List ℤ) (index : List ℤ) (look : Look) (t : Tallies) (sound : Bool) where
+module _ (l : Line) (h : Head) (base draft values : List ℤ) (arrived confirmed : List Bool) (table : List ℤ) (index : List ℤ) (look : Look) (t : List ℕ) (sound : Bool) where
   abbrev before : List EditRecord → State
   before edits = stateOf h base draft values arrived confirmed table edits
 
-  pub edit-making : l .op ≡ 5 → {spot slot : ℕ} {v : ℤ} {counts : Tallies} (d : Decision)
-      → spot ≡ spotOf (natural (l .a)) (natural (l .d)) → slot ≡ slotOf h → v ≡ d .value
-      → counts ≡ cond (d .kept) (oneUnsent (natural (l .a)) (getD arrived (indexOf (natural (l .a))) false) t) t
-      → d ≡ editFrom (testedBy sound index) (firmBy sound index) h (lowers table) (gaps table) (uppers table) (firms table) values (look .named) (look .standing) (l .a) (l .b) (l .c) (l .d) (l .e) (l .f)
-      → Making l h base draft values arrived confirmed table index look t sound (record { head = d .head; counts = counts; answer = d .answer; from = 0; width = 0; kept = d .kept; slot = slot; entry = d .entry; marked = 0 })
-      base draft (set values spot v) arrived confirmed table index
-  edit-making op {spot = spot} {slot = slot} {v = v} {counts = counts} d spot-is slot-is v-is counts-is d-is = record {
-    slot = omega (arith, slot-is);
-    marked = omega arith;
+  -- where an edit's measure stands, and what is decided by a ruling
+  abbrev spot : ℕ
+  spot = spotOf (natural (l .a)) (natural (l .d))
+
+  abbrev ruledAs : Ruling → Decision
+  ruledAs r = editDecision h r (getD values spot (pos 0)) (natural (l .a)) (natural (l .b)) (natural (l .c)) (natural (l .d))
+
+  -- a decision is carried out: what is left, with the record that the owner stores
+  pub record Edits (d : Decision) (e : Effect) (h′ : Head) (values′ : List ℤ) (t′ : List ℕ) : Type 0 where
+    pub bare : (e .from ≡ 0) × (e .width ≡ 0) × (e .marked ≡ 0) × (e .slot < 256)
+    pub answer : e .answer ≡ d .answer
+    pub head : h′ ≡ d .head
+    pub written : values′ ≡ set values spot (d .value)
+    pub keeps : (edits : List EditRecord) → noted e edits ≡ cond (d .kept) (set edits (slotOf h) (d .entry)) edits
+    pub counts : t′ ≡ cond (d .kept) (oneUnsent (natural (l .a)) (getD arrived (indexOf (natural (l .a))) false) t) t
+
+  pub edit-refused : (k : ℕ) {r : Ruling} {e : Effect} → r ≡ Denied k → e ≡ plain (Refused k) → Edits (ruledAs r) e h values t
+  edit-refused k {r = r} {e = e} r-is e-is =
+      subst (λ x. Edits (ruledAs x) e h values t) (sym r-is) (subst (λ x. Edits (ruledAs (Denied k)) x h values t) (sym e-is)
+      (record { bare = (refl, refl, refl, omega arith); answer = refl; head = refl; written = sym (set-getD values spot (pos 0)); keeps = λ es. refl; counts = refl }))
+
+  -- in a whole plan an edit is not kept, in another it is
+  pub edit-made : (ch : Change) (x : ℤ) {r : Ruling} {e : Effect} {h′ : Head} {values′ : List ℤ} → r ≡ Granted ch x → is whole (modeOf (h .mode)) ≡ true
+      → e ≡ plain (Number (h .next)) → h′ ≡ editHead h → values′ ≡ set values spot x → Edits (ruledAs r) e h′ values′ t
+  edit-made ch x {r = r} {e = e} {h′ = h′} {values′ = values′} r-is w e-is h-is values-is =
+      subst (λ y. Edits (ruledAs y) e h′ values′ t) (sym r-is) (subst (λ y. Edits (ruledAs (Granted ch x)) y h′ values′ t) (sym e-is)
+      (record { bare = (refl, refl, refl, omega arith); answer = refl; head = h-is; written = values-is; keeps = λ es. rw w; counts = rw w }))
+
+  pub edit-kept : (ch : Change) (x : ℤ) {r : Ruling} {e : Effect} {h′ : Head} {values′ : List ℤ} {t′ : List ℕ} → r ≡ Granted ch x → is whole (modeOf (h .mode)) ≡ false
+      → e ≡ stored (Number (h .next)) (slotOf h) (editRecord h (natural (l .a)) (natural (l .b)) (natural (l .c)) (natural (l .d)) ch) → h′ ≡ editHead h → values′ ≡ set values spot x
+      → t′ ≡ oneUnsent (natural (l .a)) (getD arrived (indexOf (natural (l .a))) false) t → Edits (ruledAs r) e h′ values′ t′
+  edit-kept ch x {r = r} {e = e} {h′ = h′} {values′ = values′} {t′ = t′} r-is w e-is h-is values-is counts-is =
+      subst (λ y. Edits (ruledAs y) e h′ values′ t′) (sym r-is) (subst (λ y. Edits (ruledAs (Granted ch x)) y h′ values′ t′) (sym e-is)
+      (record { bare = (refl, refl, refl, omega arith); answer = refl; head = h-is; written = values-is; keeps = λ es. rw w; counts = rw w counts-is }))
+
+  pub edit-making : l .op ≡ 5 → (r : Ruling) {e : Effect} {h′ : Head} {values′ : List ℤ} {t′ : List ℕ}
+      → r ≡ rulingFrom (testedBy sound index) (firmBy sound index) h (lowers table) (gaps table) (uppers table) (firms table) values (look .named) (look .standing) l
+      → Edits (ruledAs r) e h′ values′ t′
+      → Making l h base draft values arrived confirmed table index look t sound e h′ base draft values′ arrived confirmed table index t′
+  edit-making op r {e = e} {h′ = h′} {values′ = values′} {t′ = t′} r-is s = record {
+    slot = s .bare .3;
+    marked = (let z = s .bare .2 in omega (arith, z));
     made = λ edits after k m.
         let p = spread (before edits) in
-        let e : Effect = record { head = d .head; counts = counts; answer = d .answer; from = 0; width = 0; kept = d .kept; slot = slot; entry = d .entry; marked = 0 } in
+        let d = ruledAs r in
         let i = look .named in
         let i-is : i ≡ namedAt h (l .c) = k .named (ap looksAt op) ∙ ap (λ o. namedAt h (cond (eqb o 5) (l .c) (l .a))) op in
         let stood = k .stood (ap looksAt op) in
         let dec : d ≡ editIn false p (l .a) (l .b) (l .c) (l .d) (l .e) (l .f) =
         edit-decided sound p (l .a) (l .b) (l .c) (l .d) (l .e) (l .f) {i = i} {seat = slotAt i} {index = index} i-is refl
-        (d-is ∙ ap (λ s. editFrom (testedBy sound index) (firmBy sound index) h (lowers table) (gaps table) (uppers table) (firms table) values i s (l .a) (l .b) (l .c) (l .d) (l .e) (l .f)) stood) (λ drawn sure. k .indexed sure drawn)
+        (ap ruledAs r-is ∙ ap (λ s. editFrom (testedBy sound index) (firmBy sound index) h (lowers table) (gaps table) (uppers table) (firms table) values i s (l .a) (l .b) (l .c) (l .d) (l .e) (l .f)) stood) (λ drawn sure. k .indexed sure drawn)
         ∙ edit-held p sound (k .held) (l .a) (l .b) (l .c) (l .d) (l .e) (l .f) in
-        let meets : MeetsSpread (edit (l .a) (l .b) (l .c) (l .d) (l .e) (l .f)) p (record { state = stored p spot slot d; answer = d .answer }) =
-        rw (spot-is, slot-is, dec) (edit-meets p (k .sized) (l .a) (l .b) (l .c) (l .d) (l .e) (l .f)) in
-        let q = stateOf (d .head) base draft (set values spot v) arrived confirmed table after in
-        let stored-is : _≡_ {A = Spread} (stored p spot slot d) (spread q) = (let a = m .none refl in sym {A = Spread} (λ j. spread (stateOf (d .head) base draft (set values spot (v-is j)) arrived confirmed table (a j)))) in
-        let here = subst (λ s. MeetsSpread (edit (l .a) (l .b) (l .c) (l .d) (l .e) (l .f)) p (record { state = s; answer = d .answer })) stored-is meets in
-        met k (edit (l .a) (l .b) (l .c) (l .d) (l .e) (l .f)) q e (line-edit l op) refl here refl refl refl
-        (counts-is ∙ edit-counts p (l .a) (l .b) (l .c) (l .d) (l .e) (l .f) d dec (meets-made _ p (record { state = spread q; answer = d .answer }) here) t)
-        (record { base = k .sized .base; draft = k .sized .draft; values = length-set values spot v ∙ k .sized .values; arrived = k .sized .arrived; confirmed = k .sized .confirmed; lower = k .sized .lower; gap = k .sized .gap; upper = k .sized .upper; firm = k .sized .firm; edits = m .size })
-        (edit-rules p false (l .a) (l .b) (l .c) (l .d) (l .e) (l .f) d (ap (λ x. x .head) dec));
+        let meets : MeetsSpread (edit (l .a) (l .b) (l .c) (l .d) (l .e) (l .f)) p (record { state = editing.stored p spot (slotOf h) d; answer = d .answer }) =
+        subst (λ x. MeetsSpread (edit (l .a) (l .b) (l .c) (l .d) (l .e) (l .f)) p (record { state = editing.stored p spot (slotOf h) x; answer = x .answer })) (sym dec) (edit-meets p (k .sized) (l .a) (l .b) (l .c) (l .d) (l .e) (l .f)) in
+        let q = stateOf h′ base draft values′ arrived confirmed table after in
+        let after-is : after ≡ cond (d .kept) (set edits (slotOf h) (d .entry)) edits = m .none (s .bare .2) ∙ s .keeps edits in
+        let stored-is : _≡_ {A = Spread} (editing.stored p spot (slotOf h) d) (spread q) = sym {A = Spread} (λ j. spread (stateOf (s .head j) base draft (s .written j) arrived confirmed table (after-is j))) in
+        let here : MeetsSpread (edit (l .a) (l .b) (l .c) (l .d) (l .e) (l .f)) p (record { state = spread q; answer = e .answer }) =
+        subst (λ a. MeetsSpread (edit (l .a) (l .b) (l .c) (l .d) (l .e) (l .f)) p (record { state = spread q; answer = a })) (sym (s .answer))
+        (subst (λ x. MeetsSpread (edit (l .a) (l .b) (l .c) (l .d) (l .e) (l .f)) p (record { state = x; answer = d .answer })) stored-is meets) in
+        let made = subst (λ a. Made (some (edit (l .a) (l .b) (l .c) (l .d) (l .e) (l .f))) p (spread q) a []) (s .answer) (meets-made _ p (record { state = spread q; answer = e .answer }) here) in
+        met k (edit (l .a) (l .b) (l .c) (l .d) (l .e) (l .f)) q e t′ (line-edit l op) refl here refl (s .bare .0) (s .bare .1)
+        (s .counts ∙ edit-counts p (l .a) (l .b) (l .c) (l .d) (l .e) (l .f) d dec made t ∙ ap (λ a. cond (isAccepted a) (tallyAfter (edit (l .a) (l .b) (l .c) (l .d) (l .e) (l .f)) (view (before edits)) t) t) (sym (s .answer)))
+        (record { base = k .sized .base; draft = k .sized .draft; values = ap length (s .written) ∙ length-set values spot (d .value) ∙ k .sized .values; arrived = k .sized .arrived; confirmed = k .sized .confirmed; lower = k .sized .lower; gap = k .sized .gap; upper = k .sized .upper; firm = k .sized .firm; edits = m .size })
+        (ap (λ x. min (x .rules) 64) (s .head) ∙ edit-rules p false (l .a) (l .b) (l .c) (l .d) (l .e) (l .f) d (ap (λ x. x .head) dec));
   }
 
-  pub replay-making : l .op ≡ 8 → {slot point : ℕ} {v : ℤ} {counts : Tallies} (d : settling.Decision)
-      → slot ≡ slotAt (look .named) → point ≡ pointOf (recordOf (look .named) (look .standing) .measure) → v ≡ d .amount
-      → counts ≡ cond (isAccepted (d .answer)) (oneSettled t) t
-      → d ≡ replayFrom (testedBy sound index) h (lowers table) (gaps table) (uppers table) draft arrived (look .named) (look .standing) (look .next) (look .seen) (min (t .settled) 256 + 1)
-      → Making l h base draft values arrived confirmed table index look t sound (record { head = h; counts = counts; answer = d .answer; from = 0; width = 0; kept = true; slot = slot; entry = d .entry; marked = 0 })
-      base (set draft point v) values arrived confirmed table index
-  replay-making op {slot = slot} {point = point} {v = v} {counts = counts} d slot-is point-is v-is counts-is d-is = record {
-    slot = omega (arith, slot-is);
-    marked = omega arith;
+  -- where the measure of the edit that is replayed stands, and what is decided by an outcome
+  abbrev point : ℕ
+  point = pointOf (recordOf (look .named) (look .standing) .measure)
+
+  abbrev settledAs : Outcome → replays.Decision
+  settledAs r = replays.replayDecision r (look .standing) (getD draft point (pos 0)) (min (settledIn t) 256 + 1)
+
+  -- it is carried out
+  pub record Settles (d : replays.Decision) (e : Effect) (draft′ : List ℤ) (t′ : List ℕ) : Type 0 where
+    pub bare : (e .from ≡ 0) × (e .width ≡ 0) × (e .marked ≡ 0) × (e .slot < 256)
+    pub answer : e .answer ≡ d .answer
+    pub written : draft′ ≡ set draft point (d .amount)
+    pub keeps : (edits : List EditRecord) → look .standing ≡ getD edits (slotAt (look .named)) noRecord → noted e edits ≡ set edits (slotAt (look .named)) (d .entry)
+    pub counts : t′ ≡ cond (isAccepted (d .answer)) (oneSettled t) t
+
+  pub replay-refused : (k : ℕ) {r : Outcome} {e : Effect} → r ≡ Barred k → e ≡ plain (Refused k) → Settles (settledAs r) e draft t
+  replay-refused k {r = r} {e = e} r-is e-is =
+      subst (λ x. Settles (settledAs x) e draft t) (sym r-is) (subst (λ x. Settles (settledAs (Barred k)) x draft t) (sym e-is)
+      (record { bare = (refl, refl, refl, omega arith); answer = refl; written = sym (set-getD draft point (pos 0)); keeps = λ es stood. sym (ap (set es (slotAt (look .named))) stood ∙ set-getD es (slotAt (look .named)) noRecord); counts = refl }))
+
+  pub replay-settled : (b : Bool) (x : ℤ) {r : Outcome} {e : Effect} {slot : ℕ} {draft′ : List ℤ} {t′ : List ℕ} → r ≡ Settled b x
+      → e ≡ stored (Number (cond b 3 4)) slot (replays.settledRecord (look .standing) b (min (settledIn t) 256 + 1)) → slot ≡ slotAt (look .named) → slot < 256
+      → draft′ ≡ set draft point x → t′ ≡ oneSettled t → Settles (settledAs r) e draft′ t′
+  replay-settled b x {r = r} {e = e} {draft′ = draft′} {t′ = t′} r-is e-is slot-is few draft-is counts-is =
+      subst (λ y. Settles (settledAs y) e draft′ t′) (sym r-is) (subst (λ y. Settles (settledAs (Settled b x)) y draft′ t′) (sym e-is)
+      (record { bare = (refl, refl, refl, few); answer = refl; written = draft-is; keeps = λ es stood. ap (λ i. set es i (replays.settledRecord (look .standing) b (min (settledIn t) 256 + 1))) slot-is; counts = counts-is }))
+
+  pub replay-making : l .op ≡ 8 → (r : Outcome) {e : Effect} {draft′ : List ℤ} {t′ : List ℕ}
+      → r ≡ outcomeFrom (testedBy sound index) h (lowers table) (gaps table) (uppers table) draft (missingIn t) (look .named) (look .standing) (look .next) (look .seen)
+      → Settles (settledAs r) e draft′ t′
+      → Making l h base draft values arrived confirmed table index look t sound e h base draft′ values arrived confirmed table index t′
+  replay-making op r {e = e} {draft′ = draft′} {t′ = t′} r-is s = record {
+    slot = s .bare .3;
+    marked = (let z = s .bare .2 in omega (arith, z));
     made = λ edits after k m.
         let p = spread (before edits) in
-        let e : Effect = record { head = h; counts = counts; answer = d .answer; from = 0; width = 0; kept = true; slot = slot; entry = d .entry; marked = 0 } in
+        let d = settledAs r in
         let i = look .named in
         let j = look .next in
+        let slot = slotAt i in
+        let counted = k .tallied (ap (λ o. eqb o 5) op) in
         let i-is : i ≡ namedAt h (l .a) = k .named (ap looksAt op) ∙ ap (λ o. namedAt h (cond (eqb o 5) (l .c) (l .a))) op in
-        let stood : look .standing ≡ getD edits slot noRecord = k .stood (ap looksAt op) ∙ ap (λ n. getD edits n noRecord) (sym slot-is) in
+        let stood : look .standing ≡ getD edits slot noRecord = k .stood (ap looksAt op) in
         let j-is = k .next (ap (λ o. eqb o 8) op) in
         let saw = k .saw (ap (λ o. eqb o 8) op) in
         let dec : d ≡ replays.replayIn false p (l .a) =
-        replay-decided sound p (l .a) {i = i} {slot = slot} {j = j} {seat = slotAt j} {index = index} i-is slot-is (j-is ∙ ap (earlierAt h i) stood) refl (ap (λ n. n + 1) (settled-few p t (k .tallied (ap (λ o. eqb o 5) op))))
-        (d-is ∙ (λ x. replayFrom (testedBy sound index) h (lowers table) (gaps table) (uppers table) draft arrived i (stood x) j (saw x) (min (t .settled) 256 + 1))) (λ active sure. k .indexed sure (joined (modeOf (h .mode)) active))
+        replay-decided sound p (l .a) {i = i} {slot = slot} {j = j} {seat = slotAt j} {index = index} i-is refl (j-is ∙ ap (earlierAt h i) stood) refl (ap (λ n. n + 1) (settled-few p t counted)) (missing-unset p t counted)
+        (ap settledAs r-is ∙ (λ x. replayFrom (testedBy sound index) h (lowers table) (gaps table) (uppers table) draft (missingIn t) i (stood x) j (saw x) (min (settledIn t) 256 + 1))) (λ active sure. k .indexed sure (joined (modeOf (h .mode)) active))
         ∙ replay-held p sound (k .held) (l .a) in
-        let there : point ≡ pointOf (namedIn p (natural (l .a)) .measure) = point-decided p (l .a) {i = i} {slot = slot} i-is slot-is (point-is ∙ ap (λ s. pointOf (recordOf i s .measure)) stood) in
-        let seat : slot ≡ seatOf h (l .a) = slot-is ∙ ap slotAt i-is in
-        let meets : MeetsSpread (replay (l .a)) p (record { state = replays.stored p point slot d; answer = d .answer }) = rw (there, seat, dec) (replay-meets p (k .sized) (l .a)) in
-        let q = stateOf h base (set draft point v) values arrived confirmed table after in
-        let stored-is : _≡_ {A = Spread} (replays.stored p point slot d) (spread q) = (let a = m .none refl in sym {A = Spread} (λ x. spread (stateOf h base (set draft point (v-is x)) values arrived confirmed table (a x)))) in
-        met k (replay (l .a)) q e (line-replay l op) refl (subst (λ s. MeetsSpread (replay (l .a)) p (record { state = s; answer = d .answer })) stored-is meets) refl refl refl counts-is
-        (record { base = k .sized .base; draft = length-set draft point v ∙ k .sized .draft; values = k .sized .values; arrived = k .sized .arrived; confirmed = k .sized .confirmed; lower = k .sized .lower; gap = k .sized .gap; upper = k .sized .upper; firm = k .sized .firm; edits = m .size })
+        let there : point ≡ pointOf (namedIn p (natural (l .a)) .measure) = point-decided p (l .a) {i = i} {slot = slot} i-is refl (ap (λ s. pointOf (recordOf i s .measure)) stood) in
+        let seat : slot ≡ seatOf h (l .a) = ap slotAt i-is in
+        let meets : MeetsSpread (replay (l .a)) p (record { state = replays.stored p point slot d; answer = d .answer }) =
+        subst (λ x. MeetsSpread (replay (l .a)) p (record { state = replays.stored p point slot x; answer = x .answer })) (sym dec)
+        (subst (λ x. MeetsSpread (replay (l .a)) p (record { state = replays.stored p point x (replays.replayIn false p (l .a)); answer = replays.replayIn false p (l .a) .answer })) (sym seat)
+        (subst (λ x. MeetsSpread (replay (l .a)) p (record { state = replays.stored p x (seatOf h (l .a)) (replays.replayIn false p (l .a)); answer = replays.replayIn false p (l .a) .answer })) (sym there)
+        (replay-meets p (k .sized) (l .a)))) in
+        let q = stateOf h base draft′ values arrived confirmed table after in
+        let after-is : after ≡ set edits slot (d .entry) = m .none (s .bare .2) ∙ s .keeps edits stood in
+        let stored-is : _≡_ {A = Spread} (replays.stored p point slot d) (spread q) = sym {A = Spread} (λ x. spread (stateOf h base (s .written x) values arrived confirmed table (after-is x))) in
+        let here : MeetsSpread (replay (l .a)) p (record { state = spread q; answer = e .answer }) =
+        subst (λ a. MeetsSpread (replay (l .a)) p (record { state = spread q; answer = a })) (sym (s .answer)) (subst (λ x. MeetsSpread (replay (l .a)) p (record { state = x; answer = d .answer })) stored-is meets) in
+        met k (replay (l .a)) q e t′ (line-replay l op) refl here refl (s .bare .0) (s .bare .1) (s .counts ∙ ap (λ a. cond (isAccepted a) (oneSettled t) t) (sym (s .answer)))
+        (record { base = k .sized .base; draft = ap length (s .written) ∙ length-set draft point (d .amount) ∙ k .sized .draft; values = k .sized .values; arrived = k .sized .arrived; confirmed = k .sized .confirmed; lower = k .sized .lower; gap = k .sized .gap; upper = k .sized .upper; firm = k .sized .firm; edits = m .size })
         refl;
   }
 
   -- the edits that a side has unsent, as they are counted
-  unsent-is : (edits : List EditRecord) → Tallied t (view (before edits)) → {i : ℕ} → i ≡ indexOf (natural (l .a)) → T (oneTo (sidesIn h) (natural (l .a))) → getD (t .unsent) i 0 ≡ unsentOf (natural (l .a)) (keptOf h edits)
-  unsent-is edits k e o = let r = range (sidesIn h) (natural (l .a)) o in ap (λ j. getD (t .unsent) j 0) e ∙ k .counted .unsent (natural (l .a)) (r .0) (let m = sides-most h in omega (arith, m, r .1))
+  unsent-is : (edits : List EditRecord) → Tallied t (view (before edits)) → {i : ℕ} → i ≡ indexOf (natural (l .a)) → T (oneTo (sidesIn h) (natural (l .a))) → getD t i 0 ≡ unsentOf (natural (l .a)) (keptOf h edits)
+  unsent-is edits k e o = let r = range (sidesIn h) (natural (l .a)) o in ap (λ j. getD t j 0) e ∙ k .counted .unsent (natural (l .a)) (r .0) (let m = sides-most h in omega (arith, m, r .1))
 
-  pub send-making : l .op ≡ 7 → {side i : ℕ} {counts : Tallies} (d : Sending)
-      → side ≡ natural (l .a) → i ≡ indexOf side → counts ≡ cond (isAccepted (d .answer)) (allSent side t) t → d ≡ sendDecision h side (getD arrived i false) (getD (t .unsent) i 0)
-      → Making l h base draft values arrived confirmed table index look t sound (record { head = h; counts = counts; answer = d .answer; from = 0; width = 0; kept = false; slot = 0; entry = noRecord; marked = d .marked })
-      base draft values (set arrived i (d .arrived)) confirmed table index
-  send-making op {side = side} {i = i} {counts = counts} d side-is i-is counts-is d-is = record {
+  pub send-making : l .op ≡ 7 → {side i : ℕ} {t′ : List ℕ} (d : Sending)
+      → side ≡ natural (l .a) → i ≡ indexOf side → t′ ≡ cond (isAccepted (d .answer)) (allSent side (getD arrived i false) t) t → d ≡ sendDecision h side (getD arrived i false) (getD t i 0)
+      → Making l h base draft values arrived confirmed table index look t sound (record { answer = d .answer; from = 0; width = 0; kept = false; slot = 0; entry = noRecord; marked = d .marked })
+      h base draft values (set arrived i (d .arrived)) confirmed table index t′
+  send-making op {side = side} {i = i} {t′ = t′} d side-is i-is counts-is d-is = record {
     slot = omega arith;
-    marked = send-few h side (getD arrived i false) (getD (t .unsent) i 0) d d-is;
+    marked = send-few h side (getD arrived i false) (getD t i 0) d d-is;
     made = λ edits after k m.
         let p = spread (before edits) in
         let q = stateOf h base draft values (set arrived i (d .arrived)) confirmed table after in
-        let e : Effect = record { head = h; counts = counts; answer = d .answer; from = 0; width = 0; kept = false; slot = 0; entry = noRecord; marked = d .marked } in
-        let w : Named p (l .a) side i (getD (t .unsent) i 0) = record { number = side-is; place = i-is; unsent = unsent-is edits (k .tallied (ap (λ o. eqb o 5) op)) (i-is ∙ ap indexOf side-is) } in
-        met k (send (l .a)) q e (line-send l op) refl (send-decided p (l .a) d after w (k .sized .arrived) d-is (subst (λ s. Marked s edits after (d .marked)) (sym side-is) m) refl) refl refl refl
-        (counts-is ∙ ap (λ s. cond (isAccepted (d .answer)) (allSent s t) t) side-is)
+        let e : Effect = record { answer = d .answer; from = 0; width = 0; kept = false; slot = 0; entry = noRecord; marked = d .marked } in
+        let w : Named p (l .a) side i (getD t i 0) = record { number = side-is; place = i-is; unsent = unsent-is edits (k .tallied (ap (λ o. eqb o 5) op)) (i-is ∙ ap indexOf side-is) } in
+        let here = send-decided p (l .a) d after w (k .sized .arrived) d-is (subst (λ s. Marked s edits after (d .marked)) (sym side-is) m) refl in
+        met k (send (l .a)) q e t′ (line-send l op) refl here refl refl refl
+        (counts-is ∙ (λ j. cond (isAccepted (d .answer)) (allSent (side-is j) (getD arrived ((i-is ∙ ap indexOf side-is) j) false) t) t) ∙ send-counts p (l .a) (meets-made _ p (record { state = spread q; answer = d .answer }) here) t)
         (record { base = k .sized .base; draft = k .sized .draft; values = k .sized .values; arrived = length-set arrived i (d .arrived) ∙ k .sized .arrived; confirmed = k .sized .confirmed; lower = k .sized .lower; gap = k .sized .gap; upper = k .sized .upper; firm = k .sized .firm; edits = m .size })
         refl;
   }
 
-  pub move-making : isMove (l .op) ≡ true → {i : ℕ} (r : Told) {counts : Tallies} {base′ draft′ values′ : List ℤ} {arrived′ confirmed′ : List Bool}
-      → i ≡ indexOf (natural (l .a)) → counts ≡ cond (isAccepted (r .answer)) (moveTally (l .op) h t) t
-      → (let f = frameFrom h base draft values arrived confirmed in Moves (moveCall (l .op) (l .a)) f (Counts f (natural (l .a)) (getD (t .unsent) i 0) (t .waiting)) (movedTo r base′ draft′ values′ arrived′ confirmed′))
+  pub move-making : isMove (l .op) ≡ true → {i : ℕ} (r : Told) {t′ : List ℕ} {base′ draft′ values′ : List ℤ} {arrived′ confirmed′ : List Bool}
+      → i ≡ indexOf (natural (l .a)) → t′ ≡ cond (isAccepted (r .answer)) (moveTally (l .op) h t) t
+      → (let f = frameFrom h base draft values arrived confirmed in Moves (moveCall (l .op) (l .a)) f (Counts f (natural (l .a)) (getD t i 0) (waitingIn t)) (movedTo r base′ draft′ values′ arrived′ confirmed′))
       → (length base′ ≡ 32) × (length draft′ ≡ 32) × (length values′ ≡ 256) × (length arrived′ ≡ 8) × (length confirmed′ ≡ 8)
-      → Making l h base draft values arrived confirmed table index look t sound (plain (r .head) (r .answer) counts) base′ draft′ values′ arrived′ confirmed′ table index
-  move-making op {i = i} r {counts = counts} {base′ = base′} {draft′ = draft′} {values′ = values′} {arrived′ = arrived′} {confirmed′ = confirmed′} i-is counts-is moves n = record {
+      → Making l h base draft values arrived confirmed table index look t sound (plain (r .answer)) (r .head) base′ draft′ values′ arrived′ confirmed′ table index t′
+  move-making op {i = i} r {t′ = t′} {base′ = base′} {draft′ = draft′} {values′ = values′} {arrived′ = arrived′} {confirmed′ = confirmed′} i-is counts-is moves n = record {
     slot = omega arith;
     marked = omega arith;
     made = λ edits after k m.
@@ -247,15 +333,15 @@ module _ (l : Line) (h : Head) (base draft values : List ℤ) (arrived confirmed
         let counted = k .tallied (move-counted (l .op) op) in
         let meets = moves (lowers table) (gaps table) (uppers table) (firms table) edits (unsent-is edits counted i-is, counted .counted .waiting) in
         let here : MeetsSpread c p (record { state = spread q; answer = r .answer }) = subst (λ es. MeetsSpread c p (record { state = spread (stateOf (r .head) base′ draft′ values′ arrived′ confirmed′ table es); answer = r .answer })) (sym (m .none refl)) meets in
-        met k c q (plain (r .head) (r .answer) counts) (line-moves l op) (undrawn (l .op) (l .a)) here refl refl refl
+        met k c q (plain (r .answer)) t′ (line-moves l op) (undrawn (l .op) (l .a)) here refl refl refl
         (counts-is ∙ ap (λ x. cond (isAccepted (r .answer)) x t) (move-counts (l .op) (l .a) p t op))
         (record { base = n .0; draft = n .1; values = n .2; arrived = n .3; confirmed = n .4; lower = k .sized .lower; gap = k .sized .gap; upper = k .sized .upper; firm = k .sized .firm; edits = m .size })
         (move-rules (l .op) (l .a) p (spread q) {a = r .answer} {vs = []} refl (meets-made c p (record { state = spread q; answer = r .answer }) here));
   }
 
-  pub read-making : lineIn l ≡ readCall (l .op) (l .a) → eqb (l .op) 5 ≡ false → (r : Reading) → r ≡ readingOf (l .op) (l .a) h (look .named) (look .standing) (t .left)
-      → Making l h base draft values arrived confirmed table index look t sound (record { head = h; counts = t; answer = r .answer; from = r .from; width = r .width; kept = false; slot = 0; entry = noRecord; marked = 0 })
-      base draft values arrived confirmed table index
+  pub read-making : lineIn l ≡ readCall (l .op) (l .a) → eqb (l .op) 5 ≡ false → (r : Reading) → r ≡ readingOf (l .op) (l .a) h (look .named) (look .standing) (leftIn t)
+      → Making l h base draft values arrived confirmed table index look t sound (record { answer = r .answer; from = r .from; width = r .width; kept = false; slot = 0; entry = noRecord; marked = 0 })
+      h base draft values arrived confirmed table index t
   read-making line op r r-is = record {
     slot = omega arith;
     marked = omega arith;
@@ -263,9 +349,9 @@ module _ (l : Line) (h : Head) (base draft values : List ℤ) (arrived confirmed
         let p = spread (before edits) in
         let a = m .none refl in
         let at : askedAt h l ≡ namedAt h (l .a) = ap (λ o. namedAt h (cond o (l .c) (l .a))) op in
-        let stood : readingOf (l .op) (l .a) h (look .named) (look .standing) (t .left) ≡ readingOf (l .op) (l .a) h (namedAt h (l .a)) (getD edits (seatOf h (l .a)) noRecord) (t .left) =
+        let stood : readingOf (l .op) (l .a) h (look .named) (look .standing) (leftIn t) ≡ readingOf (l .op) (l .a) h (namedAt h (l .a)) (getD edits (seatOf h (l .a)) noRecord) (leftIn t) =
         cases (eqb (l .op) 13)
-        (λ e. let y = ap looksAt (eqb-true (l .op) 13 e) in let n = k .named y ∙ at in let s = k .stood y ∙ ap (λ n. getD edits (slotAt n) noRecord) n in λ j. readingOf (l .op) (l .a) h (n j) (s j) (t .left))
+        (λ e. let y = ap looksAt (eqb-true (l .op) 13 e) in let n = k .named y ∙ at in let s = k .stood y ∙ ap (λ n. getD edits (slotAt n) noRecord) n in λ j. readingOf (l .op) (l .a) h (n j) (s j) (leftIn t))
         (λ e. rw e) in
         let g = reading-right p t (k .tallied op) (l .op) (l .a) in
         let b = reading-bounds p t (k .tallied op) (l .op) (l .a) in
@@ -287,91 +373,54 @@ module _ (l : Line) (h : Head) (base draft values : List ℤ) (arrived confirmed
 
 -- ---- the calls that draw
 
--- the rule of an entry: a new one, if one was drawn, else the old one
-pub record Entered (drawn : Bool) (a c b f : ℤ) (old new : Entry) : Type 0 where
-  pub lower : new .lower ≡ cond drawn (natural a) (old .lower)
-  pub gap : new .gap ≡ cond drawn c (old .gap)
-  pub upper : new .upper ≡ cond drawn (natural b) (old .upper)
-  pub firm : new .firm ≡ cond drawn (eqb (natural f) 1) (old .firm)
-
-entered : (op : ℕ) (a b c d : ℤ) (h : Head) (lower : List ℕ) (gap : List ℤ) (upper : List ℕ) (values : List ℤ) (o : Entry) → isDraw op ≡ true
-    → let r = drawDecision op a b c d h lower gap upper values o in Entered (eqb op 2 && isAccepted (r .answer)) a b c d o (r .entry)
-entered op a b c d h lower gap upper values o y =
-    by-draw op y
-    (λ e. rw e (by-measure (first (measureChecks h a))))
-    (λ e. rw e (by-rule (first (ruleChecks h (natural a) b (natural c) d))))
-    (λ e. rw e (by-open (first (openChecks h lower gap upper values))))
-  where
-    by-measure : (v : Verdict) → Entered false a b c d o (drawBy v (measureDrawing h a o) h o .entry)
-    by-measure fine = record { lower = refl; gap = refl; upper = refl; firm = refl }
-    by-measure (refused k) = record { lower = refl; gap = refl; upper = refl; firm = refl }
-
-    by-rule : (v : Verdict) → Entered (isAccepted (drawBy v (ruleDrawing h a b c d o) h o .answer)) a b c d o (drawBy v (ruleDrawing h a b c d o) h o .entry)
-    by-rule fine = record { lower = refl; gap = refl; upper = refl; firm = refl }
-    by-rule (refused k) = record { lower = refl; gap = refl; upper = refl; firm = refl }
-
-    by-open : (v : Verdict) → Entered false a b c d o (drawBy v (openDrawing h o) h o .entry)
-    by-open fine = record { lower = refl; gap = refl; upper = refl; firm = refl }
-    by-open (refused k) = record { lower = refl; gap = refl; upper = refl; firm = refl }
-
--- the rule table with it, as lists
-record Booked (table table′ : List ℤ) (i : ℕ) (n : Entry) : Type 0 where
-  pub lower : lowers table′ ≡ set (lowers table) i (n .lower)
-  pub gap : gaps table′ ≡ set (gaps table) i (n .gap)
-  pub upper : uppers table′ ≡ set (uppers table) i (n .upper)
-  pub firm : firms table′ ≡ set (firms table) i (n .firm)
+-- the rule table as lists, with a rule written anew, if one was drawn
+record Booked (drawn : Bool) (table table′ : List ℤ) (i : ℕ) (a c b f : ℤ) : Type 0 where
+  pub lower : lowers table′ ≡ cond drawn (set (lowers table) i (natural a)) (lowers table)
+  pub gap : gaps table′ ≡ cond drawn (set (gaps table) i c) (gaps table)
+  pub upper : uppers table′ ≡ cond drawn (set (uppers table) i (natural b)) (uppers table)
+  pub firm : firms table′ ≡ cond drawn (set (firms table) i (eqb (natural f) 1)) (firms table)
   pub long : length table′ ≡ 256
 
-booked : (drawn : Bool) (table : List ℤ) (i : ℕ) (a c b f : ℤ) (o n : Entry) → i < 64 → length table ≡ 256
-    → o .lower ≡ getD (lowers table) i 0 → o .gap ≡ getD (gaps table) i (pos 0) → o .upper ≡ getD (uppers table) i 0 → o .firm ≡ getD (firms table) i false
-    → Entered drawn a c b f o n → Booked table (cond drawn (withRule table i a c b f) table) i n
-booked true table i a c b f o n h l w x y z e = record {
-  lower = rule-lower table i a c b f h l ∙ ap (set (lowers table) i) (sym (e .lower));
-  gap = rule-gap table i a c b f h l ∙ ap (set (gaps table) i) (sym (e .gap));
-  upper = rule-upper table i a c b f h l ∙ ap (set (uppers table) i) (sym (e .upper));
-  firm = rule-firm table i a c b f h l ∙ ap (set (firms table) i) (sym (e .firm));
+booked : (drawn : Bool) (table : List ℤ) (i : ℕ) (a c b f : ℤ) → i < 64 → length table ≡ 256 → Booked drawn table (cond drawn (withRule table i a c b f) table) i a c b f
+booked true table i a c b f h l = record {
+  lower = rule-lower table i a c b f h l;
+  gap = rule-gap table i a c b f h l;
+  upper = rule-upper table i a c b f h l;
+  firm = rule-firm table i a c b f h l;
   long = rule-length table i a c b f h l;
 }
-booked false table i a c b f o n h l w x y z e = record {
-  lower = sym (ap (set (lowers table) i) (e .lower ∙ w) ∙ set-getD (lowers table) i 0);
-  gap = sym (ap (set (gaps table) i) (e .gap ∙ x) ∙ set-getD (gaps table) i (pos 0));
-  upper = sym (ap (set (uppers table) i) (e .upper ∙ y) ∙ set-getD (uppers table) i 0);
-  firm = sym (ap (set (firms table) i) (e .firm ∙ z) ∙ set-getD (firms table) i false);
-  long = l;
-}
+booked false table i a c b f h l = record { lower = refl; gap = refl; upper = refl; firm = refl; long = l }
 
-module _ (l : Line) (h : Head) (base draft values : List ℤ) (arrived confirmed : List Bool) (table : List ℤ) (index : List ℤ) (look : Look) (t : Tallies) (sound : Bool) where
-  pub draw-making : isDraw (l .op) ≡ true → {spot slot : ℕ} {v : ℤ} {drawn : Bool} {table′ : List ℤ} {index′ : List ℤ} (d : Drawing)
-      → spot ≡ min (h .measures) 31 → slot ≡ min (h .rules) 63 → v ≡ d .entry .value → drawn ≡ (eqb (l .op) 2 && isAccepted (d .answer)) → table′ ≡ cond drawn (withRule table slot (l .a) (l .b) (l .c) (l .d)) table
-      → d ≡ drawDecision (l .op) (l .a) (l .b) (l .c) (l .d) h (lowers table) (gaps table) (uppers table) values (entryAt h (lowers table) (gaps table) (uppers table) (firms table) values)
+module _ (l : Line) (h : Head) (base draft values : List ℤ) (arrived confirmed : List Bool) (table : List ℤ) (index : List ℤ) (look : Look) (t : List ℕ) (sound : Bool) where
+  pub draw-making : isDraw (l .op) ≡ true → {spot : ℕ} {v : ℤ} {table′ : List ℤ} {index′ : List ℤ} (d : Drawing)
+      → spot ≡ min (h .measures) 31 → v ≡ d .value → table′ ≡ cond (eqb (l .op) 2 && isAccepted (d .answer)) (withRule table (min (h .rules) 63) (l .a) (l .b) (l .c) (l .d)) table
+      → d ≡ drawDecision (l .op) (l .a) (l .b) (l .c) (l .d) h (lowers table) (gaps table) (uppers table) values
       → ((eqb (l .op) 3 && isAccepted (d .answer)) ≡ true → Indexed index′ (lowers table′) (gaps table′) (uppers table′) (firms table′) (min (d .head .rules) 64))
       → ((eqb (l .op) 3 && isAccepted (d .answer)) ≡ false → index′ ≡ index)
-      → Making l h base draft values arrived confirmed table index look t sound (plain (d .head) (d .answer) t) base draft (set values spot v) arrived confirmed table′ index′
-  draw-making op {spot = spot} {slot = slot} {v = v} {drawn = drawn} {table′ = table′} {index′ = index′} d spot-is slot-is v-is drawn-is table-is d-is new old = record {
+      → Making l h base draft values arrived confirmed table index look t sound (plain (d .answer)) (d .head) base draft (set values spot v) arrived confirmed table′ index′ t
+  draw-making op {spot = spot} {v = v} {table′ = table′} {index′ = index′} d spot-is v-is table-is d-is new old = record {
     slot = omega arith;
     marked = omega arith;
     made = λ edits after k m.
         let x = stateOf h base draft values arrived confirmed table edits in
         let p = spread x in
-        let o = entryAt h (lowers table) (gaps table) (uppers table) (firms table) values in
         let n = min (h .rules) 63 in
-        let e : Entered (eqb (l .op) 2 && isAccepted (d .answer)) (l .a) (l .b) (l .c) (l .d) o (d .entry) =
-        subst (λ y. Entered (eqb (l .op) 2 && isAccepted (y .answer)) (l .a) (l .b) (l .c) (l .d) o (y .entry)) (sym d-is) (entered (l .op) (l .a) (l .b) (l .c) (l .d) h (lowers table) (gaps table) (uppers table) values o op) in
-        let b : Booked table (cond drawn (withRule table n (l .a) (l .b) (l .c) (l .d)) table) n (d .entry) = booked drawn table n (l .a) (l .b) (l .c) (l .d) o (d .entry) (omega arith) (k .long) refl refl refl refl (subst (λ y. Entered y (l .a) (l .b) (l .c) (l .d) o (d .entry)) (sym drawn-is) e) in
-        let b′ : Booked table table′ n (d .entry) = subst (λ y. Booked table y n (d .entry)) (sym (table-is ∙ ap (λ i. cond drawn (withRule table i (l .a) (l .b) (l .c) (l .d)) table) slot-is)) b in
+        let drawn = eqb (l .op) 2 && isAccepted (d .answer) in
+        let b : Booked drawn table table′ n (l .a) (l .b) (l .c) (l .d) = subst (λ y. Booked drawn table y n (l .a) (l .b) (l .c) (l .d)) (sym table-is) (booked drawn table n (l .a) (l .b) (l .c) (l .d) (omega arith) (k .long)) in
         let q = stateOf (d .head) base draft (set values spot v) arrived confirmed table′ after in
+        let q′ = drawnIn p d drawn (l .a) (l .b) (l .c) (l .d) in
         let c = drawCall (l .op) (l .a) (l .b) (l .c) (l .d) in
-        let meets : MeetsSpread c p (record { state = drawnIn p d; answer = d .answer }) = rw d-is (draw-decided (l .op) (l .a) (l .b) (l .c) (l .d) p (k .sized)) in
-        let drawn-state : spread q ≡ drawnIn p d = (let a = m .none refl in λ j. record { head = d .head; base = base; draft = draft; values = set values (spot-is j) (v-is j); arrived = arrived; confirmed = confirmed; lower = b′ .lower j; gap = b′ .gap j; upper = b′ .upper j; firm = b′ .firm j; edits = a j }) in
+        let meets : MeetsSpread c p (record { state = q′; answer = d .answer }) = rw d-is (draw-decided (l .op) (l .a) (l .b) (l .c) (l .d) p (k .sized)) in
+        let drawn-state : spread q ≡ q′ = (let a = m .none refl in λ j. record { head = d .head; base = base; draft = draft; values = set values (spot-is j) (v-is j); arrived = arrived; confirmed = confirmed; lower = b .lower j; gap = b .gap j; upper = b .upper j; firm = b .firm j; edits = a j }) in
         let here : MeetsSpread c p (record { state = spread q; answer = d .answer }) = subst (λ s. MeetsSpread c p (record { state = s; answer = d .answer })) (sym {A = Spread} drawn-state) meets in
         let made = meets-made c p (record { state = spread q; answer = d .answer }) here in
-        let same : SameIf (d .answer) (q ≡ x) = same-if (d .answer) x q (λ y. let z : drawn ≡ false = drawn-is ∙ ap (λ w. eqb (l .op) 2 && w) y ∙ and-false (eqb (l .op) 2) in table-is ∙ ap (λ w. cond w (withRule table slot (l .a) (l .b) (l .c) (l .d)) table) z) (here .same) in
+        let same : SameIf (d .answer) (q ≡ x) = same-if (d .answer) x q (λ y. table-is ∙ ap (λ w. cond w (withRule table n (l .a) (l .b) (l .c) (l .d)) table) (ap (λ w. eqb (l .op) 2 && w) y ∙ and-false (eqb (l .op) 2))) (here .same) in
         record {
           answer = made .answer ∙ ap (λ o. stepOf o (view x) .answer) (sym (line-draws l op));
           plan = made .plan ∙ ap (λ o. stepOf o (view x) .plan) (sym (line-draws l op));
           same = same;
-          sized = subst Sized (sym {A = Spread} drawn-state) (drawn-sized p d (k .sized));
-          long = b′ .long;
+          sized = subst Sized (sym {A = Spread} drawn-state) (drawn-sized p d drawn (l .a) (l .b) (l .c) (l .d) (k .sized));
+          long = b .long;
           tallied = λ x. draw-counts (l .op) (l .a) (l .b) (l .c) (l .d) t op refl made x;
           indexed = λ y. cases (eqb (l .op) 3 && isAccepted (d .answer))
               (λ t drawn. new t)

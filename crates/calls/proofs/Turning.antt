@@ -34,17 +34,16 @@ use Rattle.state.specs.Meets.{answerOf}
 use Rattle.state.specs.Spread.{MeetsSpread}
 use Rattle.state.specs.Sizes.{Sized}
 use Rattle.state.proofs.Views.{sides-length, sides-most, side-at}
-use Rattle.edit.specs.declared.Decision.{Decision}
 use Rattle.edit.specs.declared.Ruling.{Ruling}
 use Rattle.edit.specs.declared.Ruling.the-variants.{Refused as Denied, Granted}
-use Rattle.edit.specs.Edits.{spotOf, editRuling, editDecision, editIn}
+use Rattle.edit.specs.Edits.{Decision, spotOf, editRuling, editDecision, editIn}
 use Rattle.rules.specs.Rules.{testedIn, firmIn}
 use Rattle.draw.proofs.Draws.{rules-length}
 use Rattle.edit.proofs.Edits.{edit-sound}
 use Rattle.replay.specs.Replays.{replayIn}
 use Rattle.replay.proofs.Replays.{replay-sound}
-use Rattle.counts.specs.declared.Tallies.{Tallies}
-use Rattle.counts.specs.Tallies.{Tallied, isAccepted, oneUnsent, moveTally}
+use Rattle.counts.specs.Tallies.{Tallied, settledIn, oneUnsent, allSent, moveTally}
+use Rattle.state.specs.Spread.{isAccepted}
 use Rattle.counts.proofs.Counts.{tallyAfter, tallied-after}
 use Rattle.draw.specs.Draw.{drawCall}
 use Rattle.moves.specs.Rare.{moveCall}
@@ -234,7 +233,7 @@ kept-length p = length-span 0 (keptIn (p .head)) (λ i. keptAt (endIn (p .head) 
 kept-most : (p : Spread) → length (planOf p .content .kept) ≤ 256
 kept-most p = let l = kept-length p in omega arith
 
-pub settled-few : (p : Spread) (t : Tallies) → Tallied t (planOf p) → min (t .settled) 256 ≡ count isSettled (keptOf (p .head) (p .edits))
+pub settled-few : (p : Spread) (t : List ℕ) → Tallied t (planOf p) → min (settledIn t) 256 ≡ count isSettled (keptOf (p .head) (p .edits))
 settled-few p t h = let c = h .counted .settled in let l = kept-most p in let s = settled-count (keptOf (p .head) (p .edits)) in omega arith
 
 module _ (c : Call) {p q : Spread} {a : Answer} {vs : List ℤ} (m : Made (some c) p q a vs) where
@@ -256,7 +255,7 @@ module _ (c : Call) {p q : Spread} {a : Answer} {vs : List ℤ} (m : Made (some 
       by (refused k) e v = v
 
   -- the counts of an accepted call, else those of before
-  pub tallied-made : (t : Tallies) → Tallied t (planOf p) → Tallied (cond (isAccepted a) (tallyAfter c (planOf p) t) t) (planOf q)
+  pub tallied-made : (t : List ℕ) → Tallied t (planOf p) → Tallied (cond (isAccepted a) (tallyAfter c (planOf p) t) t) (planOf q)
   tallied-made t h = cases (isAccepted a)
       (λ y. let s = if-accepted y in rw y (subst (Tallied (tallyAfter c (planOf p) t)) (sym (s .1)) (tallied-after t (planOf p) (kept-most p) (let l = sides-length p in let n = sides-most (p .head) in omega arith) h c (s .0))))
       (λ n. rw n (subst (Tallied t) (sym (if-refused n)) h))
@@ -278,7 +277,7 @@ module _ (p : Spread) (s client n m kind k : ℤ) {q : Spread} (d : Decision) (e
       let l = sides-length p in
       sym (ap (λ x. x .arrived) (side-at p (natural s) (r .0) (omega (arith, l, r .1))))
 
-  pub edit-counts : (t : Tallies) → cond (d .kept) (oneUnsent (natural s) (getD (p .arrived) (indexOf (natural s)) false) t) t ≡ cond (isAccepted (d .answer)) (tallyAfter (edit s client n m kind k) (planOf p) t) t
+  pub edit-counts : (t : List ℕ) → cond (d .kept) (oneUnsent (natural s) (getD (p .arrived) (indexOf (natural s)) false) t) t ≡ cond (isAccepted (d .answer)) (tallyAfter (edit s client n m kind k) (planOf p) t) t
   edit-counts t = cases (isAccepted (d .answer)) (λ y. cases (is whole (modeOf (p .head .mode))) (λ v. rw (y, yes y, v)) (λ v. rw (y, flag-is y, yes y, v))) (λ x. rw (x, not-so x))
     where
       yes-by : (r : Ruling) → let f = editDecision (p .head) r (getD (p .values) (spotOf (natural s) (natural m)) (pos 0)) (natural s) (natural client) (natural n) (natural m) in isAccepted (f .answer) ≡ true → f .kept ≡ not (is whole (modeOf (p .head .mode)))
@@ -298,15 +297,25 @@ module _ (p : Spread) (s client n m kind k : ℤ) {q : Spread} (d : Decision) (e
       not-so : isAccepted (d .answer) ≡ false → d .kept ≡ false
       not-so y = ap (λ f. f .kept) e ∙ no-by ruled (ap (λ f. isAccepted (f .answer)) (sym e) ∙ y)
 
+-- a send that was accepted is of a side of the plan
+pub send-counts : (p : Spread) (s : ℤ) {q : Spread} {a : Answer} (made : Made (some (send s)) p q a []) (t : List ℕ) → cond (isAccepted a) (allSent (natural s) (getD (p .arrived) (indexOf (natural s)) false) t) t ≡ cond (isAccepted a) (tallyAfter (send s) (planOf p) t) t
+unfolding checks further
+send-counts p s {a = a} made t = cases (isAccepted a)
+    (λ y.
+    let r = range (length (planOf p .content .sides)) (natural s) (if-accepted (send s) made y .0 .1 .0) in
+    let l = sides-length p in
+    rw (y, ap (λ x. x .arrived) (side-at p (natural s) (r .0) (omega (arith, l, r .1)))))
+    (λ n. rw n)
+
 -- a call on the frame, by its number
-pub move-counts : (op : ℕ) (x : ℤ) (p : Spread) (t : Tallies) → isMove op ≡ true → moveTally op (p .head) t ≡ tallyAfter (moveCall op x) (planOf p) t
+pub move-counts : (op : ℕ) (x : ℤ) (p : Spread) (t : List ℕ) → isMove op ≡ true → moveTally op (p .head) t ≡ tallyAfter (moveCall op x) (planOf p) t
 move-counts op x p t m =
     by-move op m (λ e. rw e)
     (λ e. rw (e, sides-length p, kept-length p))
     (λ e. rw e) (λ e. rw e) (λ e. rw e)
 
 -- one that draws up the plan moves none
-pub draw-counts : (op : ℕ) (a b c d : ℤ) {l : Option Call} {p q : Spread} {r : Answer} {vs : List ℤ} (t : Tallies) → isDraw op ≡ true → l ≡ some (drawCall op a b c d) → Made l p q r vs → Tallied t (planOf p) → Tallied t (planOf q)
+pub draw-counts : (op : ℕ) (a b c d : ℤ) {l : Option Call} {p q : Spread} {r : Answer} {vs : List ℤ} (t : List ℕ) → isDraw op ≡ true → l ≡ some (drawCall op a b c d) → Made l p q r vs → Tallied t (planOf p) → Tallied t (planOf q)
 draw-counts op a b c d {l = l} {p = p} {q = q} {r = r} {vs = vs} t y e m h =
     by-draw op y
     (λ z. by (measure a) (e ∙ rw z) (λ x. refl))

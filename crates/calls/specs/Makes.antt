@@ -25,7 +25,6 @@ use Rattle.state.specs.Sizes.{Sized}
 use Rattle.state.specs.Meets.{answerOf}
 use Rattle.replay.specs.Replays.{earlierAt}
 use Rattle.moves.specs.Moves.{Marked}
-use Rattle.counts.specs.declared.Tallies.{Tallies}
 use Rattle.counts.specs.Tallies.{Tallied}
 use Rattle.writer.specs.Writes.{withRow}
 use Rattle.reader.specs.declared.Line.{Line}
@@ -60,7 +59,7 @@ SoundIn b p = b ≡ true → Holding (planOf p .mode) (planOf p .content)
 abbrev pub IndexedIn : Spread → List ℤ → Type 0
 IndexedIn p index = T (not (is blank (modeOf (p .head .mode)))) → Indexed index (p .lower) (p .gap) (p .upper) (p .firm) (min (p .head .rules) 64)
 
-pub record Known (l : Line) (p : State) (index : List ℤ) (look : Look) (t : Tallies) (sound : Bool) : Type 0 where
+pub record Known (l : Line) (p : State) (index : List ℤ) (look : Look) (t : List ℕ) (sound : Bool) : Type 0 where
   pub sized : Sized (spread p)
   pub long : length (p .table) ≡ 256
   pub tallied : eqb (l .op) 5 ≡ false → Tallied t (view p)
@@ -79,14 +78,14 @@ SameIf Done A = Unit {0}
 SameIf (Number n) A = Unit {0}
 SameIf (Pair a b) A = Unit {0}
 
--- from one state to the next, with the index before and after
-pub record Makes (l : Line) (p q : State) (t : Tallies) (index index′ : List ℤ) (e : Effect) : Type 0 where
+-- from one state to the next, with counts and index before and after
+pub record Makes (l : Line) (p q : State) (t t′ : List ℕ) (index index′ : List ℤ) (e : Effect) : Type 0 where
   pub answer : withRow (answerOf (e .answer)) (row (q .values) (e .from) (e .width)) ≡ stepOf (lineIn l) (view p) .answer
   pub plan : view q ≡ stepOf (lineIn l) (view p) .plan
   pub same : SameIf (e .answer) (q ≡ p)
   pub sized : Sized (spread q)
   pub long : length (q .table) ≡ 256
-  pub tallied : Tallied t (view p) → Tallied (e .counts) (view q)
+  pub tallied : Tallied t (view p) → Tallied t′ (view q)
   pub indexed : IndexedIn (spread p) index → IndexedIn (spread q) index′
   pub from : e .from ≤ 224
   pub width : e .width ≤ 32
@@ -98,14 +97,14 @@ noted e es = cond (e .kept) (set es (e .slot) (e .entry)) es
 
 -- The contract of every call: from what was lent as it was, what was handed over, and what was lent as it is then. The owner stores the record, and marks the
 -- edits of a side among the first so many.
-pub record Making (l : Line) (h : Head) (base draft values : List ℤ) (arrived confirmed : List Bool) (table : List ℤ) (index : List ℤ) (look : Look) (t : Tallies) (sound : Bool) (e : Effect)
-    (base′ draft′ values′ : List ℤ) (arrived′ confirmed′ : List Bool) (table′ : List ℤ) (index′ : List ℤ) : Type 0 where
+pub record Making (l : Line) (h : Head) (base draft values : List ℤ) (arrived confirmed : List Bool) (table index : List ℤ) (look : Look) (t : List ℕ) (sound : Bool) (e : Effect)
+    (h′ : Head) (base′ draft′ values′ : List ℤ) (arrived′ confirmed′ : List Bool) (table′ index′ : List ℤ) (t′ : List ℕ) : Type 0 where
   pub slot : e .slot < 256
   pub marked : e .marked ≤ 256
   pub made : (edits after : List EditRecord)
       → Known l (stateOf h base draft values arrived confirmed table edits) index look t sound
       → Marked (natural (l .a)) (noted e edits) after (e .marked)
-      → Makes l (stateOf h base draft values arrived confirmed table edits) (stateOf (e .head) base′ draft′ values′ arrived′ confirmed′ table′ after) t index index′ e
+      → Makes l (stateOf h base draft values arrived confirmed table edits) (stateOf h′ base′ draft′ values′ arrived′ confirmed′ table′ after) t t′ index index′ e
 
 -- ---- the calls by their number in the order of 01
 
@@ -117,5 +116,9 @@ isDraw op = ltb 0 op && ltb op 4
 
 -- ---- effects
 
-abbrev pub plain : Head → Answer → Tallies → Effect
-plain h a t = record { head = h; counts = t; answer = a; from = 0; width = 0; kept = false; slot = 0; entry = noRecord; marked = 0 }
+abbrev pub plain : Answer → Effect
+plain a = record { answer = a; from = 0; width = 0; kept = false; slot = 0; entry = noRecord; marked = 0 }
+
+-- a record is stored
+abbrev pub stored : Answer → ℕ → EditRecord → Effect
+stored a slot e = record { answer = a; from = 0; width = 0; kept = true; slot = slot; entry = e; marked = 0 }

@@ -3,30 +3,33 @@
 ghost use mathlib.Core.Path.{_≡_};
 ghost use mathlib.Core.Bool.{Bool, true, false, cond, _&&_};
 ghost use mathlib.Core.List.{List};
-ghost use Prim.Native.Nat.{ℕ, _<_, min};
+ghost use Prim.Native.Nat.{ℕ, min};
 ghost use lib.Dec.{eqb};
 ghost use lib.IntN.{ℤ};
 ghost use Rattle.calls.specs.declared.Look.{Look};
+ghost use Rattle.heads.specs.Numbers.{headFrom};
 ghost use Rattle.replay.specs.Replays.{earlierAt};
 ghost use Rattle.rules.specs.Table.{lowers, gaps, uppers, firms, withRule};
 ghost use Rattle.rules.specs.Index.{Indexed};
-ghost use Rattle.counts.specs.Tallies.{isAccepted};
+ghost use Rattle.counts.specs.Tallies.{isAccepted, allSent, moveTally};
 ghost use Rattle.reader.specs.Reads.{lineIn};
 ghost use Rattle.query.specs.Readings.{readCall};
-ghost use Rattle.calls.specs.Makes.{looksAt, askedAt, Making, isMove, isDraw, plain};
+ghost use Rattle.calls.specs.Makes.{looksAt, askedAt, Making, isMove, isDraw, plain, stored};
+ghost use Rattle.state.specs.declared.Answer.the-variants as Answer;
 use counts::Tallies;
+use edit::Ruling;
 use heads::Head;
+use heads::Numbers;
 use reader::Line;
 use records::EditRecord;
+use replay::Outcome;
 use rules::Index;
 use rules::Table;
 use state::Answer;
 
-// What a call leaves besides what it stored: the head, the counts, its answer, where the values stand that it gives besides, the record that the owner is to store
-// in a slot, if it is kept, and among how many edits those of the side are to be marked as sent.
+// What a call leaves besides what it stored: its answer, where the values stand that it gives besides, the record that the owner is to store in a slot, if it is
+// kept, and among how many edits those of the side are to be marked as sent. Every line pays for what stands here.
 pub struct Effect {
-    pub head: Head,
-    pub counts: Tallies,
     pub answer: Answer,
     pub from: usize,
     pub width: usize,
@@ -42,6 +45,17 @@ pub struct Look {
     pub standing: EditRecord,
     pub next: usize,
     pub seen: EditRecord,
+}
+
+pub fn looking(named: usize, standing: EditRecord, next: usize, seen: EditRecord) -> Look
+    ensures { λ r. ⌜ r ≡ record { named = named; standing = standing; next = next; seen = seen } ⌝ }
+{
+    Look {
+        named,
+        standing,
+        next,
+        seen,
+    }
 }
 
 // The place, from 1, of the kept edit that a call names; 0 for a call that looks at none.
@@ -72,13 +86,11 @@ pub fn second_look(l: Line, h: Head, named: usize, standing: EditRecord) -> usiz
 }
 
 // No edit is stored or marked.
-fn plain_effect(head: Head, answer: Answer, counts: Tallies) -> Effect
-    ensures { λ r. ⌜ r ≡ plain head answer counts ⌝ }
+fn plain_effect(answer: Answer) -> Effect
+    ensures { λ r. ⌜ r ≡ plain answer ⌝ }
 {
     let entry = records::no_record();
     Effect {
-        head,
-        counts,
         answer,
         from: 0,
         width: 0,
@@ -89,103 +101,18 @@ fn plain_effect(head: Head, answer: Answer, counts: Tallies) -> Effect
     }
 }
 
-fn edit_in<'a>(
-    l: Line,
-    h: Head,
-    values: &mut [i32; 256],
-    arrived: &'a [bool; 8],
-    table: &'a Table,
-    index: &'a Index,
-    look: Look,
-    t: Tallies,
-    sound: bool,
-) -> Effect
-    requires { ⌜ l .op ≡ 5 ⌝ }
-    ensures { λ r. ⌜ ((base draft : List ℤ) (confirmed : List Bool) → Making l h base draft (now (values .entry)) (now (arrived .entry)) confirmed
-        (now (table .entry)) (now (index .entry)) look t sound r base draft (now (values .exit)) (now (arrived .entry)) confirmed (now (table .entry))
-        (now (index .entry))) ⌝ }
+fn refusal(k: u32) -> Effect
+    ensures { λ r. ⌜ r ≡ plain (Answer.Refused k) ⌝ }
 {
-    let standing = look.standing;
-    let spot = edit::spot(l.a, l.d);
-    let slot = rows::capped(h.kept, 255);
-    let d = edit::decide_edit(
-        h,
-        table,
-        index,
-        values,
-        look.named,
-        standing,
-        l.a,
-        l.b,
-        l.c,
-        l.d,
-        l.e,
-        l.f,
-        sound,
-    );
-    let value = d.value;
-    values[spot] = value;
-    let side = exact::number(l.a);
-    let place = heads::index(side);
-    let kept = d.kept;
-    let counts = counts::after_edit(t, kept, side, arrived[place]);
-    let head = d.head;
-    let entry = d.entry;
-    let answer = d.answer;
-    Effect {
-        head,
-        counts,
-        answer,
-        from: 0,
-        width: 0,
-        kept,
-        slot,
-        entry,
-        marked: 0,
-    }
+    let answer = Answer::Refused(k);
+    plain_effect(answer)
 }
 
-fn replay_in<'a>(
-    l: Line,
-    h: Head,
-    draft: &mut [i32; 32],
-    arrived: &'a [bool; 8],
-    table: &'a Table,
-    index: &'a Index,
-    look: Look,
-    t: Tallies,
-    sound: bool,
-) -> Effect
-    requires { ⌜ l .op ≡ 8 ⌝ }
-    ensures { λ r. ⌜ ((base values : List ℤ) (confirmed : List Bool) → Making l h base (now (draft .entry)) values (now (arrived .entry)) confirmed
-        (now (table .entry)) (now (index .entry)) look t sound r base (now (draft .exit)) values (now (arrived .entry)) confirmed (now (table .entry))
-        (now (index .entry))) ⌝ }
+// A record is stored.
+fn keeping(answer: Answer, slot: usize, entry: EditRecord) -> Effect
+    ensures { λ r. ⌜ r ≡ stored answer slot entry ⌝ }
 {
-    let standing = look.standing;
-    let seen = look.seen;
-    let slot = heads::slot(look.named);
-    let point = replay::point_of(look.named, standing);
-    let d = replay::decide_replay(
-        h,
-        table,
-        index,
-        draft,
-        arrived,
-        look.named,
-        standing,
-        look.next,
-        seen,
-        t.settled,
-        sound,
-    );
-    let amount = d.amount;
-    draft[point] = amount;
-    let entry = d.entry;
-    let answer = d.answer;
-    let counts = counts::after_replay(t, answer);
     Effect {
-        head: h,
-        counts,
         answer,
         from: 0,
         width: 0,
@@ -196,21 +123,121 @@ fn replay_in<'a>(
     }
 }
 
-fn send_in(l: Line, h: Head, arrived: &mut [bool; 8], t: Tallies) -> Effect
-    requires { ⌜ l .op ≡ 7 ⌝ }
-    ensures { λ r. ⌜ ((base draft values : List ℤ) (confirmed : List Bool) (table : List ℤ) (index : List ℤ) (look : Look) (sound : Bool) → Making l h base
-        draft values (now (arrived .entry)) confirmed table index look t sound r base draft values (now (arrived .exit)) confirmed table index) ⌝ }
+fn edit_in<'a>(
+    l: Line,
+    head: &mut Numbers,
+    values: &mut [i32; 256],
+    arrived: &'a [bool; 8],
+    table: &'a Table,
+    index: &'a Index,
+    look: Look,
+    counts: &mut Tallies,
+    sound: bool,
+) -> Effect
+    requires { ⌜ l .op ≡ 5 ⌝ }
+    ensures { λ r. ⌜ ((base draft : List ℤ) (confirmed : List Bool) → Making l (headFrom (now (head .entry))) base draft (now (values .entry))
+        (now (arrived .entry)) confirmed (now (table .entry)) (now (index .entry)) look (now (counts .entry)) sound r (headFrom (now (head .exit))) base draft
+        (now (values .exit)) (now (arrived .entry)) confirmed (now (table .entry)) (now (index .entry)) (now (counts .exit))) ⌝ }
 {
+    let h = heads::from_numbers(head);
+    let standing = look.standing;
+    let ruling = edit::decide_edit(l, h, table, index, values, look.named, standing, sound);
+    match ruling {
+        Ruling::Refused(k) => refusal(k),
+        Ruling::Granted(change, x) => {
+            let spot = edit::spot(l.a, l.d);
+            values[spot] = x;
+            let next = heads::numbers(edit::edit_head(h));
+            *head = next;
+            let answer = Answer::Number(h.next);
+            let mode = h.mode;
+            if edit::is_whole(mode) {
+                return plain_effect(answer);
+            }
+            let side = exact::number(l.a);
+            let place = heads::index(side);
+            counts::note_kept(counts, side, arrived[place]);
+            keeping(
+                answer,
+                rows::capped(h.kept, 255),
+                edit::edit_record(h, l, change),
+            )
+        }
+    }
+}
+
+// The fate that a replay gives: 3 accepted, 4 revoked.
+fn fate_number(accepted: bool) -> u32
+    ensures { λ r. ⌜ r ≡ cond accepted 3 4 ⌝ }
+{
+    if accepted { 3 } else { 4 }
+}
+
+fn replay_in<'a>(
+    l: Line,
+    head: &'a Numbers,
+    draft: &mut [i32; 32],
+    table: &'a Table,
+    index: &'a Index,
+    look: Look,
+    counts: &mut Tallies,
+    sound: bool,
+) -> Effect
+    requires { ⌜ l .op ≡ 8 ⌝ }
+    ensures { λ r. ⌜ ((base values : List ℤ) (arrived confirmed : List Bool) → Making l (headFrom (now (head .entry))) base (now (draft .entry)) values arrived
+        confirmed (now (table .entry)) (now (index .entry)) look (now (counts .entry)) sound r (headFrom (now (head .entry))) base (now (draft .exit)) values
+        arrived confirmed (now (table .entry)) (now (index .entry)) (now (counts .exit))) ⌝ }
+{
+    let h = heads::from_numbers(head);
+    let i = look.named;
+    let standing = look.standing;
+    let seen = look.seen;
+    let missing = counts[counts::MISSING];
+    let outcome = replay::decide_replay(
+        h,
+        table,
+        index,
+        draft,
+        missing,
+        i,
+        standing,
+        look.next,
+        seen,
+        sound,
+    );
+    match outcome {
+        Outcome::Refused(k) => refusal(k),
+        Outcome::Settled(accepted, x) => {
+            let point = replay::point_of(i, standing);
+            draft[point] = x;
+            let place = rows::capped(counts[counts::SETTLED], 256) as u32 + 1;
+            counts::note_settled(counts);
+            let answer = Answer::Number(fate_number(accepted));
+            keeping(
+                answer,
+                heads::slot(i),
+                replay::settled_record(standing, accepted, place),
+            )
+        }
+    }
+}
+
+fn send_in(l: Line, head: &Numbers, arrived: &mut [bool; 8], counts: &mut Tallies) -> Effect
+    requires { ⌜ l .op ≡ 7 ⌝ }
+    ensures { λ r. ⌜ ((base draft values : List ℤ) (confirmed : List Bool) (table : List ℤ) (index : List ℤ) (look : Look) (sound : Bool) → Making l
+        (headFrom (now (head .entry))) base draft values (now (arrived .entry)) confirmed table index look (now (counts .entry)) sound r
+        (headFrom (now (head .entry))) base draft values (now (arrived .exit)) confirmed table index (now (counts .exit))) ⌝ }
+{
+    let h = heads::from_numbers(head);
     let side = exact::number(l.a);
     let place = heads::index(side);
-    let d = moves::decide_send(h, side, arrived[place], t.unsent[place]);
+    let was = arrived[place];
+    let d = moves::decide_send(h, side, was, counts[place]);
     arrived[place] = d.arrived;
     let answer = d.answer;
-    let counts = counts::after_send(t, side, answer);
+    note_sent(counts, counts::accepted(answer), side, was);
     let entry = records::no_record();
     Effect {
-        head: h,
-        counts,
         answer,
         from: 0,
         width: 0,
@@ -221,25 +248,46 @@ fn send_in(l: Line, h: Head, arrived: &mut [bool; 8], t: Tallies) -> Effect
     }
 }
 
+// Counts a send, if it was accepted.
+fn note_sent(counts: &mut Tallies, accepted: bool, s: u32, was: bool)
+    ensures { λ r. ⌜ now (counts .exit) ≡ cond accepted (allSent s was (now (counts .entry))) (now (counts .entry)) ⌝ }
+{
+    if accepted {
+        counts::note_sent(counts, s, was);
+    }
+}
+
+// Counts a move, if it was accepted.
+fn note_move(counts: &mut Tallies, accepted: bool, op: u32, h: Head)
+    ensures { λ r. ⌜ now (counts .exit) ≡ cond accepted (moveTally op h (now (counts .entry))) (now (counts .entry)) ⌝ }
+{
+    if accepted {
+        counts::note_move(counts, op, h);
+    }
+}
+
 // split, join, stop, confirm, install
 fn move_in(
     l: Line,
-    h: Head,
+    head: &mut Numbers,
     base: &mut [i32; 32],
     draft: &mut [i32; 32],
     values: &mut [i32; 256],
     arrived: &mut [bool; 8],
     confirmed: &mut [bool; 8],
-    t: Tallies,
+    counts: &mut Tallies,
 ) -> Effect
     requires { ⌜ isMove (l .op) ≡ true ⌝ }
-    ensures { λ r. ⌜ ((table : List ℤ) (index : List ℤ) (look : Look) (sound : Bool) → Making l h (now (base .entry)) (now (draft .entry))
-        (now (values .entry)) (now (arrived .entry)) (now (confirmed .entry)) table index look t sound r (now (base .exit)) (now (draft .exit))
-        (now (values .exit)) (now (arrived .exit)) (now (confirmed .exit)) table index) ⌝ }
+    ensures { λ r. ⌜ ((table : List ℤ) (index : List ℤ) (look : Look) (sound : Bool) → Making l (headFrom (now (head .entry))) (now (base .entry))
+        (now (draft .entry)) (now (values .entry)) (now (arrived .entry)) (now (confirmed .entry)) table index look (now (counts .entry)) sound r
+        (headFrom (now (head .exit))) (now (base .exit)) (now (draft .exit)) (now (values .exit)) (now (arrived .exit)) (now (confirmed .exit)) table index
+        (now (counts .exit))) ⌝ }
 {
+    let h = heads::from_numbers(head);
     let side = exact::number(l.a);
     let place = heads::index(side);
-    let unsent = t.unsent[place];
+    let unsent = counts[place];
+    let waiting = counts[counts::WAITING];
     let r = moves::make_move(
         h,
         base,
@@ -250,12 +298,14 @@ fn move_in(
         l.op,
         l.a,
         unsent,
-        t.waiting,
+        waiting,
     );
     moves::lengths(base, draft, values, arrived, confirmed);
-    let head = r.head;
     let answer = r.answer;
-    plain_effect(head, answer, counts::after_move(t, l.op, h, answer))
+    let next = heads::numbers(r.head);
+    *head = next;
+    note_move(counts, counts::accepted(answer), l.op, h);
+    plain_effect(answer)
 }
 
 // A rule was drawn.
@@ -268,13 +318,12 @@ fn is_drawn(op: u32, answer: Answer) -> bool
     false
 }
 
-// Writes rule i anew, if one was drawn.
-fn note_rule(table: &mut Table, i: usize, drawn: bool, a: i32, c: i32, b: i32, f: i32)
-    requires { ⌜ i < 64 ⌝ }
-    ensures { λ r. ⌜ now (table .exit) ≡ cond drawn (withRule (now (table .entry)) i a c b f) (now (table .entry)) ⌝ }
+// Writes the rule behind the first k, if one was drawn.
+fn note_rule(table: &mut Table, k: u32, drawn: bool, a: i32, c: i32, b: i32, f: i32)
+    ensures { λ r. ⌜ now (table .exit) ≡ cond drawn (withRule (now (table .entry)) (min k 63) a c b f) (now (table .entry)) ⌝ }
 {
     if drawn {
-        rules::put_rule(table, i, a, c, b, f);
+        rules::put_rule(table, k, a, c, b, f);
     }
 }
 
@@ -302,40 +351,42 @@ fn note_index(index: &mut Index, table: &Table, k: u32, opened: bool)
 // measure, rule, open
 fn draw_in(
     l: Line,
-    h: Head,
+    head: &mut Numbers,
     values: &mut [i32; 256],
     table: &mut Table,
     index: &mut Index,
-    t: Tallies,
 ) -> Effect
     requires { ⌜ isDraw (l .op) ≡ true ⌝ }
-    ensures { λ r. ⌜ ((base draft : List ℤ) (arrived confirmed : List Bool) (look : Look) (sound : Bool) → Making l h base draft (now (values .entry)) arrived
-        confirmed (now (table .entry)) (now (index .entry)) look t sound r base draft (now (values .exit)) arrived confirmed (now (table .exit))
-        (now (index .exit))) ⌝ }
+    ensures { λ r. ⌜ ((base draft : List ℤ) (arrived confirmed : List Bool) (look : Look) (t : List ℕ) (sound : Bool) → Making l (headFrom (now (head .entry)))
+        base draft (now (values .entry)) arrived confirmed (now (table .entry)) (now (index .entry)) look t sound r (headFrom (now (head .exit))) base draft
+        (now (values .exit)) arrived confirmed (now (table .exit)) (now (index .exit)) t) ⌝ }
 {
+    let h = heads::from_numbers(head);
     let spot = rows::capped(h.measures, 31);
-    let slot = rows::capped(h.rules, 63);
     let d = draw::decide_draw(h, table, values, l.op, l.a, l.b, l.c, l.d);
-    let entry = d.entry;
-    let value = entry.value;
+    let value = d.value;
     values[spot] = value;
     let answer = d.answer;
-    note_rule(table, slot, is_drawn(l.op, answer), l.a, l.b, l.c, l.d);
-    let head = d.head;
-    note_index(index, table, head.rules, is_opened(l.op, answer));
-    plain_effect(head, answer, t)
+    note_rule(table, h.rules, is_drawn(l.op, answer), l.a, l.b, l.c, l.d);
+    let drawn = d.head;
+    note_index(index, table, drawn.rules, is_opened(l.op, answer));
+    let next = heads::numbers(drawn);
+    *head = next;
+    plain_effect(answer)
 }
 
 // show, fate, left; a line that cannot be read
-fn read_in(l: Line, h: Head, look: Look, t: Tallies) -> Effect
+fn read_in<'a>(l: Line, head: &'a Numbers, look: Look, counts: &'a Tallies) -> Effect
     requires { ⌜ (lineIn l ≡ readCall (l .op) (l .a)) × (eqb (l .op) 5 ≡ false) ⌝ }
-    ensures { λ r. ⌜ ((base draft values : List ℤ) (arrived confirmed : List Bool) (table : List ℤ) (index : List ℤ) (sound : Bool) → Making l h base draft
-        values arrived confirmed table index look t sound r base draft values arrived confirmed table index) ⌝ }
+    ensures { λ r. ⌜ ((base draft values : List ℤ) (arrived confirmed : List Bool) (table : List ℤ) (index : List ℤ) (sound : Bool) → Making l
+        (headFrom (now (head .entry))) base draft values arrived confirmed table index look (now (counts .entry)) sound r (headFrom (now (head .entry))) base draft
+        values arrived confirmed table index (now (counts .entry))) ⌝ }
 {
+    let h = heads::from_numbers(head);
     let standing = look.standing;
-    let r = query::read(l.op, l.a, h, look.named, standing, t.left);
+    let r = query::read(l.op, l.a, h, look.named, standing, counts[counts::LEFT]);
     let answer = r.answer;
-    let mut e = plain_effect(h, answer, t);
+    let mut e = plain_effect(answer);
     e.from = r.from;
     e.width = r.width;
     e
@@ -370,7 +421,7 @@ fn draws(op: u32) -> bool
 // Every call, by its number in the order of 01.
 pub fn make(
     l: Line,
-    h: Head,
+    head: &mut Numbers,
     base: &mut [i32; 32],
     draft: &mut [i32; 32],
     values: &mut [i32; 256],
@@ -379,28 +430,28 @@ pub fn make(
     table: &mut Table,
     index: &mut Index,
     look: Look,
-    t: Tallies,
+    counts: &mut Tallies,
     sound: bool,
 ) -> Effect
-    ensures { λ r. ⌜ Making l h (now (base .entry)) (now (draft .entry)) (now (values .entry)) (now (arrived .entry)) (now (confirmed .entry))
-        (now (table .entry)) (now (index .entry)) look t sound r (now (base .exit)) (now (draft .exit)) (now (values .exit)) (now (arrived .exit))
-        (now (confirmed .exit)) (now (table .exit)) (now (index .exit)) ⌝ }
+    ensures { λ r. ⌜ Making l (headFrom (now (head .entry))) (now (base .entry)) (now (draft .entry)) (now (values .entry)) (now (arrived .entry))
+        (now (confirmed .entry)) (now (table .entry)) (now (index .entry)) look (now (counts .entry)) sound r (headFrom (now (head .exit))) (now (base .exit))
+        (now (draft .exit)) (now (values .exit)) (now (arrived .exit)) (now (confirmed .exit)) (now (table .exit)) (now (index .exit)) (now (counts .exit)) ⌝ }
 {
     let op = l.op;
     if op == 5 {
-        return edit_in(l, h, values, arrived, table, index, look, t, sound);
+        return edit_in(l, head, values, arrived, table, index, look, counts, sound);
     }
     if op == 8 {
-        return replay_in(l, h, draft, arrived, table, index, look, t, sound);
+        return replay_in(l, head, draft, table, index, look, counts, sound);
     }
     if op == 7 {
-        return send_in(l, h, arrived, t);
+        return send_in(l, head, arrived, counts);
     }
     if moves(op) {
-        return move_in(l, h, base, draft, values, arrived, confirmed, t);
+        return move_in(l, head, base, draft, values, arrived, confirmed, counts);
     }
     if draws(op) {
-        return draw_in(l, h, values, table, index, t);
+        return draw_in(l, head, values, table, index);
     }
-    read_in(l, h, look, t)
+    read_in(l, head, look, counts)
 }

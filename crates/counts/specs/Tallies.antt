@@ -1,39 +1,51 @@
--- Scaffolding: counts of the kept edits, the number left, and how the calls move them. Assumes nothing.
+-- Scaffolding: counts of the kept edits, the number left and the first logs that are missing, and how the calls move them. Assumes nothing.
 use Prim.Native.Nat.{ℕ, suc, _+_, _*_, _-_, _<_, _≤_, min}
 use mathlib.Core.Path.{_≡_}
-use mathlib.Core.Bool.{Bool, true, false, cond, _&&_}
+use mathlib.Core.Bool.{Bool, not, cond, _&&_}
 use mathlib.Core.List.{List}
 use lib.Dec.{T, eqb}
 use lib.ListN.{length, getD, set, replicate}
 use Rattle.protocol.specs.Lists.{bit, isNone, count}
-use Rattle.protocol.specs.Plan.{Kept, isWaiting, isSettled, unsentOf, Plan, whole, is, active}
+use Rattle.protocol.specs.Plan.{Kept, isWaiting, isSettled, Plan, whole, is, active, sideAt, unsentOf, sidesThat}
 use Rattle.protocol.specs.Calls.{leftOf}
 use Rattle.heads.specs.declared.Head.{Head}
 use Rattle.heads.specs.Heads.{modeOf, sidesIn, keptIn, indexOf}
-use Rattle.state.specs.declared.Answer.{Answer}
-use Rattle.state.specs.declared.Answer.the-variants.{Refused, Done, Number, Pair}
-use Rattle.counts.specs.declared.Tallies.{Tallies}
+pub use Rattle.state.specs.Spread.{isAccepted}
+
+-- ---- the counts, as they stand in the array
+
+abbrev pub unsentIn : List ℕ → ℕ → ℕ
+unsentIn t s = getD t (indexOf s) 0
+
+abbrev pub waitingIn : List ℕ → ℕ
+waitingIn t = getD t 8 0
+
+abbrev pub settledIn : List ℕ → ℕ
+settledIn t = getD t 9 0
+
+abbrev pub leftIn : List ℕ → ℕ
+leftIn t = getD t 10 0
+
+abbrev pub missingIn : List ℕ → ℕ
+missingIn t = getD t 11 0
 
 -- what the counts say of the kept edits
-pub record Counted (t : Tallies) (ks : List Kept) : Type 0 where
-  pub unsent : (s : ℕ) → 0 < s → s ≤ 8 → getD (t .unsent) (indexOf s) 0 ≡ unsentOf s ks
-  pub waiting : t .waiting ≡ count isWaiting ks
-  pub settled : t .settled ≡ count isSettled ks
+pub record Counted (t : List ℕ) (ks : List Kept) : Type 0 where
+  pub unsent : (s : ℕ) → 0 < s → s ≤ 8 → unsentIn t s ≡ unsentOf s ks
+  pub waiting : waitingIn t ≡ count isWaiting ks
+  pub settled : settledIn t ≡ count isSettled ks
 
 -- and of a plan
-pub record Tallied (t : Tallies) (p : Plan) : Type 0 where
-  pub long : length (t .unsent) ≡ 8
+pub record Tallied (t : List ℕ) (p : Plan) : Type 0 where
+  pub long : length t ≡ 12
   pub counted : Counted t (p .content .kept)
-  pub left : T (active (p .mode)) → t .left ≡ leftOf (p .mode) (p .content)
+  pub left : T (active (p .mode)) → leftIn t ≡ leftOf (p .mode) (p .content)
+  pub missing : T (active (p .mode)) → missingIn t ≡ sidesThat (λ s. not (sideAt (p .content) s .arrived)) (p .content)
 
-abbrev pub isAccepted : Answer → Bool
-isAccepted (Refused k) = false
-isAccepted Done = true
-isAccepted (Number n) = true
-isAccepted (Pair a b) = true
+-- ---- how the calls move them
 
-abbrev pub noTallies : Tallies
-noTallies = record { unsent = replicate 8 0; waiting = 0; settled = 0; left = 0 }
+abbrev pub noTallies : List ℕ
+noTallies = replicate 12 0
 
 -- no count of edits passes 256, and no number left 274 (8 sides, 256 edits), so that nothing overflows whatever the counts are
 
@@ -41,25 +53,25 @@ noTallies = record { unsent = replicate 8 0; waiting = 0; settled = 0; left = 0 
 abbrev pub raise : Bool → ℕ → ℕ
 raise arrived unsent = suc (bit (arrived && isNone unsent))
 
-abbrev pub oneUnsent : ℕ → Bool → Tallies → Tallies
-oneUnsent s arrived t =
-    let u = getD (t .unsent) (indexOf s) 0 in
-    record { unsent = set (t .unsent) (indexOf s) (min u 255 + 1); waiting = t .waiting; settled = t .settled; left = min (t .left) 274 + raise arrived u }
+-- one edit more of a side; arrived says that the side's first log is there
+abbrev pub oneUnsent : ℕ → Bool → List ℕ → List ℕ
+oneUnsent s arrived t = set (set t (indexOf s) (min (unsentIn t s) 255 + 1)) 10 (min (leftIn t) 274 + raise arrived (unsentIn t s))
 
-abbrev pub allSent : ℕ → Tallies → Tallies
-allSent s t =
-    record { unsent = set (t .unsent) (indexOf s) 0; waiting = min (t .waiting) 256 + min (getD (t .unsent) (indexOf s) 0) 256; settled = t .settled; left = t .left - 1 }
+-- arrived says that the side's first log was there before
+abbrev pub allSent : ℕ → Bool → List ℕ → List ℕ
+allSent s arrived t =
+    set (set (set (set t (indexOf s) 0) 8 (min (waitingIn t) 256 + min (unsentIn t s) 256)) 10 (leftIn t - 1)) 11 (cond arrived (missingIn t) (missingIn t - 1))
 
-abbrev pub oneSettled : Tallies → Tallies
-oneSettled t = record { unsent = t .unsent; waiting = min (t .waiting) 256 - 1; settled = min (t .settled) 255 + 1; left = t .left - 1 }
+abbrev pub oneSettled : List ℕ → List ℕ
+oneSettled t = set (set (set t 8 (min (waitingIn t) 256 - 1)) 9 (min (settledIn t) 255 + 1)) 10 (leftIn t - 1)
 
 -- a join begins, with so many sides and kept edits
-abbrev pub begun : ℕ → ℕ → Tallies → Tallies
-begun sides kept t = record { unsent = t .unsent; waiting = t .waiting; settled = t .settled; left = 2 * sides + (kept - t .settled) + 2 }
+abbrev pub begun : ℕ → ℕ → List ℕ → List ℕ
+begun sides kept t = set (set t 10 (2 * sides + (kept - settledIn t) + 2)) 11 sides
 
-abbrev pub oneLess : Tallies → Tallies
-oneLess t = record { unsent = t .unsent; waiting = t .waiting; settled = t .settled; left = t .left - 1 }
+abbrev pub oneLess : List ℕ → List ℕ
+oneLess t = set t 10 (leftIn t - 1)
 
 -- split (4), join (6), stop, confirm or install, by its number in the order of 01
-abbrev pub moveTally : ℕ → Head → Tallies → Tallies
+abbrev pub moveTally : ℕ → Head → List ℕ → List ℕ
 moveTally op h t = cond (eqb op 4) (cond (is whole (modeOf (h .mode))) noTallies t) (cond (eqb op 6) (begun (sidesIn h) (keptIn h) t) (oneLess t))

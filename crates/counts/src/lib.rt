@@ -1,5 +1,5 @@
-// Counts kept beside a state by whoever owns it: how many kept edits each side has unsent, how many wait, how many are settled; and the
-// number left, which is the plan's while it is joining or closing.
+// Counts kept beside a state by whoever owns it, in an array that is lent and changed in place: how many kept edits each side has unsent, how many wait,
+// how many are settled; the number left and how many first logs are missing, which are the plan's while it is joining or closing.
 ghost use Prim.Native.Nat.{_+_, _-_, _≤_};
 ghost use mathlib.Core.Bool.{cond};
 ghost use mathlib.Core.Path.{_≡_};
@@ -8,23 +8,21 @@ ghost use Rattle.heads.specs.Heads.{keptIn};
 use heads::Head;
 use state::Answer;
 
-pub struct Tallies {
-    pub unsent: [u32; 8],
-    pub waiting: u32,
-    pub settled: u32,
-    pub left: u32,
-}
+// How many edits each side has unsent, by the side's index; then how many wait, how many are settled, the number left, and how many first logs are missing.
+pub type Tallies = [u32; 12];
+
+pub const WAITING: usize = 8;
+
+pub const SETTLED: usize = 9;
+
+pub const LEFT: usize = 10;
+
+pub const MISSING: usize = 11;
 
 pub fn no_tallies() -> Tallies
     ensures { λ r. ⌜ r ≡ noTallies ⌝ }
 {
-    let unsent = [0u32; 8];
-    Tallies {
-        unsent,
-        waiting: 0,
-        settled: 0,
-        left: 0,
-    }
+    [0u32; 12]
 }
 
 pub fn accepted(answer: Answer) -> bool
@@ -71,106 +69,75 @@ fn raised(arrived: bool, unsent: u32) -> u32
     1
 }
 
-// A side's unsent edits wait.
-fn all_sent(t: Tallies, s: u32) -> Tallies
-    ensures { λ r. ⌜ r ≡ allSent s t ⌝ }
+// What is missing once a side's first log is there, which was there before or not.
+fn still_missing(missing: u32, arrived: bool) -> u32
+    ensures { λ r. ⌜ r ≡ cond arrived missing (missing - 1) ⌝ }
+{
+    if arrived {
+        return missing;
+    }
+    one_less(missing)
+}
+
+// ---- after a call that is accepted
+
+// One edit more is kept that its side has not sent; arrived says that the side's first log is there.
+pub fn note_kept(t: &mut Tallies, s: u32, arrived: bool)
+    ensures { λ _. ⌜ now (t .exit) ≡ oneUnsent s arrived (now (t .entry)) ⌝ }
 {
     let i = heads::index(s);
-    let u = t.unsent[i];
-    let n = (rows::capped(t.waiting, 256) + rows::capped(u, 256)) as u32;
-    let left = one_less(t.left);
-    let mut next = t;
-    next.unsent[i] = 0;
-    next.waiting = n;
-    next.left = left;
-    next
+    let u = t[i];
+    let n = rows::capped(u, 255) as u32 + 1;
+    let left = rows::capped(t[LEFT], 274) as u32 + raised(arrived, u);
+    t[i] = n;
+    t[LEFT] = left;
+}
+
+// A side's unsent edits wait; arrived says that its first log was there before.
+pub fn note_sent(t: &mut Tallies, s: u32, arrived: bool)
+    ensures { λ _. ⌜ now (t .exit) ≡ allSent s arrived (now (t .entry)) ⌝ }
+{
+    let i = heads::index(s);
+    let u = t[i];
+    let waiting = (rows::capped(t[WAITING], 256) + rows::capped(u, 256)) as u32;
+    let left = one_less(t[LEFT]);
+    let missing = still_missing(t[MISSING], arrived);
+    t[i] = 0;
+    t[WAITING] = waiting;
+    t[LEFT] = left;
+    t[MISSING] = missing;
 }
 
 // A waiting edit is settled.
-fn one_settled(t: Tallies) -> Tallies
-    ensures { λ r. ⌜ r ≡ oneSettled t ⌝ }
+pub fn note_settled(t: &mut Tallies)
+    ensures { λ _. ⌜ now (t .exit) ≡ oneSettled (now (t .entry)) ⌝ }
 {
-    let waiting = one_less(rows::capped(t.waiting, 256) as u32);
-    let settled = rows::capped(t.settled, 255) as u32 + 1;
-    let left = one_less(t.left);
-    let mut next = t;
-    next.waiting = waiting;
-    next.settled = settled;
-    next.left = left;
-    next
+    let waiting = one_less(rows::capped(t[WAITING], 256) as u32);
+    let settled = rows::capped(t[SETTLED], 255) as u32 + 1;
+    let left = one_less(t[LEFT]);
+    t[WAITING] = waiting;
+    t[SETTLED] = settled;
+    t[LEFT] = left;
 }
 
 // split, join, stop, confirm or install, by its number in the order of 01, from the head before it
-fn moved(t: Tallies, op: u32, h: Head) -> Tallies
-    ensures { λ r. ⌜ r ≡ moveTally op h t ⌝ }
+pub fn note_move(t: &mut Tallies, op: u32, h: Head)
+    ensures { λ _. ⌜ now (t .exit) ≡ moveTally op h (now (t .entry)) ⌝ }
 {
     if op == 4 {
         let mode = h.mode;
         if heads::mode_number(mode) == 1 {
-            return no_tallies();
+            *t = [0u32; 12];
         }
-        return t;
+        return;
     }
-    let mut next = t;
     if op == 6 {
-        let left = 2 * (heads::side_count(h) as u32) + unsettled(h, t.settled) + 2;
-        next.left = left;
-        return next;
+        let n = heads::side_count(h) as u32;
+        let left = 2 * n + unsettled(h, t[SETTLED]) + 2;
+        t[LEFT] = left;
+        t[MISSING] = n;
+        return;
     }
-    let left = one_less(t.left);
-    next.left = left;
-    next
-}
-
-// ---- after a call with its answer
-
-// One edit more is kept that its side has not sent; arrived says that the side's first log is there.
-fn after_kept(t: Tallies, s: u32, arrived: bool) -> Tallies
-    ensures { λ r. ⌜ r ≡ oneUnsent s arrived t ⌝ }
-{
-    let i = heads::index(s);
-    let u = t.unsent[i];
-    let n = rows::capped(u, 255) as u32 + 1;
-    let left = rows::capped(t.left, 274) as u32 + raised(arrived, u);
-    let mut next = t;
-    next.unsent[i] = n;
-    next.left = left;
-    next
-}
-
-// An edit that is kept; one that is not changes nothing.
-pub fn after_edit(t: Tallies, kept: bool, s: u32, arrived: bool) -> Tallies
-    ensures { λ r. ⌜ r ≡ cond kept (oneUnsent s arrived t) t ⌝ }
-{
-    if kept {
-        return after_kept(t, s, arrived);
-    }
-    t
-}
-
-pub fn after_send(t: Tallies, s: u32, answer: Answer) -> Tallies
-    ensures { λ r. ⌜ r ≡ cond (isAccepted answer) (allSent s t) t ⌝ }
-{
-    if accepted(answer) {
-        return all_sent(t, s);
-    }
-    t
-}
-
-pub fn after_replay(t: Tallies, answer: Answer) -> Tallies
-    ensures { λ r. ⌜ r ≡ cond (isAccepted answer) (oneSettled t) t ⌝ }
-{
-    if accepted(answer) {
-        return one_settled(t);
-    }
-    t
-}
-
-pub fn after_move(t: Tallies, op: u32, h: Head, answer: Answer) -> Tallies
-    ensures { λ r. ⌜ r ≡ cond (isAccepted answer) (moveTally op h t) t ⌝ }
-{
-    if accepted(answer) {
-        return moved(t, op, h);
-    }
-    t
+    let left = one_less(t[LEFT]);
+    t[LEFT] = left;
 }

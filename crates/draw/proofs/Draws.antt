@@ -1,7 +1,7 @@
 -- What a call that draws decides, carried out, is the protocol's step. Assumes nothing.
 use Prim.Native.Nat.{ℕ, suc, _+_, _<_, min}
 use native.Mathlib.Omega.{arith}
-use mathlib.Core.Bool.{Bool, true, false, cond}
+use mathlib.Core.Bool.{Bool, true, false, cond, _&&_}
 use mathlib.Core.Path.{_≡_, refl, sym, ap, ap₂, subst, _∙_}
 use mathlib.Core.Logic.{_≢_}
 use mathlib.Core.List.{List, [], _∷_}
@@ -25,11 +25,11 @@ use Rattle.state.specs.Spread.{planOf, sideOf, rulesOf}
 use Rattle.state.specs.Sizes.{Sized}
 use Rattle.state.proofs.Views.{plan-same, sides-modify, sides-least, first-row, row-snoc, row-length}
 use Rattle.state.specs.Meets.{answerOf}
-use Rattle.state.specs.Spread.{SameIfRefused, MeetsSpread}
+use Rattle.state.specs.Spread.{isAccepted, SameIfRefused, MeetsSpread}
 use Rattle.state.proofs.Meeting.{refused-meets, accepted-meets, fine-pass}
 use Rattle.state.proofs.Steps.{stored}
 use Rattle.draw.specs.declared.Drawing.{Drawing}
-use Rattle.draw.specs.Draw.{drawCall, measureChecks, ruleChecks, openChecks, measured, ruled, opened, refusedDrawing, drawBy, measureDrawing, measureDecision, ruleDrawing, ruleDecision, openDrawing, openDecision, drawDecision, entryOf, drawnIn}
+use Rattle.draw.specs.Draw.{drawCall, measureChecks, ruleChecks, openChecks, ruled, opened, refusedDrawing, drawBy, measureDrawing, measureDecision, ruleDrawing, ruleDecision, openDrawing, openDecision, valueAt, drawDecision, drawnIn}
 
 drawn-length : (p : Spread) → length (firstValues (planOf p .content)) ≡ measuresIn (p .head)
 drawn-length p = ap length (first-row p) ∙ row-length (p .values) 0 (measuresIn (p .head))
@@ -43,21 +43,26 @@ alone h e = rw (eqb→eq (modeNumber (modeOf (h .mode))) 0 (is-yes e))
 abbrev withHead : Spread → Head → Spread
 withHead p h = stored p h (p .base) (p .draft) (p .values) (p .arrived) (p .confirmed) (p .edits)
 
--- what stands behind those that count, stored again, with whatever answer
-entry-same : (p : Spread) (h : Head) → drawnIn p (record { head = h; entry = entryOf p; answer = Done }) ≡ withHead p h
-entry-same p h =
-    let i = min (p .head .rules) 63 in
-    rw (set-getD (p .values) (min (p .head .measures) 31) (pos 0), set-getD (p .lower) i 0, set-getD (p .gap) i (pos 0), set-getD (p .upper) i 0, set-getD (p .firm) i false)
+-- the head and the value of a drawing, and no rule
+abbrev valueIn : Spread → Drawing → Spread
+valueIn p d = stored p (d .head) (p .base) (p .draft) (set (p .values) (min (p .head .measures) 31) (d .value)) (p .arrived) (p .confirmed) (p .edits)
+
+abbrev old : Spread → ℤ
+old p = valueAt (p .head) (p .values)
+
+-- the value behind those that count, stored again, with whatever answer
+value-same : (p : Spread) (h : Head) → valueIn p (record { head = h; value = old p; answer = Done }) ≡ withHead p h
+value-same p h = rw (set-getD (p .values) (min (p .head .measures) 31) (pos 0))
 
 -- by the verdict on the checks
-decided : (c : Call) (p : Spread) (cs : List Check) (d : Drawing) → first (checks c (planOf p)) ≡ first cs
-    → (Pass cs → answerOf (d .answer) ≡ ok (gives c (planOf p .mode) (planOf p .content))) → (Pass cs → planOf (drawnIn p d) ≡ after c (planOf p .mode) (planOf p .content)) → SameIfRefused (d .answer) p (drawnIn p d)
-    → let x = drawBy (first cs) d (p .head) (entryOf p) in MeetsSpread c p (record { state = drawnIn p x; answer = x .answer })
-decided c p cs d same given next s = by (first cs) refl
+decided : (c : Call) (p : Spread) (cs : List Check) (d : Drawing) (to : Drawing → Spread) → ((k : ℕ) → to (refusedDrawing (p .head) (old p) k) ≡ p) → first (checks c (planOf p)) ≡ first cs
+    → (Pass cs → answerOf (d .answer) ≡ ok (gives c (planOf p .mode) (planOf p .content))) → (Pass cs → planOf (to d) ≡ after c (planOf p .mode) (planOf p .content)) → SameIfRefused (d .answer) p (to d)
+    → let x = drawBy (first cs) d (p .head) (old p) in MeetsSpread c p (record { state = to x; answer = x .answer })
+decided c p cs d to none same given next s = by (first cs) refl
   where
-    by : (v : Verdict) → first cs ≡ v → let x = drawBy v d (p .head) (entryOf p) in MeetsSpread c p (record { state = drawnIn p x; answer = x .answer })
-    by fine e = let f = fine-pass cs e in accepted-meets c p (record { state = drawnIn p d; answer = d .answer }) (same ∙ e) (given f) (next f) s
-    by (refused k) e = subst (λ q. MeetsSpread c p (record { state = q; answer = Refused k })) (sym (entry-same p (p .head))) (refused-meets c p k (same ∙ e))
+    by : (v : Verdict) → first cs ≡ v → let x = drawBy v d (p .head) (old p) in MeetsSpread c p (record { state = to x; answer = x .answer })
+    by fine e = let f = fine-pass cs e in accepted-meets c p (record { state = to d; answer = d .answer }) (same ∙ e) (given f) (next f) s
+    by (refused k) e = subst (λ q. MeetsSpread c p (record { state = q; answer = Refused k })) (sym (none k)) (refused-meets c p k (same ∙ e))
 
 -- ---- measure
 
@@ -66,8 +71,8 @@ unfolding checks further
 measure-checks p v = rw (drawn-length p)
 
 -- the state with a measure more
-abbrev measureTo : Spread → ℕ → ℤ → Spread
-measureTo p n v = stored p (measured (p .head) (n + 1)) (p .base) (p .draft) (set (p .values) n v) (p .arrived) (p .confirmed) (p .edits)
+abbrev measureTo : Spread → ℤ → Spread
+measureTo p v = valueIn p (measureDrawing (p .head) v)
 
 longer : (p : Spread) → Sized p → (v : ℤ) → p .head .measures < 32 → let n = min (p .head .measures) 31 in row (set (p .values) n v) 0 (min (n + 1) 32) ≡ snoc (row (p .values) 0 (measuresIn (p .head))) v
 longer p z v h =
@@ -77,11 +82,11 @@ longer p z v h =
     let f : 0 + n ≡ n = omega arith in
     ap (row (set (p .values) n v) 0) m ∙ ap (λ k. row (set (p .values) k v) 0 (suc n)) (sym f) ∙ row-snoc (p .values) 0 n v (let l = z .values in omega arith) ∙ ap (λ k. snoc (row (p .values) 0 k) v) o
 
-measure-next : (p : Spread) → Sized p → (v : ℤ) → is blank (modeOf (p .head .mode)) ≡ true → p .head .measures < 32 → planOf (measureTo p (min (p .head .measures) 31) v) ≡ after (measure v) (planOf p .mode) (planOf p .content)
+measure-next : (p : Spread) → Sized p → (v : ℤ) → is blank (modeOf (p .head .mode)) ≡ true → p .head .measures < 32 → planOf (measureTo p v) ≡ after (measure v) (planOf p .mode) (planOf p .content)
 unfolding after
 measure-next p z v b h =
     plan-same refl refl refl refl refl
-    (sides-modify 1 (sidesIn (p .head)) (onValues (λ vs. snoc vs v)) (sideOf p) (sideOf (measureTo p (min (p .head .measures) 31) v)) (omega arith) (sides-least (p .head))
+    (sides-modify 1 (sidesIn (p .head)) (onValues (λ vs. snoc vs v)) (sideOf p) (sideOf (measureTo p v)) (omega arith) (sides-least (p .head))
     (λ i. record { values = longer p z v h i; arrived = getD (p .arrived) 0 false; confirmed = getD (p .confirmed) 0 false })
     (λ k a c ne. absurd (ne (let one = alone (p .head) b in omega arith))))
     refl
@@ -90,19 +95,11 @@ measure-given : (p : Spread) (v : ℤ) → p .head .measures < 32 → _≡_ {A =
 unfolding gives
 measure-given p v h = let e = drawn-length p in let n : min (p .head .measures) 31 + 1 ≡ suc (length (firstValues (planOf p .content))) = omega arith in ap {B = List ℤ} (λ k. pos k ∷ []) n
 
-abbrev measureOf : Spread → ℤ → Drawing
-measureOf p v = measureDrawing (p .head) v (entryOf p)
-
-measure-drawn : (p : Spread) (v : ℤ) → drawnIn p (measureOf p v) ≡ measureTo p (min (p .head .measures) 31) v
-measure-drawn p v =
-    let i = min (p .head .rules) 63 in
-    rw (set-getD (p .lower) i 0, set-getD (p .gap) i (pos 0), set-getD (p .upper) i 0, set-getD (p .firm) i false)
-
-pub measure-decided : (p : Spread) → Sized p → (v : ℤ) → let d = measureDecision (p .head) v (entryOf p) in MeetsSpread (measure v) p (record { state = drawnIn p d; answer = d .answer })
+measure-decided : (p : Spread) → Sized p → (v : ℤ) → let d = measureDecision (p .head) v (old p) in MeetsSpread (measure v) p (record { state = valueIn p d; answer = d .answer })
 measure-decided p z v =
-    decided (measure v) p (measureChecks (p .head) v) (measureOf p v) (measure-checks p v)
+    decided (measure v) p (measureChecks (p .head) v) (measureDrawing (p .head) v) (valueIn p) (λ k. value-same p (p .head)) (measure-checks p v)
     (λ t. ap ok (measure-given p v (room (t .1 .0))))
-    (λ t. ap planOf (measure-drawn p v) ∙ measure-next p z v (yes-is _ (t .0)) (room (t .1 .0)))
+    (λ t. measure-next p z v (yes-is _ (t .0)) (room (t .1 .0)))
     tt
   where
     room : T (ltb (measuresIn (p .head)) measureLimit) → p .head .measures < 32
@@ -184,15 +181,12 @@ rule-given : (p : Spread) (a c b f : ℤ) → p .head .rules < 64 → _≡_ {A =
 unfolding gives
 rule-given p a c b f h = let e = rules-length p in let n : min (p .head .rules) 63 + 1 ≡ suc (length (rulesOf p)) = omega arith in ap {B = List ℤ} (λ k. pos k ∷ []) n
 
-abbrev ruleIn : Spread → (a c b f : ℤ) → Drawing
-ruleIn p a c b f = ruleDrawing (p .head) a c b f (entryOf p)
-
-rule-drawn : (p : Spread) (a c b f : ℤ) → drawnIn p (ruleIn p a c b f) ≡ ruleTo p (min (p .head .rules) 63) (ruleOf a c b f)
+rule-drawn : (p : Spread) (a c b f : ℤ) → drawnIn p (ruleDrawing (p .head) (old p)) true a c b f ≡ ruleTo p (min (p .head .rules) 63) (ruleOf a c b f)
 rule-drawn p a c b f = rw (set-getD (p .values) (min (p .head .measures) 31) (pos 0))
 
-pub rule-decided : (p : Spread) → Sized p → (a c b f : ℤ) → let d = ruleDecision (p .head) a c b f (entryOf p) in MeetsSpread (rule a c b f) p (record { state = drawnIn p d; answer = d .answer })
+rule-decided : (p : Spread) → Sized p → (a c b f : ℤ) → let d = ruleDecision (p .head) a c b f (old p) in MeetsSpread (rule a c b f) p (record { state = drawnIn p d (isAccepted (d .answer)) a c b f; answer = d .answer })
 rule-decided p z a c b f =
-    decided (rule a c b f) p (ruleChecks (p .head) (natural a) c (natural b) f) (ruleIn p a c b f) (rule-checks p a c b f)
+    decided (rule a c b f) p (ruleChecks (p .head) (natural a) c (natural b) f) (ruleDrawing (p .head) (old p)) (λ d. drawnIn p d (isAccepted (d .answer)) a c b f) (λ k. value-same p (p .head)) (rule-checks p a c b f)
     (λ t. ap ok (rule-given p a c b f (room (t .1 .0))))
     (λ t. ap planOf (rule-drawn p a c b f) ∙ rule-next p z a c b f (room (t .1 .0)))
     tt
@@ -212,40 +206,47 @@ open-next p b =
     let e = eqb→eq (modeNumber (modeOf (p .head .mode))) 0 (is-yes b) in
     plan-same refl refl refl refl refl (rw e) (rw e)
 
-pub open-decided : (p : Spread) → Sized p → let d = openDecision (p .head) (p .lower) (p .gap) (p .upper) (p .values) (entryOf p) in MeetsSpread open-plan p (record { state = drawnIn p d; answer = d .answer })
+open-decided : (p : Spread) → let d = openDecision (p .head) (p .lower) (p .gap) (p .upper) (p .values) (old p) in MeetsSpread open-plan p (record { state = valueIn p d; answer = d .answer })
 unfolding gives
-open-decided p z =
-    decided open-plan p (openChecks (p .head) (p .lower) (p .gap) (p .upper) (p .values)) (openDrawing (p .head) (entryOf p)) (open-checks p)
+open-decided p =
+    decided open-plan p (openChecks (p .head) (p .lower) (p .gap) (p .upper) (p .values)) (openDrawing (p .head) (old p)) (valueIn p) (λ k. value-same p (p .head)) (open-checks p)
     (λ t. refl)
-    (λ t. ap planOf (entry-same p (opened (p .head))) ∙ open-next p (yes-is _ (t .0)))
+    (λ t. ap planOf (value-same p (opened (p .head))) ∙ open-next p (yes-is _ (t .0)))
     tt
 
 -- ---- the call by its number
 
 abbrev chosen : Bool → Bool → (a b c d : ℤ) → Spread → Drawing
 chosen x y a b c d p =
-    cond x (measureDecision (p .head) a (entryOf p)) (cond y (ruleDecision (p .head) a b c d (entryOf p)) (openDecision (p .head) (p .lower) (p .gap) (p .upper) (p .values) (entryOf p)))
+    cond x (measureDecision (p .head) a (old p)) (cond y (ruleDecision (p .head) a b c d (old p)) (openDecision (p .head) (p .lower) (p .gap) (p .upper) (p .values) (old p)))
 
-pub draw-decided : (op : ℕ) (a b c d : ℤ) (p : Spread) → Sized p → let x = drawDecision op a b c d (p .head) (p .lower) (p .gap) (p .upper) (p .values) (entryOf p) in
-    MeetsSpread (drawCall op a b c d) p (record { state = drawnIn p x; answer = x .answer })
-draw-decided op a b c d p z = by (eqb op 1) (eqb op 2)
+-- a rule is drawn where the call is rule's and is accepted
+pub draw-decided : (op : ℕ) (a b c d : ℤ) (p : Spread) → Sized p → let x = drawDecision op a b c d (p .head) (p .lower) (p .gap) (p .upper) (p .values) in
+    MeetsSpread (drawCall op a b c d) p (record { state = drawnIn p x (eqb op 2 && isAccepted (x .answer)) a b c d; answer = x .answer })
+draw-decided op a b c d p z = by (eqb op 1) (eqb op 2) (λ e. ap (λ o. eqb o 2) (eqb→eq op 1 (is-yes e)))
   where
-    by : (x y : Bool) → let r = chosen x y a b c d p in MeetsSpread (cond x (measure a) (cond y (rule a b c d) open-plan)) p (record { state = drawnIn p r; answer = r .answer })
-    by true y = measure-decided p z a
-    by false true = rule-decided p z a b c d
-    by false false = open-decided p z
+    by : (x y : Bool) → (x ≡ true → y ≡ false) → let r = chosen x y a b c d p in
+        MeetsSpread (cond x (measure a) (cond y (rule a b c d) open-plan)) p (record { state = drawnIn p r (y && isAccepted (r .answer)) a b c d; answer = r .answer })
+    by true true n = absurd (is-yes (sym (n refl)))
+    by true false n = measure-decided p z a
+    by false true n = rule-decided p z a b c d
+    by false false n = open-decided p
 
-pub drawn-sized : (p : Spread) (d : Drawing) → Sized p → Sized (drawnIn p d)
-drawn-sized p d z =
+pub drawn-sized : (p : Spread) (d : Drawing) (drawn : Bool) (a c b f : ℤ) → Sized p → Sized (drawnIn p d drawn a c b f)
+drawn-sized p d drawn a c b f z =
     record {
       base = z .base;
       draft = z .draft;
       values = length-set (p .values) _ _ ∙ z .values;
       arrived = z .arrived;
       confirmed = z .confirmed;
-      lower = length-set (p .lower) _ _ ∙ z .lower;
-      gap = length-set (p .gap) _ _ ∙ z .gap;
-      upper = length-set (p .upper) _ _ ∙ z .upper;
-      firm = length-set (p .firm) _ _ ∙ z .firm;
+      lower = stays drawn (p .lower) (natural a) ∙ z .lower;
+      gap = stays drawn (p .gap) c ∙ z .gap;
+      upper = stays drawn (p .upper) (natural b) ∙ z .upper;
+      firm = stays drawn (p .firm) (eqb (natural f) 1) ∙ z .firm;
       edits = z .edits;
     }
+  where
+    stays : (drawn : Bool) {A : Type 0} (xs : List A) (x : A) → length (cond drawn (set xs (min (p .head .rules) 63) x) xs) ≡ length xs
+    stays true xs x = length-set xs (min (p .head .rules) 63) x
+    stays false xs x = refl

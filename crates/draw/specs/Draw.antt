@@ -1,6 +1,6 @@
 -- Scaffolding: what measure, rule and open decide from what they read of the state, and what they store. Assumes nothing.
 use Prim.Native.Nat.{ℕ, min, _+_}
-use mathlib.Core.Bool.{Bool, false, not, cond, _&&_}
+use mathlib.Core.Bool.{Bool, not, cond, _&&_}
 use mathlib.Core.List.{List, [], _∷_}
 use lib.Dec.{eqb, ltb}
 use lib.IntN.{ℤ, pos}
@@ -15,7 +15,6 @@ use Rattle.state.specs.Spread.{Spread}
 use Rattle.state.specs.declared.Answer.the-variants.{Refused, Done, Number}
 use Rattle.heads.specs.declared.Mode.the-variants.{Whole}
 use Rattle.heads.specs.Heads.{modeOf, measuresIn}
-use Rattle.draw.specs.declared.Entry.{Entry}
 use Rattle.draw.specs.declared.Drawing.{Drawing}
 
 -- ---- checks
@@ -50,81 +49,61 @@ opened h = record { mode = Whole; measures = h .measures; rules = h .rules; adde
 
 -- ---- decisions
 
-abbrev pub refusedDrawing : Head → Entry → ℕ → Drawing
-refusedDrawing h old k = record { head = h; entry = old; answer = Refused k }
+abbrev pub refusedDrawing : Head → ℤ → ℕ → Drawing
+refusedDrawing h old k = record { head = h; value = old; answer = Refused k }
 
 -- by the verdict on the checks: the drawing, or all as it was
-abbrev pub drawBy : Verdict → Drawing → Head → Entry → Drawing
+abbrev pub drawBy : Verdict → Drawing → Head → ℤ → Drawing
 drawBy fine d h old = d
 drawBy (refused k) d h old = refusedDrawing h old k
 
-abbrev pub measureDrawing : Head → ℤ → Entry → Drawing
-measureDrawing h v old =
-    let n = min (h .measures) 31 + 1 in
-    record {
-      head = measured h n;
-      entry = record { value = v; lower = old .lower; gap = old .gap; upper = old .upper; firm = old .firm };
-      answer = Number n;
-    }
+abbrev pub measureDrawing : Head → ℤ → Drawing
+measureDrawing h v = let n = min (h .measures) 31 + 1 in record { head = measured h n; value = v; answer = Number n }
 
-abbrev pub measureDecision : Head → ℤ → Entry → Drawing
-measureDecision h v old = drawBy (first (measureChecks h v)) (measureDrawing h v old) h old
+abbrev pub measureDecision : Head → ℤ → ℤ → Drawing
+measureDecision h v old = drawBy (first (measureChecks h v)) (measureDrawing h v) h old
 
-abbrev pub ruleDrawing : Head → ℤ → ℤ → ℤ → ℤ → Entry → Drawing
-ruleDrawing h a c b f old =
-    let n = min (h .rules) 63 + 1 in
-    record {
-      head = ruled h n;
-      entry = record { value = old .value; lower = natural a; gap = c; upper = natural b; firm = eqb (natural f) 1 };
-      answer = Number n;
-    }
+abbrev pub ruleDrawing : Head → ℤ → Drawing
+ruleDrawing h old = let n = min (h .rules) 63 + 1 in record { head = ruled h n; value = old; answer = Number n }
 
-abbrev pub ruleDecision : Head → ℤ → ℤ → ℤ → ℤ → Entry → Drawing
-ruleDecision h a c b f old = drawBy (first (ruleChecks h (natural a) c (natural b) f)) (ruleDrawing h a c b f old) h old
+abbrev pub ruleDecision : Head → ℤ → ℤ → ℤ → ℤ → ℤ → Drawing
+ruleDecision h a c b f old = drawBy (first (ruleChecks h (natural a) c (natural b) f)) (ruleDrawing h old) h old
 
-abbrev pub openDrawing : Head → Entry → Drawing
-openDrawing h old = record { head = opened h; entry = old; answer = Done }
+abbrev pub openDrawing : Head → ℤ → Drawing
+openDrawing h old = record { head = opened h; value = old; answer = Done }
 
-abbrev pub openDecision : Head → List ℕ → List ℤ → List ℕ → List ℤ → Entry → Drawing
+abbrev pub openDecision : Head → List ℕ → List ℤ → List ℕ → List ℤ → ℤ → Drawing
 openDecision h lower gap upper values old = drawBy (first (openChecks h lower gap upper values)) (openDrawing h old) h old
 
 -- measure, rule; another number is open's. By the call's number in the order of 01.
 abbrev pub drawCall : ℕ → ℤ → ℤ → ℤ → ℤ → Call
 drawCall op a b c d = cond (eqb op 1) (measure a) (cond (eqb op 2) (rule a b c d) open-plan)
 
-abbrev pub drawDecision : ℕ → ℤ → ℤ → ℤ → ℤ → Head → List ℕ → List ℤ → List ℕ → List ℤ → Entry → Drawing
-drawDecision op a b c d h lower gap upper values old =
+-- the value behind those that count
+abbrev pub valueAt : Head → List ℤ → ℤ
+valueAt h values = getD values (min (h .measures) 31) (pos 0)
+
+abbrev pub drawDecision : ℕ → ℤ → ℤ → ℤ → ℤ → Head → List ℕ → List ℤ → List ℕ → List ℤ → Drawing
+drawDecision op a b c d h lower gap upper values =
+    let old = valueAt h values in
     cond (eqb op 1) (measureDecision h a old) (cond (eqb op 2) (ruleDecision h a b c d old) (openDecision h lower gap upper values old))
 
 -- ---- in the state
 
--- the value and the rule behind those that count
-abbrev pub entryAt : Head → List ℕ → List ℤ → List ℕ → List Bool → List ℤ → Entry
-entryAt h lower gap upper firm values =
-    record {
-      value = getD values (min (h .measures) 31) (pos 0);
-      lower = getD lower (min (h .rules) 63) 0;
-      gap = getD gap (min (h .rules) 63) (pos 0);
-      upper = getD upper (min (h .rules) 63) 0;
-      firm = getD firm (min (h .rules) 63) false;
-    }
-
-abbrev pub entryOf : Spread → Entry
-entryOf p = entryAt (p .head) (p .lower) (p .gap) (p .upper) (p .firm) (p .values)
-
--- a drawing carried out
-abbrev pub drawnIn : Spread → Drawing → Spread
-drawnIn p d =
+-- a drawing carried out, with a rule of these numbers behind those that count, if one was drawn
+abbrev pub drawnIn : Spread → Drawing → Bool → ℤ → ℤ → ℤ → ℤ → Spread
+drawnIn p d drawn a c b f =
+    let n = min (p .head .rules) 63 in
     record {
       head = d .head;
       base = p .base;
       draft = p .draft;
-      values = set (p .values) (min (p .head .measures) 31) (d .entry .value);
+      values = set (p .values) (min (p .head .measures) 31) (d .value);
       arrived = p .arrived;
       confirmed = p .confirmed;
-      lower = set (p .lower) (min (p .head .rules) 63) (d .entry .lower);
-      gap = set (p .gap) (min (p .head .rules) 63) (d .entry .gap);
-      upper = set (p .upper) (min (p .head .rules) 63) (d .entry .upper);
-      firm = set (p .firm) (min (p .head .rules) 63) (d .entry .firm);
+      lower = cond drawn (set (p .lower) n (natural a)) (p .lower);
+      gap = cond drawn (set (p .gap) n c) (p .gap);
+      upper = cond drawn (set (p .upper) n (natural b)) (p .upper);
+      firm = cond drawn (set (p .firm) n (eqb (natural f) 1)) (p .firm);
       edits = p .edits;
     }

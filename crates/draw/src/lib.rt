@@ -2,39 +2,31 @@
 ghost use lib.Dec.{eqb};
 ghost use mathlib.Core.Bool.{not, _&&_};
 ghost use mathlib.Core.Path.{_≡_};
-ghost use Rattle.draw.specs.Draw.{measureChecks, ruleChecks, openChecks, measured, ruled, opened, refusedDrawing, measureDecision, ruleDecision, openDecision, drawDecision, entryAt};
+ghost use Rattle.draw.specs.Draw.{measureChecks, ruleChecks, openChecks, measured, ruled, opened, refusedDrawing, measureDecision, ruleDecision, openDecision, drawDecision};
 ghost use Rattle.protocol.specs.Calls.{first, no15};
 ghost use Rattle.protocol.specs.Lists.{oneTo};
-ghost use Rattle.rules.specs.Table.{lowers, gaps, uppers, firms};
+ghost use Rattle.rules.specs.Table.{lowers, gaps, uppers};
 ghost use Rattle.state.specs.Meets.{refusalOf};
 use heads::Head;
 use heads::Mode;
 use rules::Table;
 use state::Answer;
 
-// A value and a rule, as they stand behind those that count.
-pub struct Entry {
-    pub value: i32,
-    pub lower: u32,
-    pub gap: i32,
-    pub upper: u32,
-    pub firm: bool,
-}
-
-// What a call that draws stores: the head, a value and a rule at the places behind those that count; and its answer.
+// What a call that draws stores: the head, and the value at the place behind those that count; and its answer. A rule is stored from the call's own numbers.
 pub struct Drawing {
     pub head: Head,
-    pub entry: Entry,
+    pub value: i32,
     pub answer: Answer,
 }
 
-fn refused(h: Head, old: Entry, k: u32) -> Drawing
+// All as it was: `old` is the value that stands behind those that count.
+fn refused(h: Head, old: i32, k: u32) -> Drawing
     ensures { λ r. ⌜ r ≡ refusedDrawing h old k ⌝ }
 {
     let answer = Answer::Refused(k);
     Drawing {
         head: h,
-        entry: old,
+        value: old,
         answer,
     }
 }
@@ -66,7 +58,7 @@ fn with_measures(h: Head, n: u32) -> Head
 }
 
 // A measure of value v.
-fn decide_measure(h: Head, v: i32, old: Entry) -> Drawing
+fn decide_measure(h: Head, v: i32, old: i32) -> Drawing
     ensures { λ r. ⌜ r ≡ measureDecision h v old ⌝ }
 {
     let k = measure_refusal(h, v);
@@ -76,11 +68,9 @@ fn decide_measure(h: Head, v: i32, old: Entry) -> Drawing
     let n = rows::capped(h.measures, 31) as u32 + 1;
     let head = with_measures(h, n);
     let answer = Answer::Number(n);
-    let mut entry = old;
-    entry.value = v;
     Drawing {
         head,
-        entry,
+        value: v,
         answer,
     }
 }
@@ -141,7 +131,7 @@ fn with_rules(h: Head, n: u32) -> Head
 }
 
 // A rule that measure a plus c is less than measure b, firm if f is 1.
-fn decide_rule(h: Head, a: i32, c: i32, b: i32, f: i32, old: Entry) -> Drawing
+fn decide_rule(h: Head, a: i32, c: i32, b: i32, f: i32, old: i32) -> Drawing
     ensures { λ r. ⌜ r ≡ ruleDecision h a c b f old ⌝ }
 {
     let lower = exact::number(a);
@@ -150,21 +140,12 @@ fn decide_rule(h: Head, a: i32, c: i32, b: i32, f: i32, old: Entry) -> Drawing
     if k != 0 {
         return refused(h, old, k);
     }
-    let firm = exact::number(f) == 1;
     let n = rows::capped(h.rules, 63) as u32 + 1;
     let head = with_rules(h, n);
     let answer = Answer::Number(n);
-    let value = old.value;
-    let entry = Entry {
-        value,
-        lower,
-        gap: c,
-        upper,
-        firm,
-    };
     Drawing {
         head,
-        entry,
+        value: old,
         answer,
     }
 }
@@ -195,7 +176,7 @@ fn with_open(h: Head) -> Head
     r
 }
 
-fn decide_open<'a>(h: Head, table: &'a Table, values: &'a [i32], old: Entry) -> Drawing
+fn decide_open<'a>(h: Head, table: &'a Table, values: &'a [i32], old: i32) -> Drawing
     ensures { λ r. ⌜ r ≡ openDecision h (lowers (now (table .entry))) (gaps (now (table .entry))) (uppers (now (table .entry))) (now (values .entry)) old ⌝ }
 {
     let k = open_refusal(h, table, values);
@@ -206,50 +187,12 @@ fn decide_open<'a>(h: Head, table: &'a Table, values: &'a [i32], old: Entry) -> 
     let answer = Answer::Done;
     Drawing {
         head,
-        entry: old,
+        value: old,
         answer,
     }
 }
 
-// measure, rule; another number is open's. By the call's number in the order of 01.
-fn decided<'a>(
-    h: Head,
-    table: &'a Table,
-    values: &'a [i32],
-    op: u32,
-    a: i32,
-    b: i32,
-    c: i32,
-    d: i32,
-    old: Entry,
-) -> Drawing
-    ensures { λ r. ⌜ r ≡ drawDecision op a b c d h (lowers (now (table .entry))) (gaps (now (table .entry))) (uppers (now (table .entry))) (now (values .entry)) old ⌝ }
-{
-    if op == 1 {
-        return decide_measure(h, a, old);
-    }
-    if op == 2 {
-        return decide_rule(h, a, b, c, d, old);
-    }
-    decide_open(h, table, values, old)
-}
-
-// The value and the rule behind those that count.
-fn entry_at<'a>(h: Head, table: &'a Table, values: &'a [i32; 256]) -> Entry
-    ensures { λ r. ⌜ r ≡ entryAt h (lowers (now (table .entry))) (gaps (now (table .entry))) (uppers (now (table .entry))) (firms (now (table .entry))) (now (values .entry)) ⌝ }
-{
-    let i = rows::capped(h.measures, 31);
-    let k = rows::capped(h.rules, 63);
-    Entry {
-        value: values[i],
-        lower: rules::lower_of(table, k),
-        gap: rules::gap_of(table, k),
-        upper: rules::upper_of(table, k),
-        firm: rules::firm_of(table, k),
-    }
-}
-
-// What a call that draws stores, by the call's number in the order of 01.
+// What a call that draws stores, by the call's number in the order of 01: measure, rule; another number is open's.
 pub fn decide_draw<'a>(
     h: Head,
     table: &'a Table,
@@ -260,12 +203,17 @@ pub fn decide_draw<'a>(
     c: i32,
     d: i32,
 ) -> Drawing
-    ensures { λ r. ⌜ r ≡ drawDecision op a b c d h (lowers (now (table .entry))) (gaps (now (table .entry))) (uppers (now (table .entry)))
-        (now (values .entry)) (entryAt h (lowers (now (table .entry))) (gaps (now (table .entry))) (uppers (now (table .entry))) (firms (now (table .entry)))
-        (now (values .entry))) ⌝ }
+    ensures { λ r. ⌜ r ≡ drawDecision op a b c d h (lowers (now (table .entry))) (gaps (now (table .entry))) (uppers (now (table .entry))) (now (values .entry)) ⌝ }
 {
-    let old = entry_at(h, table, values);
-    decided(h, table, values, op, a, b, c, d, old)
+    let i = rows::capped(h.measures, 31);
+    let old = values[i];
+    if op == 1 {
+        return decide_measure(h, a, old);
+    }
+    if op == 2 {
+        return decide_rule(h, a, b, c, d, old);
+    }
+    decide_open(h, table, values, old)
 }
 
 // The laws of the calls that draw stand in proofs/Draws.antt.

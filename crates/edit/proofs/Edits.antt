@@ -1,5 +1,5 @@
 -- An edit's decision, carried out, is the protocol's step. Assumes nothing.
-use Prim.Native.Nat.{ℕ, suc, min, _+_, _-_, _<_, _≤_}
+use Prim.Native.Nat.{ℕ, suc, min, _+_, _-_, _%_, _<_, _≤_}
 use native.Mathlib.Omega.{arith}
 use mathlib.Core.Bool.{Bool, true, false, not, _&&_, _||_}
 use mathlib.Core.Path.{_≡_, refl, sym, ap, ap₂, _∙_}
@@ -36,9 +36,15 @@ use Rattle.state.specs.Spread.{SameIfRefused, MeetsSpread}
 use Rattle.state.specs.Sizes.{Sized}
 use Rattle.state.proofs.Views.{plan-same, sides-most, sides-length, side-at, sides-modify, lookup-named}
 use Rattle.records.proofs.Logs.{log-snoc}
-use Rattle.edit.specs.declared.Decision.{Decision}
-use Rattle.edit.specs.Edits.{editChecks, ruled, changeOf, changeIn, editRuling, editHead, editDecision, spotOf, slotOf, editFrom, editBy, editIn, stored}
+use Rattle.reader.specs.declared.Line.{Line}
+use Rattle.edit.specs.Edits.{editChecks, ruled, changeOf, changeIn, editRuling, rulingFrom, Decision, editHead, editDecision, spotOf, slotOf, editFrom, editBy, editIn, stored}
 use Rattle.edit.proofs.Rulings.{made-change}
+
+-- a line's ruling is that of its numbers
+pub ruling-from : (test : RuleTest) (firmly : FirmTest) (h : Head) (lower : List ℕ) (gap : List ℤ) (upper : List ℕ) (firm : List Bool) (values : List ℤ) (i : ℕ) (seen : EditRecord) (l : Line)
+    → editDecision h (rulingFrom test firmly h lower gap upper firm values i seen l) (getD values (spotOf (natural (l .a)) (natural (l .d))) (pos 0)) (natural (l .a)) (natural (l .b)) (natural (l .c)) (natural (l .d))
+    ≡ editFrom test firmly h lower gap upper firm values i seen (l .a) (l .b) (l .c) (l .d) (l .e) (l .f)
+ruling-from test firmly h lower gap upper firm values i seen l = refl
 
 -- two sides' rows do not meet
 rows-apart : (s k i j : ℕ) → 0 < s → s ≤ 8 → 0 < k → k ≤ 8 → k ≢ s → j < 32 → offsetOf k ≤ i → i < offsetOf k + 32 → i ≢ offsetOf s + j
@@ -182,10 +188,10 @@ module _ (p : Spread) (z : Sized p) (s client n m kind k : ℤ) where
         confirmed = sideOf p t .confirmed;
       })
 
-  abbrev newKept : model.Change → model.Kept
-  newKept y =
+  abbrev newKept : ℕ → ℕ → model.Change → model.Kept
+  newKept a b y =
       record {
-        edit = record { number = h .next; side = natural s; client = natural client; earlier = natural n; measure = natural m; change = y };
+        edit = record { number = h .next; side = a; client = natural client; earlier = natural n; measure = b; change = y };
         fate = unsent;
         replied = is split mode;
         place = 0;
@@ -205,6 +211,13 @@ module _ (p : Spread) (z : Sized p) (s client n m kind k : ℤ) where
   number : Pass Checks → h .next ≤ 999999
   number f = nltb→le 999999 (h .next) (f .1 .1 .1 .1 .1 .1 .1 .1 .0)
 
+  -- a byte holds the side, and the measure
+  side-byte : Pass Checks → natural s % 256 ≡ natural s
+  side-byte f = let r = range (sidesIn h) (natural s) (f .1 .0) in let most = sides-most h in omega (arith, r .1, most)
+
+  measure-byte : Pass Checks → natural m % 256 ≡ natural m
+  measure-byte f = let i = range (length vs) (natural m) (f .1 .1 .1 .0) in omega (arith, i .1, row-length p s)
+
   abbrev kept-after : List model.Kept
   kept-after = keptOf (editHead h) (next fine .edits)
 
@@ -217,7 +230,7 @@ module _ (p : Spread) (z : Sized p) (s client n m kind k : ℤ) where
       λ i. logOf (e i) (c i) (es i)
 
   -- a split or joining one keeps one more
-  kept-apart : Pass Checks → is whole mode ≡ false → kept-after ≡ snoc (keptOf h (p .edits)) (newKept ch)
+  kept-apart : Pass Checks → is whole mode ≡ false → kept-after ≡ snoc (keptOf h (p .edits)) (newKept (natural s) (natural m) ch)
   kept-apart f w =
       let t = apart-now f w in
       let one = single-apart h t in
@@ -227,11 +240,11 @@ module _ (p : Spread) (z : Sized p) (s client n m kind k : ℤ) where
       let c : keptIn (editHead h) ≡ suc (slotOf h) = rw w (omega arith) in
       let e′ : h .next ≡ endIn h = rw one in
       let c′ : slotOf h ≡ keptIn h = omega arith in
-      let r : EditRecord = record { change = change; fate = Unsent; side = natural s; client = natural client; earlier = natural n; measure = natural m; place = 0; replied = is split mode } in
+      let r : EditRecord = record { change = change; fate = Unsent; side = natural s % 256; client = natural client; earlier = natural n; measure = natural m % 256; place = 0; replied = is split mode } in
       let es : next fine .edits ≡ set (p .edits) (slotOf h) r = rw w in
       (λ i. logOf (e i) (c i) (es i))
       ∙ log-snoc (h .next) (slotOf h) (p .edits) r (let l = z .edits in omega arith)
-      ∙ (λ i. snoc (logOf (e′ i) (c′ i) (p .edits)) (newKept (made-change (natural kind) k (yes-is (allowed ch) (f .1 .1 .1 .1 .0)) i)))
+      ∙ (λ i. snoc (logOf (e′ i) (c′ i) (p .edits)) (newKept (side-byte f i) (measure-byte f i) (made-change (natural kind) k (yes-is (allowed ch) (f .1 .1 .1 .1 .0)) i)))
 
   kept-next : Pass Checks → kept-after ≡ after call mode (planOf p .content) .content .kept
   unfolding after

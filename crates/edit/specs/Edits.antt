@@ -1,5 +1,5 @@
 -- Scaffolding: the checks of an edit from its parts, what it decides, and the state after the stores. Assumes nothing.
-use Prim.Native.Nat.{ℕ, _+_, _-_, min}
+use Prim.Native.Nat.{ℕ, _+_, _-_, _%_, min}
 use mathlib.Core.Bool.{Bool, false, not, cond, _&&_, _||_}
 use mathlib.Core.List.{List, [], _∷_}
 use lib.Dec.{leb}
@@ -21,12 +21,13 @@ use Rattle.records.specs.declared.EditRecord.{EditRecord}
 use Rattle.records.specs.declared.Fate.the-variants.{Unsent}
 use Rattle.heads.specs.declared.Head.{Head}
 use Rattle.state.specs.Spread.{Spread}
+use Rattle.state.specs.declared.Answer.{Answer}
 use Rattle.state.specs.declared.Answer.the-variants.{Refused, Number}
+use Rattle.reader.specs.declared.Line.{Line}
 use Rattle.heads.specs.Heads.{modeOf, sidesIn, measuresIn, offsetOf, keptIn, namedAt, seatOf}
 use Rattle.records.specs.Records.{keptAt, noRecord, recordOf}
 use Rattle.edit.specs.declared.Ruling.{Ruling}
 use Rattle.edit.specs.declared.Ruling.the-variants.{Refused as Denied, Granted}
-use Rattle.edit.specs.declared.Decision.{Decision}
 
 -- ---- checks, in 01's order, from the parts of a plan that they look at; `held` says what the test of the rules found, `firm` whether a firm one names the measure
 
@@ -64,7 +65,20 @@ editRuling test firmly h lower gap upper firm values named s client n m kind k =
     ruled (first (editChecks (test m lower gap upper (min (h .rules) 64) (applied (changeOf kind k) (value vs m)) vs) (modeOf (h .mode)) (sidesIn h) (firmly lower upper firm (min (h .rules) 64) m) (keptAt 0 named) (keptIn h) (h .next) vs s client n m (changeOf kind k)))
     (changeIn (madeOf kind k)) (applied (changeOf kind k) (value vs m))
 
+-- from the numbers of a line, with the edit that it names, seen at a place from 1
+abbrev pub rulingFrom : RuleTest → FirmTest → Head → List ℕ → List ℤ → List ℕ → List Bool → List ℤ → ℕ → EditRecord → Line → Ruling
+rulingFrom test firmly h lower gap upper firm values i seen l =
+    editRuling test firmly h lower gap upper firm values (recordOf i seen) (natural (l .a)) (l .b) (l .c) (natural (l .d)) (natural (l .e)) (l .f)
+
 -- ---- what is decided and stored
+
+-- the head, a value, and a record if it is kept; and the answer
+pub record Decision : Type 0 where
+  pub head : Head
+  pub value : ℤ
+  pub kept : Bool
+  pub entry : EditRecord
+  pub answer : Answer
 
 abbrev pub editHead : Head → Head
 editHead h =
@@ -80,11 +94,11 @@ editHead h =
       drafted = h .drafted;
     }
 
--- a whole plan keeps no edit
+-- a whole plan keeps no edit; side and measure are kept as bytes
 abbrev pub editRecord : Head → ℕ → ℕ → ℕ → ℕ → Change → EditRecord
 editRecord h s client earlier m c =
     cond (is whole (modeOf (h .mode))) noRecord
-    record { change = c; fate = Unsent; side = s; client = client; earlier = earlier; measure = m; place = 0; replied = is split (modeOf (h .mode)) }
+    record { change = c; fate = Unsent; side = s % 256; client = client; earlier = earlier; measure = m % 256; place = 0; replied = is split (modeOf (h .mode)) }
 
 abbrev pub editDecision : Head → Ruling → ℤ → ℕ → ℕ → ℕ → ℕ → Decision
 editDecision h (Denied k) old s client earlier m = record { head = h; value = old; kept = false; entry = noRecord; answer = Refused k }

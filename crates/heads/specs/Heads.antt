@@ -1,5 +1,5 @@
 -- Believed: modes and counts as the protocol has them, and where sides and kept edits stand. Assumes nothing.
-use Prim.Native.Nat.{ℕ, suc, _*_, _-_, min}
+use Prim.Native.Nat.{ℕ, suc, _+_, _*_, _-_, _%_, min}
 use mathlib.Core.Bool.{Bool, false, cond, not, _&&_}
 use mathlib.Core.List.{List}
 use lib.Dec.{ltb, eqb, leb}
@@ -52,9 +52,9 @@ keptIn h = min (h .kept) 256
 unfoldable pub positionOf : ℕ → ℕ → ℕ → ℕ
 positionOf e k n = cond (eqb n 0) (cond (ltb 0 k && leb e k) 1 0) (cond (ltb n e && leb (e - n) k) (suc (k - (e - n))) 0)
 
--- the slot in which the edit at a place from 1 stands; place 0 is none
+-- the slot in which the edit at a place from 1 stands; place 0, which is none, has the last
 abbrev pub slotAt : ℕ → ℕ
-slotAt i = min (i - 1) 255
+slotAt i = (i + 255) % 256
 
 -- the place, from 1, of the kept edit that a call's number names, and where it stands
 abbrev pub namedAt : Head → ℤ → ℕ

@@ -4,6 +4,7 @@ ghost use mathlib.Core.Bool.{not};
 ghost use Prim.Native.Nat.{_≤_, _<_};
 ghost use Rattle.protocol.specs.Lists.{bit};
 ghost use Rattle.protocol.specs.Plan.{modeNumber, active};
+ghost use Rattle.heads.specs.Numbers.{modeFrom, headFrom, numbersOf};
 ghost use Rattle.heads.specs.Heads.{modeOf, inMode, sidesIn, offsetOf, indexOf, endIn, keptIn, positionOf, slotAt, namedAt, unsetIn};
 
 // 01's modes.
@@ -29,6 +30,9 @@ pub struct Head {
     pub drafted: u32,
 }
 
+// A head as numbers, which can be lent: the mode's number and the counts, in the order of Head.
+pub type Numbers = [u32; 9];
+
 pub fn mode_number(m: Mode) -> u32
     ensures { λ r. ⌜ r ≡ modeNumber (modeOf m) ⌝ }
 {
@@ -38,6 +42,60 @@ pub fn mode_number(m: Mode) -> u32
         Mode::Split => 2,
         Mode::Joining => 3,
         Mode::Closing => 4,
+    }
+}
+
+// The mode of a number, as mode_number gives it.
+fn mode_from(n: u32) -> Mode
+    ensures { λ r. ⌜ r ≡ modeFrom n ⌝ }
+{
+    if n == 0 {
+        return Mode::Blank;
+    }
+    if n == 1 {
+        return Mode::Whole;
+    }
+    if n == 2 {
+        return Mode::Split;
+    }
+    if n == 3 {
+        return Mode::Joining;
+    }
+    Mode::Closing
+}
+
+pub fn numbers(h: Head) -> Numbers
+    ensures { λ r. ⌜ r ≡ numbersOf h ⌝ }
+{
+    let mode = h.mode;
+    let m = mode_number(mode);
+    [
+        m,
+        h.measures,
+        h.rules,
+        h.added,
+        h.kept,
+        h.next,
+        h.mark,
+        h.based,
+        h.drafted,
+    ]
+}
+
+pub fn from_numbers(n: &Numbers) -> Head
+    ensures { λ r. ⌜ r ≡ headFrom (now (n .entry)) ⌝ }
+{
+    let mode = mode_from(n[0]);
+    Head {
+        mode,
+        measures: n[1],
+        rules: n[2],
+        added: n[3],
+        kept: n[4],
+        next: n[5],
+        mark: n[6],
+        based: n[7],
+        drafted: n[8],
     }
 }
 
@@ -129,15 +187,14 @@ pub fn position(h: Head, n: u32) -> usize
     0
 }
 
-// The slot in which the edit at a place from 1 stands; place 0 has some slot too.
+// The slot in which the edit at a place from 1 stands. Place 0 has the last, so that a compiler needs no test.
 pub fn slot(i: usize) -> usize
     ensures { λ r. ⌜ (r ≡ slotAt i) × (r < 256) ⌝ }
 {
     if i == 0 {
-        return 0;
+        return 255;
     }
-    let j = i - 1;
-    if j < 255 { j } else { 255 }
+    (i - 1) % 256
 }
 
 // The place, from 1, of the kept edit that a call's number names.

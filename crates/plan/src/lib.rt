@@ -8,7 +8,6 @@ ghost use mathlib.Core.Bool.{false};
 ghost use lib.Dec.{eqb};
 ghost use Rattle.state.specs.Meets.{Meets};
 ghost use Rattle.plan.specs.Turns.{Turns};
-use calls::Look;
 pub use query::show;
 pub use query::show_in;
 use reader::Line;
@@ -24,6 +23,7 @@ fn turn(p: State, l: Line) -> Answered
     ensures { λ r. ⌜ Turns l p r ⌝ }
 {
     let h = p.head;
+    let mut head = heads::numbers(h);
     let mut base = p.base;
     let mut draft = p.draft;
     let mut values = p.values;
@@ -33,10 +33,10 @@ fn turn(p: State, l: Line) -> Answered
     let mut edits = p.edits;
     let mut index = [0i32; 512];
     // An edit needs no counts, and counting copies the kept edits.
-    let mut t = counts::no_tallies();
+    let mut counts = counts::no_tallies();
     if l.op != 5 {
-        let counts = query::tallies(edits, h, &p.arrived, &p.confirmed);
-        t = counts;
+        let t = query::tallies(edits, h, &p.arrived, &p.confirmed);
+        counts = t;
     }
     let named = calls::first_look(l, h);
     let slot = heads::slot(named);
@@ -44,15 +44,10 @@ fn turn(p: State, l: Line) -> Answered
     let next = calls::second_look(l, h, named, standing);
     let seat = heads::slot(next);
     let seen = edits[seat];
-    let look = Look {
-        named,
-        standing,
-        next,
-        seen,
-    };
+    let look = calls::looking(named, standing, next, seen);
     let e = calls::make(
         l,
-        h,
+        &mut head,
         &mut base,
         &mut draft,
         &mut values,
@@ -61,14 +56,12 @@ fn turn(p: State, l: Line) -> Answered
         &mut table,
         &mut index,
         look,
-        t,
+        &mut counts,
         false,
     );
-    let head = e.head;
-    let place = e.slot;
-    let entry = e.entry;
-    let answer = e.answer;
     if e.kept {
+        let place = e.slot;
+        let entry = e.entry;
         edits[place] = entry;
     }
     let side = exact::number(l.a);
@@ -82,16 +75,9 @@ fn turn(p: State, l: Line) -> Answered
         }
         j += 1;
     }
-    let state = State {
-        head,
-        base,
-        draft,
-        values,
-        arrived,
-        confirmed,
-        table,
-        edits,
-    };
+    let after = heads::from_numbers(&head);
+    let state = state::of(after, base, draft, values, arrived, confirmed, table, edits);
+    let answer = e.answer;
     Answered { state, answer }
 }
 

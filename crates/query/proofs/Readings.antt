@@ -1,7 +1,7 @@
 -- Laws of the reading calls: what each gives, from the arrays of the state. Assumes nothing.
 use Prim.Native.Nat.{ℕ, zero, suc, _+_, _-_, _<_, _≤_, min}
 use native.Mathlib.Omega.{arith}
-use mathlib.Core.Bool.{true, not, _||_}
+use mathlib.Core.Bool.{Bool, true, false, not, _||_}
 use mathlib.Core.Path.{_≡_, refl, sym, ap, ap₂, _∙_}
 use mathlib.Core.Logic.{inl, inr, _≢_}
 use mathlib.Core.List.{List, [], _∷_, _++_}
@@ -90,7 +90,7 @@ fate-unrefused p i e h = rw h (cases (eqb i 0) (λ t. rw t tt) (λ t. rw t tt))
 
 -- ---- left
 
-pub counts-length : (h : Head) (es : List EditRecord) (n : ℕ) → length (unsentCounts h es n) ≡ 8
+pub counts-length : (h : Head) (es : List EditRecord) (n : ℕ) → length (unsentCounts h es n) ≡ 12
 unfolding unsentCounts
 counts-length h es zero = refl
 counts-length h es (suc n) = length-set (unsentCounts h es n) n (unsentOf (suc n) (keptOf h es)) ∙ counts-length h es n
@@ -122,6 +122,38 @@ left-by p unsent h = rw (sides-length p, waiting, unconfirmed)
 
 pub left-is : (p : Spread) → leftNumber (p .head) (p .arrived) (p .confirmed) (unsentCounts (p .head) (p .edits) 8) (count isOpen (keptOf (p .head) (p .edits))) ≡ leftIn (planOf p)
 left-is p = left-by p (unsentCounts (p .head) (p .edits) 8) (counts-side (p .head) (p .edits))
+
+-- the number left from counts that agree on the sides
+pub left-same : (h : Head) (arrived confirmed : List Bool) (t u : List ℕ) (k : ℕ) → ((s : ℕ) → getD t (indexOf s) 0 ≡ getD u (indexOf s) 0) → leftNumber h arrived confirmed t k ≡ leftNumber h arrived confirmed u k
+left-same h arrived confirmed t u k e =
+    let same : pendingIn arrived t (sidesIn h) ≡ pendingIn arrived u (sidesIn h) = count-to-same _ _ (sidesIn h) (λ s a b. ap (λ n. not (getD arrived (indexOf s) false) || ltb 0 n) (e s)) in
+    rw same
+
+-- the four counts stored behind those of the sides
+module _ (t : List ℕ) (w s l m : ℕ) where
+  abbrev pub behind : List ℕ
+  behind = set (set (set (set t 8 w) 9 s) 10 l) 11 m
+
+  -- those of the sides stay
+  pub behind-side : (x : ℕ) → getD behind (indexOf x) 0 ≡ getD t (indexOf x) 0
+  behind-side x =
+      getD-other (set (set (set t 8 w) 9 s) 10 l) 11 (indexOf x) m 0 (λ e. omega arith) ∙ getD-other (set (set t 8 w) 9 s) 10 (indexOf x) l 0 (λ e. omega arith)
+      ∙ getD-other (set t 8 w) 9 (indexOf x) s 0 (λ e. omega arith) ∙ getD-other t 8 (indexOf x) w 0 (λ e. omega arith)
+
+  pub behind-length : length t ≡ 12 → length behind ≡ 12
+  behind-length n = length-set (set (set (set t 8 w) 9 s) 10 l) 11 m ∙ length-set (set (set t 8 w) 9 s) 10 l ∙ length-set (set t 8 w) 9 s ∙ length-set t 8 w ∙ n
+
+  -- and each is what was stored
+  pub behind-stored : length t ≡ 12 → (getD behind 8 0 ≡ w) × (getD behind 9 0 ≡ s) × (getD behind 10 0 ≡ l) × (getD behind 11 0 ≡ m)
+  behind-stored n =
+      let a = length-set t 8 w ∙ n in
+      let b = length-set (set t 8 w) 9 s ∙ a in
+      let c = length-set (set (set t 8 w) 9 s) 10 l ∙ b in (
+        getD-other (set (set (set t 8 w) 9 s) 10 l) 11 8 m 0 (λ e. omega arith) ∙ getD-other (set (set t 8 w) 9 s) 10 8 l 0 (λ e. omega arith) ∙ getD-other (set t 8 w) 9 8 s 0 (λ e. omega arith) ∙ getD-set t 8 w 0 (omega arith),
+        getD-other (set (set (set t 8 w) 9 s) 10 l) 11 9 m 0 (λ e. omega arith) ∙ getD-other (set (set t 8 w) 9 s) 10 9 l 0 (λ e. omega arith) ∙ getD-set (set t 8 w) 9 s 0 (omega arith),
+        getD-other (set (set (set t 8 w) 9 s) 10 l) 11 10 m 0 (λ e. omega arith) ∙ getD-set (set (set t 8 w) 9 s) 10 l 0 (omega arith),
+        getD-set (set (set (set t 8 w) 9 s) 10 l) 11 m 0 (omega arith),
+      )
 
 -- ---- show
 

@@ -2,7 +2,7 @@
 use Prim.Native.Nat.{ℕ, _-_, _≤_, min}
 use native.Mathlib.Omega.{arith}
 use mathlib.Core.Path.{_≡_, refl, sym, ap, _∙_}
-use mathlib.Core.List.{[], _∷_}
+use mathlib.Core.List.{List, [], _∷_}
 use lib.Dec.{eqb}
 use lib.IntN.{ℤ, pos}
 use lib.ListN.{length, getD}
@@ -19,13 +19,13 @@ use Rattle.state.specs.declared.Answer.{Answer}
 use Rattle.state.specs.declared.Answer.the-variants.{Refused, Done, Number, Pair}
 use Rattle.state.specs.Spread.{planOf}
 use Rattle.records.specs.Records.{keptAt, keptOf, noRecord}
-use Rattle.heads.specs.Heads.{modeOf, endIn, keptIn, namedAt, seatOf}
+use Rattle.heads.specs.Heads.{modeOf, sidesIn, endIn, keptIn, namedAt, seatOf, unsetIn}
 use Rattle.state.specs.Meets.{answerOf}
+use Rattle.state.proofs.Views.{flags-unset}
 use Rattle.state.proofs.Meeting.{fine-pass}
 use Rattle.query.specs.Reads.{fateAnswer, showChecks, leftNumber}
 use Rattle.query.proofs.Readings.{fate-is, left-by, show-checks, shown-row}
-use Rattle.counts.specs.declared.Tallies.{Tallies}
-use Rattle.counts.specs.Tallies.{Counted, Tallied}
+use Rattle.counts.specs.Tallies.{settledIn, leftIn, missingIn, Counted, Tallied}
 use Rattle.query.specs.declared.Reading.{Reading}
 use Rattle.query.specs.Readings.{readCall, alone, showBy, showReading, readingOf}
 use Rattle.writer.specs.Writes.{withRow}
@@ -38,18 +38,24 @@ alone-row (Number n) = refl
 alone-row (Pair a b) = refl
 
 -- counts made from the records, and the number left from them, are the plan's
-pub tallies-right : (p : Spread) (t : Tallies) → Counted t (keptOf (p .head) (p .edits)) → length (t .unsent) ≡ 8 → t .left ≡ leftNumber (p .head) (p .arrived) (p .confirmed) (t .unsent) (min (keptIn (p .head) - t .settled) 256) → Tallied t (planOf p)
-tallies-right p t h l e =
+pub tallies-right : (p : Spread) (t : List ℕ) → Counted t (keptOf (p .head) (p .edits)) → length t ≡ 12 → leftIn t ≡ leftNumber (p .head) (p .arrived) (p .confirmed) t (min (keptIn (p .head) - settledIn t) 256)
+    → missingIn t ≡ unsetIn (p .arrived) (sidesIn (p .head)) → Tallied t (planOf p)
+tallies-right p t h l e m =
     let ks = planOf p .content .kept in
     let c = settled-count ks in
     let n = length-span 0 (keptIn (p .head)) (λ i. keptAt (endIn (p .head) - (keptIn (p .head) - i)) (getD (p .edits) i noRecord)) in
     let s = h .settled in
-    let rest : min (keptIn (p .head) - t .settled) 256 ≡ count isOpen ks = omega arith in
-    record { long = l; counted = h; left = λ a. e ∙ ap (leftNumber (p .head) (p .arrived) (p .confirmed) (t .unsent)) rest ∙ left-by p (t .unsent) (h .unsent) ∙ rw (yes-is (active (modeOf (p .head .mode))) a) }
+    let rest : min (keptIn (p .head) - settledIn t) 256 ≡ count isOpen ks = omega arith in
+    record {
+      long = l;
+      counted = h;
+      left = λ a. e ∙ ap (leftNumber (p .head) (p .arrived) (p .confirmed) t) rest ∙ left-by p t (h .unsent) ∙ rw (yes-is (active (modeOf (p .head .mode))) a);
+      missing = λ a. m ∙ sym (flags-unset p (λ x. x .arrived) (p .arrived) (λ s. refl));
+    }
 
-module _ (p : Spread) (t : Tallies) (h : Tallied t (planOf p)) where
+module _ (p : Spread) (t : List ℕ) (h : Tallied t (planOf p)) where
   abbrev pub readingIn : ℕ → ℤ → Reading
-  readingIn op a = readingOf op a (p .head) (namedAt (p .head) a) (getD (p .edits) (seatOf (p .head) a) noRecord) (t .left)
+  readingIn op a = readingOf op a (p .head) (namedAt (p .head) a) (getD (p .edits) (seatOf (p .head) a) noRecord) (leftIn t)
 
   -- what is wanted of a reading
   Right : Reading → Stepped → Type 0

@@ -24,9 +24,9 @@ showChecks h s room = (31 unless not (is blank (modeOf (h .mode)))) ∷ (21 unle
 abbrev pub pendingIn : List Bool → List ℕ → ℕ → ℕ
 pendingIn arrived unsent n = countTo (λ s. not (getD arrived (indexOf s) false) || ltb 0 (getD unsent (indexOf s) 0)) n
 
--- how many edits each of the first n sides has unsent, in an array of 8
+-- how many edits each of the first n sides has unsent, in an array for all the counts
 unfoldable pub unsentCounts : Head → List EditRecord → ℕ → List ℕ
-unsentCounts h es zero = replicate 8 0
+unsentCounts h es zero = replicate 12 0
 unsentCounts h es (suc n) = set (unsentCounts h es n) n (unsentOf (suc n) (keptOf h es))
 
 abbrev pub leftNumber : Head → List Bool → List Bool → List ℕ → ℕ → ℕ

@@ -5,8 +5,8 @@ ghost use lib.ListN.{length, drop};
 ghost use mathlib.Core.Bool.{not, _||_};
 ghost use mathlib.Core.List.{_++_};
 ghost use mathlib.Core.Path.{_≡_};
-ghost use Rattle.counts.specs.Tallies.{Counted};
-ghost use Rattle.heads.specs.Heads.{modeOf, sidesIn, keptIn};
+ghost use Rattle.counts.specs.Tallies.{settledIn, leftIn, missingIn, Counted};
+ghost use Rattle.heads.specs.Heads.{modeOf, sidesIn, keptIn, unsetIn};
 ghost use Rattle.protocol.specs.Calls.{first, shown};
 ghost use Rattle.protocol.specs.Lists.{bit};
 ghost use Rattle.protocol.specs.Plan.{is, joining};
@@ -52,15 +52,15 @@ fn pending_bit(arrived: bool, unsent: u32) -> u32
 }
 
 // How many sides have no first log yet or unsent edits.
-fn pending_sides<'a>(arrived: &'a [bool; 8], unsent: &'a [u32; 8], h: Head) -> u32
-    ensures { λ r. ⌜ (r ≡ pendingIn (now (arrived .entry)) (now (unsent .entry)) (sidesIn h)) × (r ≤ 8) ⌝ }
+fn pending_sides<'a>(arrived: &'a [bool; 8], t: &'a Tallies, h: Head) -> u32
+    ensures { λ r. ⌜ (r ≡ pendingIn (now (arrived .entry)) (now (t .entry)) (sidesIn h)) × (r ≤ 8) ⌝ }
 {
     let n = heads::side_count(h);
     let mut k: u32 = 0;
     let mut i: usize = 0;
     while i < n {
         let f = arrived[i];
-        let u = unsent[i];
+        let u = t[i];
         k += pending_bit(f, u);
         i += 1;
     }
@@ -78,27 +78,27 @@ fn left_number<'a>(
     h: Head,
     arrived: &'a [bool; 8],
     confirmed: &'a [bool; 8],
-    unsent: &'a [u32; 8],
+    t: &'a Tallies,
     unsettled: u32,
 ) -> u32
-    ensures { λ r. ⌜ r ≡ leftNumber h (now (arrived .entry)) (now (confirmed .entry)) (now (unsent .entry)) (min unsettled 256) ⌝ }
+    ensures { λ r. ⌜ r ≡ leftNumber h (now (arrived .entry)) (now (confirmed .entry)) (now (t .entry)) (min unsettled 256) ⌝ }
 {
     let mode = h.mode;
     if !heads::is_active(mode) {
         return 0;
     }
-    let a = pending_sides(arrived, unsent, h);
+    let a = pending_sides(arrived, t, h);
     let b = rows::capped(unsettled, 256) as u32;
     let c = heads::unset(confirmed, h);
     let j = joining_bit(mode);
     a + b + c + j + 1
 }
 
-// How many edits each side has unsent.
-fn unsent_counts(edits: [EditRecord; 256], h: Head) -> [u32; 8]
+// How many edits each side has unsent, and no other count.
+fn unsent_counts(edits: [EditRecord; 256], h: Head) -> Tallies
     ensures { λ r. ⌜ r ≡ unsentCounts h edits 8 ⌝ }
 {
-    let mut counts = [0u32; 8];
+    let mut counts = [0u32; 12];
     let mut i: usize = 0;
     while i < 8 {
         let n = records::count(edits, h, Test::UnsentOf(i as u32 + 1));
@@ -233,30 +233,26 @@ pub fn read(op: u32, a: i32, h: Head, i: usize, seen: EditRecord, left: u32) -> 
     }
 }
 
-// The counts of kept edits, from the records, and the number left.
+// The counts of kept edits, from the records, the number left and how many first logs are missing.
 pub fn tallies<'a>(
     edits: [EditRecord; 256],
     h: Head,
     arrived: &'a [bool; 8],
     confirmed: &'a [bool; 8],
 ) -> Tallies
-    ensures { λ r. ⌜ Counted r (keptOf h edits) × (length (r .unsent) ≡ 8) ×
-        (r .left ≡ leftNumber h (now (arrived .entry)) (now (confirmed .entry)) (r .unsent) (min (keptIn h - r .settled) 256)) ⌝ }
+    ensures { λ r. ⌜ Counted r (keptOf h edits) × (length r ≡ 12) ×
+        (leftIn r ≡ leftNumber h (now (arrived .entry)) (now (confirmed .entry)) r (min (keptIn h - settledIn r) 256)) ×
+        (missingIn r ≡ unsetIn (now (arrived .entry)) (sidesIn h)) ⌝ }
 {
-    let unsent = unsent_counts(edits, h);
+    let mut t = unsent_counts(edits, h);
     let waiting = records::count(edits, h, Test::Waiting);
     let settled = records::count(edits, h, Test::Settled);
-    let left = left_number(
-        h,
-        arrived,
-        confirmed,
-        &unsent,
-        counts::unsettled(h, settled),
-    );
-    Tallies {
-        unsent,
-        waiting,
-        settled,
-        left,
-    }
+    let unsettled = counts::unsettled(h, settled);
+    let left = left_number(h, arrived, confirmed, &t, unsettled);
+    let missing = heads::unset(arrived, h);
+    t[counts::WAITING] = waiting;
+    t[counts::SETTLED] = settled;
+    t[counts::LEFT] = left;
+    t[counts::MISSING] = missing;
+    t
 }

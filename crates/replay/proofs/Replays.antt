@@ -35,8 +35,7 @@ use Rattle.state.specs.Sizes.{Sized}
 use Rattle.state.proofs.Views.{plan-same, flags-unset, lookup-named}
 use Rattle.records.proofs.Logs.{Placed, placed, log-modify}
 use Rattle.replay.specs.declared.Outcome.the-variants.{Settled}
-use Rattle.replay.specs.declared.Decision.{Decision}
-use Rattle.replay.specs.Replays.{replayChecks, draftIn, effectiveIn, draftOutcome, settledBy, replayOutcome, settledRecord, replayDecision, pointOf, earlierAt, standingIn, replayFrom, replayBy, replayIn, stored}
+use Rattle.replay.specs.Replays.{Decision, replayChecks, draftIn, effectiveIn, draftOutcome, settledBy, replayOutcome, settledRecord, replayDecision, pointOf, earlierAt, standingIn, replayFrom, replayBy, replayIn, stored}
 
 -- what the test of the rules finds counts only where the plan is joining or closing: two tests that then find the same make the same decision
 decision-same : (test test′ : RuleTest) (p : Spread) (n : ℤ)
@@ -61,17 +60,30 @@ decision-same test test′ p n h = cases (active (modeOf (p .head .mode)))
 draft-length : (p : Spread) → length (draftIn (p .head) (p .draft)) ≤ 32
 draft-length p = let l = length-span 0 (min (p .head .drafted) 32) (λ i. getD (p .draft) i (pos 0)) in omega arith
 
--- the decision that the code makes, with the rules' own index, is the one in the state
-pub replay-decided : (sound : Bool) (p : Spread) (n : ℤ) {i slot j seat place : ℕ} {index : List ℤ} {d : Decision}
+-- how many first logs are missing counts only where the plan is joining or closing
+missing-same : (test : RuleTest) (h : Head) (lower : List ℕ) (gap : List ℤ) (upper : List ℕ) (draft : List ℤ) {missing missing′ : ℕ}
+    (i : ℕ) (standing : EditRecord) (j : ℕ) (seen : EditRecord) (place : ℕ)
+    → (T (active (modeOf (h .mode))) → missing ≡ missing′)
+    → replayFrom test h lower gap upper draft missing i standing j seen place ≡ replayFrom test h lower gap upper draft missing′ i standing j seen place
+unfolding replayOutcome
+missing-same test h lower gap upper draft i standing j seen place e = cases (active (modeOf (h .mode)))
+    (λ t. ap (λ m. replayFrom test h lower gap upper draft m i standing j seen place) (e (is-yes t)))
+    (λ t. rw t)
+
+-- the decision by the outcome that the code finds, with the rules' own index, is the one in the state
+pub replay-decided : (sound : Bool) (p : Spread) (n : ℤ) {i slot j seat place missing : ℕ} {index : List ℤ} {d : Decision}
     → i ≡ namedAt (p .head) n → slot ≡ slotAt i → j ≡ earlierAt (p .head) i (getD (p .edits) slot noRecord) → seat ≡ slotAt j → place ≡ count isSettled (keptOf (p .head) (p .edits)) + 1
-    → d ≡ replayFrom (testedBy sound index) (p .head) (p .lower) (p .gap) (p .upper) (p .draft) (p .arrived) i (getD (p .edits) slot noRecord) j (getD (p .edits) seat noRecord) place
+    → (T (active (modeOf (p .head .mode))) → missing ≡ unsetIn (p .arrived) (sidesIn (p .head)))
+    → d ≡ replayFrom (testedBy sound index) (p .head) (p .lower) (p .gap) (p .upper) (p .draft) missing i (getD (p .edits) slot noRecord) j (getD (p .edits) seat noRecord) place
     → (T (active (modeOf (p .head .mode))) → IndexedIf sound index (p .lower) (p .gap) (p .upper) (p .firm) (min (p .head .rules) 64))
     → d ≡ replayIn sound p n
-replay-decided sound p n {index = index} i-is slot-is j-is seat-is place-is d-is indexed =
+replay-decided sound p n {i = i} {slot = slot} {j = j} {seat = seat} {place = place} {index = index} i-is slot-is j-is seat-is place-is missing-is d-is indexed =
+    let missing = unsetIn (p .arrived) (sidesIn (p .head)) in
     let standing = ap (λ x. getD (p .edits) x noRecord) (slot-is ∙ ap slotAt i-is) in
     let earlier = j-is ∙ (λ x. earlierAt (p .head) (i-is x) (standing x)) in
     let seen = ap (λ x. getD (p .edits) x noRecord) (seat-is ∙ ap slotAt earlier) in
-    d-is ∙ (λ x. replayFrom (testedBy sound index) (p .head) (p .lower) (p .gap) (p .upper) (p .draft) (p .arrived) (i-is x) (standing x) (earlier x) (seen x) (place-is x))
+    d-is ∙ missing-same (testedBy sound index) (p .head) (p .lower) (p .gap) (p .upper) (p .draft) i (getD (p .edits) slot noRecord) j (getD (p .edits) seat noRecord) place missing-is
+    ∙ (λ x. replayFrom (testedBy sound index) (p .head) (p .lower) (p .gap) (p .upper) (p .draft) missing (i-is x) (standing x) (earlier x) (seen x) (place-is x))
     ∙ decision-same (testedBy sound index) (testedIn sound) p n (λ t. tested-indexed sound index _ (p .lower) (p .gap) (p .upper) (p .firm) _ _ _ (draft-length p) (indexed t))
 
 -- and its measure's place in the draft is the edit's

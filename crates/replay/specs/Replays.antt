@@ -17,12 +17,12 @@ use Rattle.records.specs.declared.Fate.{Fate}
 use Rattle.records.specs.declared.Fate.the-variants.{Accepted, Revoked}
 use Rattle.heads.specs.declared.Head.{Head}
 use Rattle.state.specs.Spread.{Spread}
+use Rattle.state.specs.declared.Answer.{Answer}
 use Rattle.state.specs.declared.Answer.the-variants.{Refused, Number}
 use Rattle.heads.specs.Heads.{modeOf, sidesIn, endIn, keptIn, positionOf, slotAt, namedAt, seatOf, unsetIn}
 use Rattle.records.specs.Records.{keptAt, keptOf, noRecord, recordOf}
 use Rattle.replay.specs.declared.Outcome.{Outcome}
 use Rattle.replay.specs.declared.Outcome.the-variants.{Refused as Denied, Settled}
-use Rattle.replay.specs.declared.Decision.{Decision}
 
 -- ---- checks
 
@@ -57,6 +57,12 @@ replayOutcome test h lower gap upper draft missing e earlier old =
 
 -- ---- what is decided and stored
 
+-- a value of the draft, a record, and the answer
+pub record Decision : Type 0 where
+  pub amount : ℤ
+  pub entry : EditRecord
+  pub answer : Answer
+
 abbrev pub settledFate : Bool → Fate
 settledFate b = cond b Accepted Revoked
 
@@ -75,12 +81,15 @@ pointOf m = min (m - 1) 31
 abbrev pub earlierAt : Head → ℕ → EditRecord → ℕ
 earlierAt h i standing = positionOf (endIn h) (keptIn h) (recordOf i standing .earlier)
 
--- the decision by a test of the rules, with the edit and its earlier one, each seen at a place from 1
-abbrev pub replayFrom : RuleTest → Head → List ℕ → List ℤ → List ℕ → List ℤ → List Bool → ℕ → EditRecord → ℕ → EditRecord → ℕ → Decision
-replayFrom test h lower gap upper draft arrived i standing j seen place =
+-- the outcome by a test of the rules, from how many first logs are missing, and the edit and its earlier one, each seen at a place from 1; and the decision
+abbrev pub outcomeFrom : RuleTest → Head → List ℕ → List ℤ → List ℕ → List ℤ → ℕ → ℕ → EditRecord → ℕ → EditRecord → Outcome
+outcomeFrom test h lower gap upper draft missing i standing j seen =
     let e = recordOf i standing in
-    let old = getD draft (pointOf (e .measure)) (pos 0) in
-    replayDecision (replayOutcome test h lower gap upper draft (unsetIn arrived (sidesIn h)) e (recordOf j seen) old) standing old place
+    replayOutcome test h lower gap upper draft missing e (recordOf j seen) (getD draft (pointOf (e .measure)) (pos 0))
+
+abbrev pub replayFrom : RuleTest → Head → List ℕ → List ℤ → List ℕ → List ℤ → ℕ → ℕ → EditRecord → ℕ → EditRecord → ℕ → Decision
+replayFrom test h lower gap upper draft missing i standing j seen place =
+    replayDecision (outcomeFrom test h lower gap upper draft missing i standing j seen) standing (getD draft (pointOf (recordOf i standing .measure)) (pos 0)) place
 
 -- the record where the edit numbered n would stand in a state
 abbrev pub standingIn : Spread → ℤ → EditRecord
@@ -91,7 +100,8 @@ abbrev pub replayBy : RuleTest → Spread → ℤ → Decision
 replayBy test p n =
     let i = namedAt (p .head) n in
     let j = earlierAt (p .head) i (standingIn p n) in
-    replayFrom test (p .head) (p .lower) (p .gap) (p .upper) (p .draft) (p .arrived) i (standingIn p n) j (getD (p .edits) (slotAt j) noRecord) (count isSettled (keptOf (p .head) (p .edits)) + 1)
+    let missing = unsetIn (p .arrived) (sidesIn (p .head)) in
+    replayFrom test (p .head) (p .lower) (p .gap) (p .upper) (p .draft) missing i (standingIn p n) j (getD (p .edits) (slotAt j) noRecord) (count isSettled (keptOf (p .head) (p .edits)) + 1)
 
 abbrev pub replayIn : Bool → Spread → ℤ → Decision
 replayIn sound = replayBy (testedIn sound)

@@ -1,19 +1,21 @@
-// What a replay decides (01, "The calls"): its checks, its outcome, and what it stores. Read only, on what is lent.
-ghost use Prim.Native.Nat.{_+_, _<_, _≤_, min};
+// What a replay decides (01, "The calls"): its checks, its outcome, and the record that it settles. Read only, on what is lent.
+ghost use Prim.Native.Nat.{_<_, _≤_};
 ghost use mathlib.Core.Path.{_≡_};
+ghost use mathlib.Core.Bool.{cond};
+ghost use lib.IntN.{pos};
+ghost use lib.ListN.{getD};
 ghost use Rattle.protocol.specs.Plan.{isWaiting};
 ghost use Rattle.records.specs.Records.{keptAt, recordOf};
-ghost use Rattle.replay.specs.Replays.{draftOutcome, replayOutcome, settledFate, settledRecord, replayDecision, pointOf, earlierAt, replayFrom};
+ghost use Rattle.replay.specs.Replays.{draftOutcome, settledFate, settledRecord, pointOf, earlierAt, outcomeFrom};
 ghost use Rattle.rules.specs.Index.{testedBy};
-ghost use Rattle.rules.specs.Table.{lowers, gaps, uppers, firms};
+ghost use Rattle.rules.specs.Table.{lowers, gaps, uppers};
+use change::Applied;
 use change::Change;
 use heads::Head;
 use records::EditRecord;
 use records::Fate;
 use rules::Index;
 use rules::Table;
-use rules::Trial;
-use state::Answer;
 
 // What the checks of a replay find: a refusal, or whether the edit is accepted and the value that the draft then has at its place.
 pub enum Outcome {
@@ -21,163 +23,7 @@ pub enum Outcome {
     Settled(bool, i32),
 }
 
-// What a replay stores: a value of the draft and a record, and its answer.
-pub struct Decision {
-    pub amount: i32,
-    pub entry: EditRecord,
-    pub answer: Answer,
-}
-
-fn is_waiting(e: EditRecord) -> bool
-    ensures { λ t. ⌜ t ≡ isWaiting (keptAt 0 e) ⌝ }
-{
-    let f = e.fate;
-    records::fate_number(f) == 2
-}
-
-// A change tried on the draft: whether it takes effect, and the value at its place then. A caller that knows that all rules hold on the
-// draft says so (`sound`): then it asks the index that is lent, which, if it is the rules', has those that name the measure.
-fn try_draft<'a>(
-    h: Head,
-    table: &'a Table,
-    index: &'a Index,
-    draft: &'a [i32],
-    m: u32,
-    change: Change,
-    old: i32,
-    sound: bool,
-) -> Outcome
-    ensures { λ r. ⌜ r ≡ draftOutcome (testedBy sound (now (index .entry))) h (lowers (now (table .entry))) (gaps (now (table .entry)))
-        (uppers (now (table .entry))) (now (draft .entry)) m change old ⌝ }
-{
-    let n = rows::capped(h.drafted, 32);
-    let tried = rules::try_change(table, h.rules, index, draft, 0, h.drafted, m, change, sound);
-    match tried {
-        Trial::Effective(x) => {
-            if rows::one_to(n, m) {
-                return Outcome::Settled(true, x);
-            }
-            Outcome::Settled(true, old)
-        }
-        Trial::OutOfRange => Outcome::Settled(false, old),
-        Trial::Broken => Outcome::Settled(false, old),
-    }
-}
-
-// The checks 31, 34, 35, 36 and the trial, from how many first logs are missing, the edit, and the one that it names as earlier.
-fn replay_outcome<'a>(
-    h: Head,
-    table: &'a Table,
-    index: &'a Index,
-    draft: &'a [i32],
-    missing: u32,
-    e: EditRecord,
-    earlier: EditRecord,
-    old: i32,
-    sound: bool,
-) -> Outcome
-    ensures { λ r. ⌜ r ≡ replayOutcome (testedBy sound (now (index .entry))) h (lowers (now (table .entry))) (gaps (now (table .entry)))
-        (uppers (now (table .entry))) (now (draft .entry)) missing e earlier old ⌝ }
-{
-    let mode = h.mode;
-    if !heads::is_active(mode) {
-        return Outcome::Refused(31);
-    }
-    if missing != 0 {
-        return Outcome::Refused(34);
-    }
-    if !is_waiting(e) {
-        return Outcome::Refused(35);
-    }
-    if is_waiting(earlier) {
-        return Outcome::Refused(36);
-    }
-    let change = e.change;
-    try_draft(h, table, index, draft, e.measure, change, old, sound)
-}
-
-fn settled_fate(accepted: bool) -> Fate
-    ensures { λ r. ⌜ r ≡ settledFate accepted ⌝ }
-{
-    if accepted {
-        return Fate::Accepted;
-    }
-    Fate::Revoked
-}
-
-fn settled_record(e: EditRecord, accepted: bool, place: u32) -> EditRecord
-    ensures { λ r. ⌜ r ≡ settledRecord e accepted place ⌝ }
-{
-    let mut r = records::with_fate(e, settled_fate(accepted));
-    r.place = place;
-    r
-}
-
-fn replay_decision(outcome: Outcome, standing: EditRecord, old: i32, place: u32) -> Decision
-    ensures { λ r. ⌜ r ≡ replayDecision outcome standing old place ⌝ }
-{
-    match outcome {
-        Outcome::Refused(k) => {
-            let answer = Answer::Refused(k);
-            Decision {
-                amount: old,
-                entry: standing,
-                answer,
-            }
-        }
-        Outcome::Settled(accepted, x) => {
-            let entry = settled_record(standing, accepted, place);
-            if accepted {
-                let answer = Answer::Number(3);
-                return Decision {
-                    amount: x,
-                    entry,
-                    answer,
-                };
-            }
-            let answer = Answer::Number(4);
-            Decision {
-                amount: x,
-                entry,
-                answer,
-            }
-        }
-    }
-}
-
-// What a replay stores, from the edit that stands at a place from 1, the one seen at the place that it names as earlier, and the value that
-// stands at its place in the draft; place is the next in the order of settling.
-fn decided<'a>(
-    h: Head,
-    table: &'a Table,
-    index: &'a Index,
-    draft: &'a [i32],
-    missing: u32,
-    i: usize,
-    standing: EditRecord,
-    j: usize,
-    seen: EditRecord,
-    old: i32,
-    place: u32,
-    sound: bool,
-) -> Decision
-    ensures { λ r. ⌜ r ≡ replayDecision
-        (replayOutcome (testedBy sound (now (index .entry))) h (lowers (now (table .entry))) (gaps (now (table .entry))) (uppers (now (table .entry)))
-        (now (draft .entry)) missing (recordOf i standing) (recordOf j seen) old) standing old place ⌝ }
-{
-    let outcome = replay_outcome(
-        h,
-        table,
-        index,
-        draft,
-        missing,
-        records::found(i, standing),
-        records::found(j, seen),
-        old,
-        sound,
-    );
-    replay_decision(outcome, standing, old, place)
-}
+// ---- where a replay looks
 
 // Where a measure stands in the draft.
 fn point(m: u32) -> usize
@@ -194,7 +40,7 @@ pub fn point_of(i: usize, standing: EditRecord) -> usize
     ensures { λ r. ⌜ (r ≡ pointOf (recordOf i standing .measure)) × (r < 32) ⌝ }
 {
     let e = records::found(i, standing);
-    point(e.measure)
+    point(e.measure as u32)
 }
 
 // The place, from 1, of the edit that it names as earlier.
@@ -205,39 +51,112 @@ pub fn earlier(h: Head, i: usize, standing: EditRecord) -> usize
     heads::position(h, e.earlier)
 }
 
-// What a replay stores, from the edit and the one that it names as earlier, each seen at a place from 1, and how many edits are settled.
+// ---- what it decides
+
+// Whether an edit, seen at a place from 1, is waiting.
+fn is_waiting(i: usize, e: EditRecord) -> bool
+    ensures { λ t. ⌜ t ≡ isWaiting (keptAt 0 (recordOf i e)) ⌝ }
+{
+    if i == 0 {
+        return false;
+    }
+    let f = e.fate;
+    records::fate_number(f) == 2
+}
+
+// The value that a change is made of: 0 where the measure is none of the draft's.
+fn counted(here: bool, old: i32) -> i32
+    ensures { λ r. ⌜ r ≡ cond here old (pos 0) ⌝ }
+{
+    if here {
+        return old;
+    }
+    0
+}
+
+// A change tried on the draft: whether it takes effect, and the value at its place then. A caller that knows that all rules hold on the
+// draft says so (`sound`): then it asks the index that is lent, which, if it is the rules', has those that name the measure.
+fn try_draft<'a>(
+    h: Head,
+    table: &'a Table,
+    index: &'a Index,
+    draft: &'a [i32; 32],
+    m: u32,
+    change: Change,
+    sound: bool,
+) -> Outcome
+    ensures { λ r. ⌜ r ≡ draftOutcome (testedBy sound (now (index .entry))) h (lowers (now (table .entry))) (gaps (now (table .entry)))
+        (uppers (now (table .entry))) (now (draft .entry)) m change (getD (now (draft .entry)) (pointOf m) (pos 0)) ⌝ }
+{
+    let at = point(m);
+    let old = draft[at];
+    let here = rows::one_to(rows::capped(h.drafted, 32), m);
+    let made = change::apply(change, counted(here, old));
+    let Applied::InRange(x) = made else {
+        return Outcome::Settled(false, old);
+    };
+    if rules::hold(table, h.rules, index, draft, 0, h.drafted, m, x, sound) {
+        if here {
+            return Outcome::Settled(true, x);
+        }
+        return Outcome::Settled(true, old);
+    }
+    Outcome::Settled(false, old)
+}
+
+// What a replay decides, from how many first logs are missing, and the edit and the one that it names as earlier, each seen at a place from 1:
+// the checks 31, 34, 35, 36, and the trial.
 pub fn decide_replay<'a>(
     h: Head,
     table: &'a Table,
     index: &'a Index,
     draft: &'a [i32; 32],
-    arrived: &'a [bool; 8],
+    missing: u32,
     i: usize,
     standing: EditRecord,
     j: usize,
     seen: EditRecord,
-    settled: u32,
     sound: bool,
-) -> Decision
-    ensures { λ r. ⌜ r ≡ replayFrom (testedBy sound (now (index .entry))) h (lowers (now (table .entry))) (gaps (now (table .entry)))
-        (uppers (now (table .entry))) (now (draft .entry)) (now (arrived .entry)) i standing j seen (min settled 256 + 1) ⌝ }
+) -> Outcome
+    ensures { λ r. ⌜ r ≡ outcomeFrom (testedBy sound (now (index .entry))) h (lowers (now (table .entry))) (gaps (now (table .entry)))
+        (uppers (now (table .entry))) (now (draft .entry)) missing i standing j seen ⌝ }
 {
-    let at = point_of(i, standing);
-    let old = draft[at];
-    decided(
-        h,
-        table,
-        index,
-        draft,
-        heads::unset(arrived, h),
-        i,
-        standing,
-        j,
-        seen,
-        old,
-        rows::capped(settled, 256) as u32 + 1,
-        sound,
-    )
+    let mode = h.mode;
+    if !heads::is_active(mode) {
+        return Outcome::Refused(31);
+    }
+    if missing != 0 {
+        return Outcome::Refused(34);
+    }
+    if !is_waiting(i, standing) {
+        return Outcome::Refused(35);
+    }
+    if is_waiting(j, seen) {
+        return Outcome::Refused(36);
+    }
+    let m = standing.measure as u32;
+    let change = standing.change;
+    try_draft(h, table, index, draft, m, change, sound)
+}
+
+// ---- the record of an edit that is settled
+
+fn settled_fate(accepted: bool) -> Fate
+    ensures { λ r. ⌜ r ≡ settledFate accepted ⌝ }
+{
+    if accepted {
+        return Fate::Accepted;
+    }
+    Fate::Revoked
+}
+
+// An edit, accepted or revoked, with its place in the order of settling.
+pub fn settled_record(e: EditRecord, accepted: bool, place: u32) -> EditRecord
+    ensures { λ r. ⌜ r ≡ settledRecord e accepted place ⌝ }
+{
+    let mut r = records::with_fate(e, settled_fate(accepted));
+    r.place = place;
+    r
 }
 
 // The laws of the call replay stand in proofs/Replays.antt.

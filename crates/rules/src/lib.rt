@@ -46,39 +46,39 @@ fn value_at(values: &[i32], at: usize, n: usize, m: u32) -> i32
 // The rules as numbers, four to each: measure lower, plus gap, is less than measure upper; firm if 1. A negative number reads as 0.
 pub type Table = [i32; 256];
 
-pub fn lower_of(table: &Table, i: usize) -> u32
+fn lower_of(table: &Table, i: usize) -> u32
     requires { ⌜ i < 64 ⌝ }
     ensures { λ r. ⌜ r ≡ getD (lowers (now (table .entry))) i 0 ⌝ }
 {
     exact::number(table[4 * i])
 }
 
-pub fn gap_of(table: &Table, i: usize) -> i32
+fn gap_of(table: &Table, i: usize) -> i32
     requires { ⌜ i < 64 ⌝ }
     ensures { λ r. ⌜ r ≡ getD (gaps (now (table .entry))) i (pos 0) ⌝ }
 {
     table[4 * i + 1]
 }
 
-pub fn upper_of(table: &Table, i: usize) -> u32
+fn upper_of(table: &Table, i: usize) -> u32
     requires { ⌜ i < 64 ⌝ }
     ensures { λ r. ⌜ r ≡ getD (uppers (now (table .entry))) i 0 ⌝ }
 {
     exact::number(table[4 * i + 2])
 }
 
-pub fn firm_of(table: &Table, i: usize) -> bool
+fn firm_of(table: &Table, i: usize) -> bool
     requires { ⌜ i < 64 ⌝ }
     ensures { λ r. ⌜ r ≡ getD (firms (now (table .entry))) i false ⌝ }
 {
     exact::number(table[4 * i + 3]) == 1
 }
 
-// Writes rule i anew.
-pub fn put_rule(table: &mut Table, i: usize, a: i32, c: i32, b: i32, f: i32)
-    requires { ⌜ i < 64 ⌝ }
-    ensures { λ r. ⌜ now (table .exit) ≡ withRule (now (table .entry)) i a c b f ⌝ }
+// Writes the rule behind the first k, the last one anew if there are 64.
+pub fn put_rule(table: &mut Table, k: u32, a: i32, c: i32, b: i32, f: i32)
+    ensures { λ r. ⌜ now (table .exit) ≡ withRule (now (table .entry)) (min k 63) a c b f ⌝ }
 {
+    let i = rows::capped(k, 63);
     table[4 * i] = a;
     table[4 * i + 1] = c;
     table[4 * i + 2] = b;
@@ -302,17 +302,10 @@ fn naming_holds(values: &[i32], at: usize, n: usize, y: i32, o: i32, g: i32) -> 
     less_by(y, g, outside(p, y))
 }
 
-// Whether each rule holds that the index has for measure m, which counts as x. Any numbers may stand there.
-fn indexed_hold<'a>(
-    index: &'a Index,
-    values: &'a [i32],
-    at: usize,
-    n: usize,
-    m: u32,
-    x: i32,
-) -> bool
+// The place in the index of the first rule that does not hold, of those that it has for measure m, which counts as x; 128 if each holds. Any numbers may stand there.
+fn broken_at<'a>(index: &'a Index, values: &'a [i32], at: usize, n: usize, m: u32, x: i32) -> usize
     requires { ⌜ n ≤ 32 ⌝ }
-    ensures { λ t. ⌜ t ≡ indexedIn (now (index .entry)) m x (row (now (values .entry)) at n) ⌝ }
+    ensures { λ r. ⌜ eqb r 128 ≡ indexedIn (now (index .entry)) m x (row (now (values .entry)) at n) ⌝ }
 {
     let y = value_with(values, at, n, m, x, m);
     let size = room(values.len(), at, n);
@@ -321,11 +314,11 @@ fn indexed_hold<'a>(
     let mut k = exact::number(index[p]) as usize;
     while k < last {
         if !naming_holds(values, at, size, y, index[129 + 3 * k], index[130 + 3 * k]) {
-            return false;
+            return k;
         }
         k += 1;
     }
-    true
+    128
 }
 
 fn pair_holds(values: &[i32], at: usize, n: usize, m: u32, x: i32, a: u32, g: i32, b: u32) -> bool
@@ -367,7 +360,7 @@ pub fn all_hold<'a>(
 
 // Whether each rule that needs a test holds, on such a row. The caller that knows that all held before says so (`sound`) and lends an index: then those
 // that it has for m are tested, which with the rules' own (`Indexed`) are the ones that name m.
-fn rules_hold<'a>(
+pub fn hold<'a>(
     table: &'a Table,
     k: u32,
     index: &'a Index,
@@ -382,7 +375,7 @@ fn rules_hold<'a>(
         (min k 64) x (row (now (values .entry)) at (min n 32)) ⌝ }
 {
     if sound {
-        return indexed_hold(index, values, at, rows::capped(n, 32), m, x);
+        return broken_at(index, values, at, rows::capped(n, 32), m, x) == 128;
     }
     all_hold(table, k, values, at, n, m, x)
 }
@@ -460,7 +453,7 @@ pub fn try_change<'a>(
     let Applied::InRange(x) = made else {
         return Trial::OutOfRange;
     };
-    if rules_hold(table, k, index, values, at, n, m, x, sound) {
+    if hold(table, k, index, values, at, n, m, x, sound) {
         return Trial::Effective(x);
     }
     Trial::Broken

@@ -20,13 +20,12 @@ use Rattle.state.specs.Spread.{spread}
 use Rattle.state.specs.View.{view}
 use Rattle.calls.specs.Makes.{SoundIn, IndexedIn}
 use Rattle.state.specs.Sizes.{Sized}
-use Rattle.counts.specs.declared.Tallies.{Tallies}
 use Rattle.counts.specs.Tallies.{Tallied}
 use Rattle.protocol.proofs.Laws.{cases}
 use Rattle.run.specs.Progress.{Ran, behindRan, ran, Advanced, lastOf}
 
 -- a run that goes on: the answers written so far, and what is still to come of the whole run
-pub record Going (reserve : ℕ) (sheet : List ℕ) (from : ℕ) (lent : List ℕ) (start : Plan) (area : List ℕ) (p : State) (t : Tallies) (at i : ℕ) : Type 0 where
+pub record Going (reserve : ℕ) (sheet : List ℕ) (from : ℕ) (lent : List ℕ) (start : Plan) (area : List ℕ) (p : State) (t : List ℕ) (at i : ℕ) : Type 0 where
   pub sized : Sized (spread p)
   pub long : length (p .table) ≡ 256
   pub tallied : Tallied t (view p)
@@ -40,7 +39,7 @@ behind-two xs ys r = ap (λ bs. record { bytes = bs; rest = r .rest; plan = r .p
 
 -- ---- the end
 
-module _ (reserve : ℕ) (sheet : List ℕ) (from : ℕ) (lent : List ℕ) (start : Plan) (area : List ℕ) (p : State) (t : Tallies) (at i : ℕ) (g : Going reserve sheet from lent start area p t at i) where
+module _ (reserve : ℕ) (sheet : List ℕ) (from : ℕ) (lent : List ℕ) (start : Plan) (area : List ℕ) (p : State) (t : List ℕ) (at i : ℕ) (g : Going reserve sheet from lent start area p t at i) where
   -- a run of which the rest is known, and writes nothing more
   ends : (q : State) (next : ℕ) (e : Bool) → ran reserve (length lent - at) (view p) (lines (drop i sheet)) ≡ record { bytes = []; rest = lines (drop next sheet); plan = view q; ended = e }
       → Advanced reserve sheet from start lent (view q) next at e area
@@ -75,7 +74,7 @@ module _ (reserve : ℕ) (sheet : List ℕ) (from : ℕ) (lent : List ℕ) (star
   paused h r = ends p i false (rw (cut h) (rw (lt-ltb (length lent - at) reserve r)))
 
   -- a line made: the plan after it and its answer's bytes are the definition's
-  module _ (h : i < length sheet) (r : reserve ≤ length lent - at) (q : State) (t′ : Tallies) (bytes : List ℕ) (b : bytes ≡ text (lineStep line (view p) .answer)) (v : view q ≡ lineStep line (view p) .plan) where
+  module _ (h : i < length sheet) (r : reserve ≤ length lent - at) (q : State) (t′ : List ℕ) (bytes : List ℕ) (b : bytes ≡ text (lineStep line (view p) .answer)) (v : view q ≡ lineStep line (view p) .plan) where
     room : length (drop at area) ≡ length lent - at
     room = length-drop at area ∙ ap (λ n. n - at) (g .same)
 
@@ -115,14 +114,14 @@ module _ (reserve : ℕ) (sheet : List ℕ) (from : ℕ) (lent : List ℕ) (star
 -- ---- the loop's invariant
 
 -- The run is over, as an answer did not fit, or goes on; `stop` says whether there is another line. Where the rules are known to hold, the index is theirs.
-pub record Course (sound : Bool) (reserve : ℕ) (sheet : List ℕ) (from : ℕ) (lent : List ℕ) (start : Plan) (area : List ℕ) (p : State) (t : Tallies) (index : List ℤ) (at i : ℕ) (ended : Bool) (stop : ℕ) : Type 0 where
+pub record Course (sound : Bool) (reserve : ℕ) (sheet : List ℕ) (from : ℕ) (lent : List ℕ) (start : Plan) (area : List ℕ) (p : State) (t : List ℕ) (index : List ℤ) (at i : ℕ) (ended : Bool) (stop : ℕ) : Type 0 where
   pub indexed : sound ≡ true → IndexedIn (spread p) index
   pub same : length area ≡ length lent
   pub last : stop ≡ lastOf (length sheet) ended (length area - at) reserve
   pub over : ended ≡ true → Advanced reserve sheet from start lent (view p) i at true area
   pub under : ended ≡ false → SoundIn sound (spread p) × Going reserve sheet from lent start area p t at i
 
-module _ {sound : Bool} {reserve : ℕ} {sheet : List ℕ} {from : ℕ} {lent : List ℕ} {start : Plan} {area : List ℕ} {p : State} {t : Tallies} {index : List ℤ} {at i : ℕ} {ended : Bool} {stop : ℕ} (k : Course sound reserve sheet from lent start area p t index at i ended stop) where
+module _ {sound : Bool} {reserve : ℕ} {sheet : List ℕ} {from : ℕ} {lent : List ℕ} {start : Plan} {area : List ℕ} {p : State} {t : List ℕ} {index : List ℤ} {at i : ℕ} {ended : Bool} {stop : ℕ} (k : Course sound reserve sheet from lent start area p t index at i ended stop) where
   -- a line is begun
   pub inside : i < stop → (ended ≡ false) × (i < length sheet) × (reserve ≤ length area - at)
   inside h =
@@ -140,7 +139,7 @@ module _ {sound : Bool} {reserve : ℕ} {sheet : List ℕ} {from : ℕ} {lent : 
 
 -- ---- the beginning
 
-pub begins : (reserve : ℕ) (sheet : List ℕ) (from : ℕ) (lent : List ℕ) (p : State) (t : Tallies) → Sized (spread p) → length (p .table) ≡ 256 → Tallied t (view p) → Going reserve sheet from lent (view p) lent p t 0 from
+pub begins : (reserve : ℕ) (sheet : List ℕ) (from : ℕ) (lent : List ℕ) (p : State) (t : List ℕ) → Sized (spread p) → length (p .table) ≡ 256 → Tallied t (view p) → Going reserve sheet from lent (view p) lent p t 0 from
 begins reserve sheet from lent p t z b k = record { sized = z; long = b; tallied = k; same = refl; most = omega arith; rest = refl; course = (let e : length lent ≡ length lent - 0 = omega arith in ap (λ n. ran reserve n (view p) (lines (drop from sheet))) e) }
 
 -- ---- an area of which the rest was lent

@@ -6,7 +6,6 @@ ghost use Rattle.heads.specs.Heads.{modeOf};
 ghost use Rattle.counts.specs.Tallies.{Tallied};
 ghost use Rattle.state.specs.View.{view};
 ghost use Rattle.run.specs.Progress.{lastOf, Advanced};
-use calls::Look;
 use counts::Tallies;
 use records::Test;
 use state::State;
@@ -32,6 +31,17 @@ fn last(len: usize, ended: bool, room: usize, reserve: usize) -> usize
     len
 }
 
+fn reached(state: State, next: usize, written: usize, ended: bool) -> Progress
+    ensures { λ r. ⌜ r ≡ record { state = state; next = next; written = written; ended = ended } ⌝ }
+{
+    Progress {
+        state,
+        next,
+        written,
+        ended,
+    }
+}
+
 // The loop. In a plan that was handed in blank (`sound`) every rule holds once it is open, and every call keeps it so; its rules are indexed then.
 fn go(
     p: State,
@@ -45,7 +55,7 @@ fn go(
     requires { ⌜ Tallied t (view p) × (sound ≡ true → is blank (modeOf (p .head .mode)) ≡ true) ⌝ }
     ensures { λ r. ⌜ Advanced reserve (now (sheet .entry)) from (view p) (now (area .entry)) (view (r .state)) (r .next) (r .written) (r .ended) (now (area .exit)) ⌝ }
 {
-    let mut head = p.head;
+    let mut head = heads::numbers(p.head);
     let mut base = p.base;
     let mut draft = p.draft;
     let mut values = p.values;
@@ -61,21 +71,17 @@ fn go(
     let mut stop = last(sheet.len(), ended, area.len(), reserve);
     while i < stop {
         let line = reader::read_line(&sheet[i..]);
-        let named = calls::first_look(line, head);
+        let h = heads::from_numbers(&head);
+        let named = calls::first_look(line, h);
         let slot = heads::slot(named);
         let standing = edits[slot];
-        let next = calls::second_look(line, head, named, standing);
+        let next = calls::second_look(line, h, named, standing);
         let seat = heads::slot(next);
         let seen = edits[seat];
-        let look = Look {
-            named,
-            standing,
-            next,
-            seen,
-        };
+        let look = calls::looking(named, standing, next, seen);
         let e = calls::make(
             line,
-            head,
+            &mut head,
             &mut base,
             &mut draft,
             &mut values,
@@ -84,16 +90,12 @@ fn go(
             &mut table,
             &mut index,
             look,
-            counts,
+            &mut counts,
             sound,
         );
-        let h = e.head;
-        let c = e.counts;
-        let place = e.slot;
-        let entry = e.entry;
-        head = h;
-        counts = c;
         if e.kept {
+            let place = e.slot;
+            let entry = e.entry;
             edits[place] = entry;
         }
         let side = exact::number(line.a);
@@ -117,22 +119,9 @@ fn go(
         i = i + line.end + 1;
         stop = last(sheet.len(), ended, area.len() - at, reserve);
     }
-    let state = State {
-        head,
-        base,
-        draft,
-        values,
-        arrived,
-        confirmed,
-        table,
-        edits,
-    };
-    Progress {
-        state,
-        next: i,
-        written: at,
-        ended,
-    }
+    let h = heads::from_numbers(&head);
+    let state = state::of(h, base, draft, values, arrived, confirmed, table, edits);
+    reached(state, i, at, ended)
 }
 
 // Goes on from a line of the sheet, as long as `reserve` bytes of the area are free and each answer fits. The rules of a plan that is handed in

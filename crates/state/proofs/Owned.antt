@@ -68,7 +68,7 @@ signed-field xs us i p = signed xs us i (subst (λ (ys : List ℤ). shadow (each
 placed : (es : List EditRecord) (us : List Val) (i : ℕ) → shadow (each (Denots (Declared.fields record-type)) (Struct (Declared.shape record-type) .own) (map (record-type .to) es) us) → getD es i noRecord .place < 4294967296
 placed [] us i p = omega arith
 placed (e ∷ es) [] i p = absurd p
-placed (e ∷ es) (u ∷ us) zero p = p .0 .1 .1 .1 .1 .1 .1 .1 .1 .0 .1
+placed (e ∷ es) (u ∷ us) zero p = p .0 .1 .1 .1 .1 .1 .1 .1 .1 .1 .0 .1
 placed (e ∷ es) (u ∷ us) (suc i) p = placed es us i (p .1)
 
 pub owned-ranged : (p : State) → Is (Declared.row the-type) p (val the-type the-laws p ∷ []) → Ranged p

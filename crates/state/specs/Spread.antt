@@ -2,7 +2,7 @@
 -- Assumes nothing.
 use Prim.Native.Nat.{ℕ, min}
 use mathlib.Core.Path.{_≡_}
-use mathlib.Core.Bool.{Bool, false}
+use mathlib.Core.Bool.{Bool, true, false}
 use mathlib.Core.List.{List}
 use lib.IntN.{ℤ}
 use lib.ListN.{getD}
@@ -81,6 +81,12 @@ namedIn p n = let i = positionOf (endIn (p .head)) (keptIn (p .head)) n in recor
 pub record SpreadAnswered : Type 0 where
   pub state : Spread
   pub answer : Answer
+
+abbrev pub isAccepted : Answer → Bool
+isAccepted (Refused k) = false
+isAccepted Done = true
+isAccepted (Number n) = true
+isAccepted (Pair a b) = true
 
 abbrev pub refusedAs : Spread → ℕ → SpreadAnswered
 refusedAs p k = record { state = p; answer = Refused k }

@@ -1,16 +1,23 @@
-use mathlib.Core.Path.{_≡_, ap, _∙_}
+use mathlib.Core.Path.{_≡_, refl, _∙_, sym, ap}
 use mir.Facts.{toZ-ofZ}
 use Rattle.exact.proofs.Ints.{fits32}
-use Rattle.heads.specs.Heads.{namedAt}
 use Rattle.query.specs.Readings.{readingOf}
-use Rattle.calls.proofs.Makings.{read-making}
+use Rattle.counts.specs.Tallies.{leftIn}
+use Rattle.calls.proofs.Makings.{lent, read-making}
 use borrow.Author.Needs.{needs}
 use Rattle.calls.proofs.read_in.Statement.{statement}
 use Rattle.calls.proofs.read_in.Tie as tie
 use Rattle.calls.proofs.read_in.Reads as reads
 use Rattle.calls.proofs.read_in.Lts as lts
 use Rattle.calls.proofs.plain_effect.Reads as plain-effect-reads
+use Rattle.heads.proofs.from_numbers.Reads as from-numbers-reads
 use Rattle.query.proofs.read.Reads as read-reads
+
+from-numbers-requires : tie.Need-from-numbers-requires
+from-numbers-requires c κs = search needs
+
+element-copy-out-read : tie.Need-element-copy-out-read
+element-copy-out-read c = search needs
 
 read-requires : tie.Need-read-requires
 read-requires c κs = search needs
@@ -20,13 +27,22 @@ plain-effect-requires c κs = search needs
 
 returns : tie.Need-returns
 returns c =
-    let s = (c .before .before .before .before) in
+    let s = (c .before .before .before .before .before .before) in
     let a = s .args in
     let l = a .l in
-    let to-a = toZ-ofZ (fits32 (l .a) (c .before .before .struct-told .given .1 .0 .1)) in
-    rw (c .plain-effect .ensures)
-    (λ base draft values arrived confirmed table index sound. read-making l (a .h) base draft values arrived confirmed table index (a .look) (a .t) sound (s .pre .0) (s .pre .1) (c .before .read .result)
-    ((c .before .read .ensures) ∙ ap (λ y. readingOf (l .op) y (a .h) (a .look .named) (a .look .standing) (a .t .left)) to-a))
+    let h = (c .before .before .before .before .before .from-numbers .result) in
+    let to-a = toZ-ofZ (fits32 (l .a) ((c .before .before .struct-told .given .1 .0 .1))) in
+    rw ((c .plain-effect .ensures))
+    (λ base draft values arrived confirmed table index sound. lent (c .before .before .before .before .before .from-numbers .ensures) refl (sym (c .before .before .before .before .before .from-numbers .ensures))
+    (read-making l h base draft values arrived confirmed table index (a .look) (a .counts .now) sound (s .pre .0) (s .pre .1) (c .before .read .result)
+    ((c .before .read .ensures) ∙ ap (λ y. readingOf (l .op) y h (a .look .named) (a .look .standing) (leftIn (a .counts .now))) to-a)))
 
 pub read-in-spec : {M : Type 1} → statement M
-read-in-spec = tie.close (tie.spec read-requires plain-effect-requires returns)
+read-in-spec =
+    tie.close
+    (tie.spec
+    from-numbers-requires
+    element-copy-out-read
+    read-requires
+    plain-effect-requires
+    returns)

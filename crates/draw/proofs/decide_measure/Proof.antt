@@ -2,7 +2,7 @@ use mathlib.Core.Path.{_≡_, refl, ap, _∙_}
 use mir.Facts.{toZ-ofZ}
 use Rattle.protocol.specs.Calls.{first}
 use Rattle.state.specs.Meets.{refusalOf}
-use Rattle.draw.specs.Draw.{measureChecks, measureDrawing}
+use Rattle.draw.specs.Draw.{measureChecks, measureDrawing, refusedDrawing}
 use Rattle.draw.proofs.Drawings.{decided-refused, decided-fine}
 use borrow.Author.Needs.{needs}
 use Rattle.draw.proofs.decide_measure.Statement.{statement}
@@ -26,8 +26,9 @@ refused-requires c κs = search needs
 
 returns : tie.Need-returns
 returns c =
-    let a = (c .before .before .before .args) in
-    decided-refused (measureChecks (a .h) (a .v)) (measureDrawing (a .h) (a .v) (a .old)) (a .h) (a .old) (c .refused .ensures) (found (c .before .before)) (c .before .if1 .taken)
+    let s = (c .before .before .before) in
+    let a = s .args in
+    decided-refused (measureChecks (a .h) (a .v)) (measureDrawing (a .h) (a .v)) (a .h) (a .old) ((c .refused .ensures) ∙ ap (λ v. refusedDrawing (a .h) v (c .before .before .measure-refusal .result)) (toZ-ofZ (s .fits .old))) (found (c .before .before)) (c .before .if1 .taken)
 
 capped-requires : tie.Need-capped-requires
 capped-requires c κs = search needs
@@ -45,7 +46,7 @@ returns-2 : tie.Need-returns-2
 returns-2 c =
     let s = (c .before .before .before .before) in
     let a = s .args in
-    rw ((c .with-measures .ensures), (c .before .capped .ensures), toZ-ofZ (s .fits .v)) (decided-fine (measureChecks (a .h) (a .v)) (measureDrawing (a .h) (a .v) (a .old)) (a .h) (a .old) refl tt (found (c .before .before .before)) (c .before .before .if1 .left))
+    rw ((c .with-measures .ensures), (c .before .capped .ensures), toZ-ofZ (s .fits .v)) (decided-fine (measureChecks (a .h) (a .v)) (measureDrawing (a .h) (a .v)) (a .h) (a .old) refl tt (found (c .before .before .before)) (c .before .before .if1 .left))
 
 pub decide-measure-spec : {M : Type 1} → statement M
 decide-measure-spec =

@@ -3,12 +3,11 @@ use mathlib.Core.List.{List}
 use mir.Syntax.{w32}
 use mir.Val.{toZ, ofZ}
 use mir.Facts.{toZ-ofZ}
-use Rattle.exact.proofs.Ints.{fits32}
 use Rattle.protocol.specs.Lists.{natural}
 use Rattle.protocol.specs.Calls.{Check, first}
 use Rattle.state.specs.Meets.{refusalOf}
 use Rattle.draw.specs.declared.Drawing.{Drawing}
-use Rattle.draw.specs.Draw.{ruleChecks, ruleDrawing}
+use Rattle.draw.specs.Draw.{ruleChecks, ruleDrawing, refusedDrawing}
 use Rattle.draw.proofs.Drawings.{decided-refused, decided-fine}
 use borrow.Author.Needs.{needs}
 use Rattle.draw.proofs.decide_rule.Statement.{statement}
@@ -25,7 +24,7 @@ abbrev asked : tie.Start → List Check
 asked s = ruleChecks (s .args .h) (natural (s .args .a)) (s .args .c) (natural (s .args .b)) (s .args .f)
 
 abbrev drawing : tie.Start → Drawing
-drawing s = ruleDrawing (s .args .h) (s .args .a) (s .args .c) (s .args .b) (s .args .f) (s .args .old)
+drawing s = ruleDrawing (s .args .h) (s .args .old)
 
 -- what the check found, of the numbers that were handed on
 found : (c : tie.After-rule-refusal) → c .rule-refusal .result ≡ refusalOf (first (asked (c .before .before .before)))
@@ -51,10 +50,7 @@ refused-requires c κs = search needs
 returns : tie.Need-returns
 returns c =
     let s = (c .before .before .before .before .before) in
-    decided-refused (asked s) (drawing s) (s .args .h) (s .args .old) (c .refused .ensures) (found (c .before .before)) (c .before .if1 .taken)
-
-number-requires-3 : tie.Need-number-requires-3
-number-requires-3 c κs = search needs
+    decided-refused (asked s) (drawing s) (s .args .h) (s .args .old) ((c .refused .ensures) ∙ ap (λ v. refusedDrawing (s .args .h) v (c .before .before .rule-refusal .result)) (toZ-ofZ (s .fits .old))) (found (c .before .before)) (c .before .if1 .taken)
 
 capped-requires : tie.Need-capped-requires
 capped-requires c κs = search needs
@@ -70,9 +66,8 @@ with-rules-requires c κs = search needs
 
 returns-2 : tie.Need-returns-2
 returns-2 c =
-    let s = (c .before .before .before .before .before .before .before .before) in
-    rw ((c .before .with-rules .ensures), (c .before .before .capped .ensures), (c .before .before .before .before .before .before .before .number .ensures), (c .before .before .before .before .before .before .number2 .ensures), (c .before .before .before .number3 .ensures), toZ-ofZ (s .fits .a), toZ-ofZ (s .fits .b), toZ-ofZ (s .fits .c), toZ-ofZ (s .fits .f), toZ-ofZ (fits32 (s .args .old .value) ((c .struct-told .given .0 .1))))
-    (decided-fine (asked s) (drawing s) (s .args .h) (s .args .old) refl tt (found (c .before .before .before .before .before)) (c .before .before .before .before .if1 .left))
+    let s = (c .before .before .before .before .before .before) in
+    rw ((c .with-rules .ensures), (c .before .capped .ensures), toZ-ofZ (s .fits .old)) (decided-fine (asked s) (drawing s) (s .args .h) (s .args .old) refl tt (found (c .before .before .before)) (c .before .before .if1 .left))
 
 pub decide-rule-spec : {M : Type 1} → statement M
 decide-rule-spec =
@@ -83,7 +78,6 @@ decide-rule-spec =
     rule-refusal-requires
     refused-requires
     returns
-    number-requires-3
     capped-requires
     cast-n
     add-n

@@ -1,21 +1,22 @@
-use Rattle.rules.specs.Table.{lowers, gaps, uppers, firms}
 use Prim.Native.Nat.{min}
-use mathlib.Core.Bool.{Bool, _&&_}
+use mathlib.Core.Bool.{true, _&&_}
 use mathlib.Core.List.{List}
-use lib.IntN.{ℤ}
-use Rattle.protocol.specs.Plan as model
-use mathlib.Core.Path.{_≡_, sym, ap, _∙_}
+use mathlib.Core.Path.{_≡_, refl, sym, ap, _∙_}
 use lib.Dec.{leb}
-use borrow.Author.Tests.{lt-ltb, le-ltb}
+use lib.IntN.{ℤ}
+use mir.Syntax.{w32}
+use mir.Val.{toZ, ofZ}
 use mir.Facts.{toZ-ofZ}
+use borrow.Author.Tests.{lt-ltb, le-ltb, not-true, not-false}
 use Rattle.exact.proofs.Ints.{fits32}
-use Rattle.protocol.specs.Plan.{keptLimit}
+use Rattle.protocol.specs.Plan as model
+use Rattle.protocol.specs.Plan.{keptLimit, inRange, applied, value, fits}
 use Rattle.protocol.specs.Calls.{apart}
-use Rattle.change.specs.Change.{viewChange}
+use Rattle.change.specs.Change.{viewChange, rangedOf}
+use Rattle.change.proofs.Changes.{ranged-in, ranged-out}
 use Rattle.rows.specs.Rows.{row}
-use Rattle.rules.specs.Rules.{trialOf}
+use Rattle.rules.specs.Table.{lowers, gaps, uppers, firms}
 use Rattle.rules.specs.Index.{testedBy, firmBy}
-use Rattle.rules.proofs.Rows.{trial-out, trial-broken, trial-effective}
 use Rattle.heads.specs.Heads.{modeOf, measuresIn, keptIn}
 use Rattle.edit.specs.declared.Ruling.the-variants.{Granted}
 use Rattle.edit.specs.Edits.{changeRuling}
@@ -24,9 +25,10 @@ use Rattle.edit.proofs.change_ruling.Statement.{statement}
 use Rattle.edit.proofs.change_ruling.Tie as tie
 use Rattle.edit.proofs.change_ruling.Reads as reads
 use Rattle.edit.proofs.change_ruling.Lts as lts
+use Rattle.change.proofs.apply.Reads as apply-reads
 use Rattle.edit.proofs.frozen.Reads as frozen-reads
 use Rattle.edit.proofs.full.Reads as full-reads
-use Rattle.rules.proofs.try_change.Reads as try-change-reads
+use Rattle.rules.proofs.hold.Reads as hold-reads
 
 -- what the first checks found
 is-frozen : (c : tie.After-frozen) → let a = c .before .args in
@@ -36,8 +38,8 @@ is-frozen c = sym (c .frozen .ensures)
 is-full : (c : tie.After-full) → let a = c .before .before .before .args in (apart (modeOf (a .h .mode)) && leb keptLimit (keptIn (a .h))) ≡ c .full .result
 is-full c = sym (c .full .ensures)
 
--- what the trial found
-module _ (c : tie.After-try-change) where
+-- the value that the change makes
+module _ (c : tie.After-apply) where
   abbrev start : tie.Start
   start = c .before .before .before .before .before .before .before
 
@@ -47,11 +49,35 @@ module _ (c : tie.After-try-change) where
   abbrev ch : model.Change
   ch = viewChange (start .args .change)
 
-  abbrev test : ℤ → List ℤ → Bool
-  test = testedBy (start .args .sound) (start .args .index .now) (start .args .m) (lowers (start .args .table .now)) (gaps (start .args .table .now)) (uppers (start .args .table .now)) (min (start .args .h .rules) 64)
+  abbrev y : ℤ
+  y = applied ch (value vs (start .args .m))
 
-  trial : c .try-change .result ≡ trialOf test (start .args .m) ch vs
-  trial = c .try-change .ensures
+  gives : c .apply .result ≡ rangedOf y
+  gives = c .apply .ensures ∙ ap (λ v. rangedOf (applied ch v)) (toZ-ofZ (start .fits .old) ∙ start .pre)
+
+  ranged : fits (start .args .m) ch vs ≡ inRange y
+  unfolding fits
+  ranged = refl
+
+-- it is in range, and the rules are tested where the measure counts as it
+module _ (c : tie.After-hold) where
+  abbrev p : tie.After-apply
+  p = c .before .before .before .before .before
+
+  abbrev x : ℤ
+  x = c .before .before .before .made .given .0 .0
+
+  made : (inRange (y p) ≡ true) × (x ≡ y p)
+  made = ranged-in (y p) x (sym (c .before .before .before .made .given .1) ∙ gives p)
+
+  same : toZ w32 (ofZ w32 x) ≡ y p
+  same = toZ-ofZ (fits32 x (c .before .before .known-told .given .0 .1)) ∙ made .1
+
+  tested : let a = start p .args in
+      testedBy (a .sound) (a .index .now) (a .m) (lowers (a .table .now)) (gaps (a .table .now)) (uppers (a .table .now)) (min (a .h .rules) 64) (y p) (vs p) ≡ c .hold .result
+  tested =
+      let a = start p .args in
+      sym (c .hold .ensures ∙ ap (λ v. testedBy (a .sound) (a .index .now) (a .m) (lowers (a .table .now)) (gaps (a .table .now)) (uppers (a .table .now)) (min (a .h .rules) 64) v (vs p)) same)
 
 frozen-requires : tie.Need-frozen-requires
 frozen-requires c κs = search needs
@@ -71,41 +97,34 @@ returns-2 c =
 returns-3 : tie.Need-returns-3
 unfolding changeRuling
 returns-3 c =
-    rw (is-frozen (c .before .before .before .before .before) ∙ (c .before .before .before .before .if1 .left), is-full (c .before .before .before) ∙ (c .before .before .if2 .left), lt-ltb 999999 _ ((c .if3 .taken)))
+    rw (is-frozen (c .before .before .before .before .before) ∙ (c .before .before .before .before .if1 .left), is-full (c .before .before .before) ∙ (c .before .before .if2 .left), lt-ltb 999999 _ (c .if3 .taken))
 
-try-change-requires : tie.Need-try-change-requires
-try-change-requires c κs = search needs
+apply-requires : tie.Need-apply-requires
+apply-requires c κs = search needs
 
-enum-known-tried : tie.Need-enum-known-tried
-enum-known-tried c = search needs
+enum-known-made : tie.Need-enum-known-made
+enum-known-made c = search needs
 
 enum-told : tie.Need-enum-told
 enum-told c = search needs
 
-enum-told-2 : tie.Need-enum-told-2
-enum-told-2 c = search needs
-
 returns-4 : tie.Need-returns-4
 unfolding changeRuling
 returns-4 c =
-    let p = (c .before .before .before) in
-    let x = (c .before .tried .given .0 .0) in
-    let t = trial-effective (test p) (start p .args .m) (ch p) (vs p) x (sym ((c .before .tried .given .1)) ∙ trial p) in
-    rw (is-frozen (c .before .before .before .before .before .before .before .before .before) ∙ (c .before .before .before .before .before .before .before .before .if1 .left), is-full (c .before .before .before .before .before .before .before) ∙ (c .before .before .before .before .before .before .if2 .left), le-ltb 999999 _ ((c .before .before .before .before .if3 .left)), t .0, t .1) (ap (Granted (start p .args .change)) (toZ-ofZ (fits32 x ((c .known-told .given .0 .1))) ∙ t .2))
+    rw (is-frozen (c .before .before .before .before .before .before .before .before) ∙ (c .before .before .before .before .before .before .before .if1 .left), is-full (c .before .before .before .before .before .before) ∙ (c .before .before .before .before .before .if2 .left), le-ltb 999999 _ (c .before .before .before .if3 .left), ranged (c .before .before) ∙ ranged-out (y (c .before .before)) (sym (c .enum-told .given .1) ∙ gives (c .before .before)))
+
+hold-requires : tie.Need-hold-requires
+hold-requires c κs = search needs
 
 returns-5 : tie.Need-returns-5
 unfolding changeRuling
 returns-5 c =
-    let p = (c .before .before) in
-    let t = trial-out (test p) (start p .args .m) (ch p) (vs p) (sym ((c .enum-told .given .1)) ∙ trial p) in
-    rw (is-frozen (c .before .before .before .before .before .before .before .before) ∙ (c .before .before .before .before .before .before .before .if1 .left), is-full (c .before .before .before .before .before .before) ∙ (c .before .before .before .before .before .if2 .left), le-ltb 999999 _ ((c .before .before .before .if3 .left)), t)
+    rw (is-frozen (c .before .before .before .before .before .before .before .before .before .before .before .before) ∙ (c .before .before .before .before .before .before .before .before .before .before .before .if1 .left), is-full (c .before .before .before .before .before .before .before .before .before .before) ∙ (c .before .before .before .before .before .before .before .before .before .if2 .left), le-ltb 999999 _ (c .before .before .before .before .before .before .before .if3 .left), ranged (c .before .before .before .before .before .before) ∙ (made (c .before)) .0, tested (c .before) ∙ not-true _ (c .if4 .taken))
 
 returns-6 : tie.Need-returns-6
 unfolding changeRuling
 returns-6 c =
-    let p = (c .before .before) in
-    let t = trial-broken (test p) (start p .args .m) (ch p) (vs p) (sym ((c .enum-told2 .given .1)) ∙ trial p) in
-    rw (is-frozen (c .before .before .before .before .before .before .before .before) ∙ (c .before .before .before .before .before .before .before .if1 .left), is-full (c .before .before .before .before .before .before) ∙ (c .before .before .before .before .before .if2 .left), le-ltb 999999 _ ((c .before .before .before .if3 .left)), t .0, t .1)
+    rw (is-frozen (c .before .before .before .before .before .before .before .before .before .before .before .before) ∙ (c .before .before .before .before .before .before .before .before .before .before .before .if1 .left), is-full (c .before .before .before .before .before .before .before .before .before .before) ∙ (c .before .before .before .before .before .before .before .before .before .if2 .left), le-ltb 999999 _ (c .before .before .before .before .before .before .before .if3 .left), ranged (c .before .before .before .before .before .before) ∙ (made (c .before)) .0, tested (c .before) ∙ not-false _ (c .if4 .left)) (ap (Granted (c .before .before .before .before .before .before .before .before .before .before .before .before .before .args .change)) (same (c .before)))
 
 pub change-ruling-spec : {M : Type 1} → statement M
 change-ruling-spec =
@@ -116,10 +135,10 @@ change-ruling-spec =
     full-requires
     returns-2
     returns-3
-    try-change-requires
-    enum-known-tried
+    apply-requires
+    enum-known-made
     enum-told
-    enum-told-2
     returns-4
+    hold-requires
     returns-5
     returns-6)

@@ -1,5 +1,6 @@
+use Prim.Native.Nat.{_+_, _-_, min}
 use native.Mathlib.Omega.{arith}
-use mathlib.Core.Path.{_≡_, sym, ap, _∙_}
+use mathlib.Core.Path.{_≡_, ap, ap₂, _∙_}
 use mir.Facts.{toZ-ofZ}
 use Rattle.protocol.specs.Lists.{natural}
 use Rattle.heads.specs.Heads.{offsetOf}
@@ -51,7 +52,7 @@ returns-2 c =
     let m = measured (c .before .before) in
     let k = c .capped .ensures in
     let o = c .before .before .before .offset .ensures .1 in
-    (omega (arith, a, m, k), omega (arith, k, o))
+    (ap₂ (λ x y. x + y) a (k ∙ ap (λ x. min (x - 1) 31) m), omega (arith, k, o))
 
 pub spot-spec : {M : Type 1} → statement M
 spot-spec =

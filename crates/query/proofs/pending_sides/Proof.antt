@@ -18,17 +18,17 @@ use Rattle.query.proofs.pending_bit.Reads as pending-bit-reads
 use Rattle.heads.proofs.side_count.Reads as side-count-reads
 
 abbrev Inv-loop : tie.InvT-loop
-Inv-loop arrived unsent n k₀ i₀ k i = (i ≤ n) × (n ≤ 8) × (k ≤ i) × (k ≡ pendingIn arrived unsent i)
+Inv-loop arrived t n k₀ i₀ k i = (i ≤ n) × (n ≤ 8) × (k ≤ i) × (k ≡ pendingIn arrived t i)
 
 abbrev μ-loop : tie.MeasureT-loop
-μ-loop arrived unsent n k₀ i₀ k i = n - i
+μ-loop arrived t n k₀ i₀ k i = n - i
 
 -- what one side adds
 side-bit : (c : tie.After-pending-bit Inv-loop μ-loop) → c .pending-bit .result ≤ 1
 side-bit c =
     let a = c .before .before .before .before .before .before .args in
     let i = c .before .before .before .before .loop .i in
-    omega (arith, bit-one (not (getD (a .arrived .now) i false) || ltb 0 (getD (a .unsent .now) i 0)), c .pending-bit .ensures)
+    omega (arith, bit-one (not (getD (a .arrived .now) i false) || ltb 0 (getD (a .t .now) i 0)), c .pending-bit .ensures)
 
 side-count-requires : tie.Need-side-count-requires Inv-loop μ-loop
 side-count-requires c κs = search needs
@@ -68,7 +68,7 @@ loop-again c =
       omega arith,
       l .inv .1,
       omega (arith, l .inv .2, side-bit c),
-      count-to-next (λ s. not (getD (vs .arrived .now) (indexOf s) false) || ltb 0 (getD (vs .unsent .now) (indexOf s) 0)) i _ _ (l .inv .3) (c .pending-bit .ensures ∙ ap (λ j. bit (not (getD (vs .arrived .now) j false) || ltb 0 (getD (vs .unsent .now) j 0))) (sym at)),
+      count-to-next (λ s. not (getD (vs .arrived .now) (indexOf s) false) || ltb 0 (getD (vs .t .now) (indexOf s) 0)) i _ _ (l .inv .3) (c .pending-bit .ensures ∙ ap (λ j. bit (not (getD (vs .arrived .now) j false) || ltb 0 (getD (vs .t .now) j 0))) (sym at)),
     )
 
 returns : tie.Need-returns Inv-loop μ-loop
@@ -77,7 +77,7 @@ returns c =
     let n = c .before .before .side-count in
     let a = c .before .before .before .args in
     let same : l .i ≡ n .result = omega (arith, l .inv .0) in
-    (l .inv .3 ∙ ap (pendingIn (a .arrived .now) (a .unsent .now)) (same ∙ n .ensures .0), omega (arith, l .inv .0, l .inv .1, l .inv .2))
+    (l .inv .3 ∙ ap (pendingIn (a .arrived .now) (a .t .now)) (same ∙ n .ensures .0), omega (arith, l .inv .0, l .inv .1, l .inv .2))
 
 pub pending-sides-spec : {M : Type 1} → statement M
 pending-sides-spec =

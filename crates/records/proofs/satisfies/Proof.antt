@@ -14,6 +14,9 @@ fate-number-requires c κs = search needs
 enum-known-t : tie.Need-enum-known-t
 enum-known-t c = search needs
 
+cast-if2 : tie.Need-cast-if2
+cast-if2 c = search needs
+
 returns : tie.Need-returns
 returns c =
     rw ((c .before .before .before .before .t .given .1), ← ((c .before .before .before .before .before .before .fate-number .ensures)), eq-eqb _ 1 ((c .before .before .if1 .taken)), eq-eqb _ _ ((c .if2 .taken)))
@@ -65,6 +68,7 @@ satisfies-spec =
     (tie.spec
     fate-number-requires
     enum-known-t
+    cast-if2
     returns
     enum-told
     enum-told-2

@@ -11,12 +11,15 @@ use Rattle.replay.proofs.point.Reads as point-reads
 found-requires : tie.Need-found-requires
 found-requires c κs = search needs
 
+cast-point : tie.Need-cast-point
+cast-point c = search needs
+
 point-requires : tie.Need-point-requires
 point-requires c κs = search needs
 
 returns : tie.Need-returns
 returns c =
-    ((c .point .ensures .0) ∙ ap (λ r. pointOf (r .measure)) ((c .before .found .ensures)), (c .point .ensures .1))
+    ((c .point .ensures .0) ∙ ap (λ r. pointOf (r .measure)) (c .before .before .found .ensures), (c .point .ensures .1))
 
 pub point-of-spec : {M : Type 1} → statement M
-point-of-spec = tie.close (tie.spec found-requires point-requires returns)
+point-of-spec = tie.close (tie.spec found-requires cast-point point-requires returns)

@@ -23,7 +23,7 @@ use Rattle.rules.proofs.try_change.Reads as reads
 use Rattle.rules.proofs.try_change.Lts as lts
 use Rattle.change.proofs.apply.Reads as apply-reads
 use Rattle.rows.proofs.capped.Reads as capped-reads
-use Rattle.rules.proofs.rules_hold.Reads as rules-hold-reads
+use Rattle.rules.proofs.hold.Reads as hold-reads
 use Rattle.rules.proofs.value_at.Reads as value-at-reads
 
 -- the value that the change makes
@@ -38,7 +38,7 @@ gives c =
     ∙ ap (λ y. rangedOf (applied (viewChange (a .change)) y)) (toZ-ofZ (fits32 (v .result) (v .ok)) ∙ v .ensures ∙ ap (λ n. value (row (a .values .now) (a .at) n) (a .m)) (c .before .before .capped .ensures))
 
 -- it is in range, and the rules are tested where the measure counts as it
-module _ (c : tie.After-rules-hold) where
+module _ (c : tie.After-hold) where
   abbrev start : tie.Start
   start = c .before .before .before .before .before .before .before
 
@@ -57,10 +57,10 @@ module _ (c : tie.After-rules-hold) where
   same : toZ w32 (ofZ w32 x) ≡ result start
   same = toZ-ofZ (fits32 x (c .before .known-told .given .0 .1)) ∙ tried .1
 
-  tested : c .rules-hold .result ≡ test (result start) values
-  tested = c .rules-hold .ensures ∙ ap (λ y. test y values) same
+  tested : c .hold .result ≡ test (result start) values
+  tested = c .hold .ensures ∙ ap (λ y. test y values) same
 
-  parts : trialOf test (start .args .m) (viewChange (start .args .change)) values ≡ cond (c .rules-hold .result) (Effective (result start)) Broken
+  parts : trialOf test (start .args .m) (viewChange (start .args .change)) values ≡ cond (c .hold .result) (Effective (result start)) Broken
   parts = trial-parts test (start .args .m) (viewChange (start .args .change)) values ∙ rw (tried .0, ← tested)
 
 capped-requires : tie.Need-capped-requires
@@ -83,8 +83,8 @@ returns c =
     let s = (c .before .before .before .before .before) in
     sym (trial-parts _ (s .args .m) (viewChange (s .args .change)) (row (s .args .values .now) (s .args .at) (min (s .args .n) 32)) ∙ rw (ranged-out (result s) (sym ((c .enum-told .given .1)) ∙ gives (c .before .before))))
 
-rules-hold-requires : tie.Need-rules-hold-requires
-rules-hold-requires c κs = search needs
+hold-requires : tie.Need-hold-requires
+hold-requires c κs = search needs
 
 returns-2 : tie.Need-returns-2
 returns-2 c =
@@ -106,6 +106,6 @@ try-change-spec =
     enum-known-made
     enum-told
     returns
-    rules-hold-requires
+    hold-requires
     returns-2
     returns-3)

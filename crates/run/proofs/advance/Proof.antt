@@ -21,7 +21,7 @@ go-requires : tie.Need-go-requires
 go-requires c κs =
     let p = spread (c .before .before .before .before .before .before .before .before .before .before .args .t1) in
     let k = (c .before .tallies .ensures) in
-    (tallies-right p (c .before .tallies .result) (k .0) (k .1) (k .2), λ e. ap (λ n. eqb n 0) (sym (c .before .before .before .before .before .before .mode-number .ensures)) ∙ e)
+    (tallies-right p (c .before .tallies .result) (k .0) (k .1) (k .2) (k .3), λ e. ap (λ n. eqb n 0) (sym (c .before .before .before .before .before .before .mode-number .ensures)) ∙ e)
 
 same-length : tie.Need-same-length
 same-length c = search needs
