@@ -8,7 +8,8 @@ use lib.Dec.{T, eqb, ltb}
 use lib.IntN.{ℤ}
 use lib.ListN.{length, getD, set}
 use Rattle.protocol.specs.Lists.{natural}
-use Rattle.protocol.specs.Plan.{is, blank}
+use Rattle.protocol.specs.Plan.{is, blank, measureLimit, ruleLimit, keptLimit}
+use Rattle.protocol.specs.Numbering.{splitOp, editOp, joinOp, replayOp, showOp, fateOp}
 use Rattle.guarantee.specs.Holding.{Holding}
 use Rattle.format.specs.Sheets.{stepOf}
 use Rattle.rows.specs.Rows.{row}
@@ -39,11 +40,11 @@ use Rattle.calls.specs.declared.Look.{Look}
 
 -- the number by which a call names a kept edit: edit its earlier one, another call its first number
 abbrev pub asked : Line → ℤ
-asked l = cond (eqb (l .op) 5) (l .c) (l .a)
+asked l = cond (eqb (l .op) editOp) (l .c) (l .a)
 
 -- the calls that look at the edit that they name: edit, replay, fate
 abbrev pub looksAt : ℕ → Bool
-looksAt op = eqb op 5 || (eqb op 8 || eqb op 13)
+looksAt op = eqb op editOp || (eqb op replayOp || eqb op fateOp)
 
 -- the places, from 1, of the edit that it names and of the one that this names in turn
 abbrev pub askedAt : Head → Line → ℕ
@@ -57,18 +58,18 @@ SoundIn b p = b ≡ true → Holding (planOf p .mode) (planOf p .content)
 
 -- Where the plan is drawn up, the index is that of its rules. While it is blank no call asks it.
 abbrev pub IndexedIn : Spread → List ℤ → Type 0
-IndexedIn p index = T (not (is blank (modeOf (p .head .mode)))) → Indexed index (p .lower) (p .gap) (p .upper) (p .firm) (min (p .head .rules) 64)
+IndexedIn p index = T (not (is blank (modeOf (p .head .mode)))) → Indexed index (p .lower) (p .gap) (p .upper) (p .firm) (min (p .head .rules) ruleLimit)
 
 pub record Known (l : Line) (p : State) (index : List ℤ) (look : Look) (t : List ℕ) (sound : Bool) : Type 0 where
   pub sized : Sized (spread p)
   pub long : length (p .table) ≡ 256
-  pub tallied : eqb (l .op) 5 ≡ false → Tallied t (view p)
+  pub tallied : eqb (l .op) editOp ≡ false → Tallied t (view p)
   pub held : SoundIn sound (spread p)
   pub indexed : sound ≡ true → IndexedIn (spread p) index
   pub named : looksAt (l .op) ≡ true → look .named ≡ askedAt (p .head) l
   pub stood : looksAt (l .op) ≡ true → look .standing ≡ getD (p .edits) (slotAt (look .named)) noRecord
-  pub next : eqb (l .op) 8 ≡ true → look .next ≡ earlierAt (p .head) (look .named) (look .standing)
-  pub saw : eqb (l .op) 8 ≡ true → look .seen ≡ getD (p .edits) (slotAt (look .next)) noRecord
+  pub next : eqb (l .op) replayOp ≡ true → look .next ≡ earlierAt (p .head) (look .named) (look .standing)
+  pub saw : eqb (l .op) replayOp ≡ true → look .seen ≡ getD (p .edits) (slotAt (look .next)) noRecord
 
 -- ---- what a call promises
 
@@ -88,8 +89,8 @@ pub record Makes (l : Line) (p q : State) (t t′ : List ℕ) (index index′ : 
   pub tallied : Tallied t (view p) → Tallied t′ (view q)
   pub indexed : IndexedIn (spread p) index → IndexedIn (spread q) index′
   pub from : e .from ≤ 224
-  pub width : e .width ≤ 32
-  pub bare : eqb (l .op) 12 ≡ false → e .width ≡ 0
+  pub width : e .width ≤ measureLimit
+  pub bare : eqb (l .op) showOp ≡ false → e .width ≡ 0
 
 -- the kept edits with the record that the owner is to store
 abbrev pub noted : Effect → List EditRecord → List EditRecord
@@ -99,8 +100,8 @@ noted e es = cond (e .kept) (set es (e .slot) (e .entry)) es
 -- edits of a side among the first so many.
 pub record Making (l : Line) (h : Head) (base draft values : List ℤ) (arrived confirmed : List Bool) (table index : List ℤ) (look : Look) (t : List ℕ) (sound : Bool) (e : Effect)
     (h′ : Head) (base′ draft′ values′ : List ℤ) (arrived′ confirmed′ : List Bool) (table′ index′ : List ℤ) (t′ : List ℕ) : Type 0 where
-  pub slot : e .slot < 256
-  pub marked : e .marked ≤ 256
+  pub slot : e .slot < keptLimit
+  pub marked : e .marked ≤ keptLimit
   pub made : (edits after : List EditRecord)
       → Known l (stateOf h base draft values arrived confirmed table edits) index look t sound
       → Marked (natural (l .a)) (noted e edits) after (e .marked)
@@ -109,10 +110,10 @@ pub record Making (l : Line) (h : Head) (base draft values : List ℤ) (arrived 
 -- ---- the calls by their number in the order of 01
 
 abbrev pub isMove : ℕ → Bool
-isMove op = eqb op 4 || (eqb op 6 || (ltb 8 op && ltb op 12))
+isMove op = eqb op splitOp || (eqb op joinOp || (ltb replayOp op && ltb op showOp))
 
 abbrev pub isDraw : ℕ → Bool
-isDraw op = ltb 0 op && ltb op 4
+isDraw op = ltb 0 op && ltb op splitOp
 
 -- ---- effects
 

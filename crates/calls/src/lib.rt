@@ -20,6 +20,8 @@ use counts::Tallies;
 use edit::Ruling;
 use heads::Head;
 use heads::Numbers;
+use protocol::call;
+use protocol::limit;
 use reader::Line;
 use records::EditRecord;
 use replay::Outcome;
@@ -63,13 +65,13 @@ pub fn first_look(l: Line, h: Head) -> usize
     ensures { λ r. ⌜ (looksAt (l .op) ≡ true → r ≡ askedAt h l) ⌝ }
 {
     let op = l.op;
-    if op == 5 {
+    if op == call::EDIT {
         return heads::named(h, l.c);
     }
-    if op == 8 {
+    if op == call::REPLAY {
         return heads::named(h, l.a);
     }
-    if op == 13 {
+    if op == call::FATE {
         return heads::named(h, l.a);
     }
     0
@@ -79,7 +81,7 @@ pub fn first_look(l: Line, h: Head) -> usize
 pub fn second_look(l: Line, h: Head, named: usize, standing: EditRecord) -> usize
     ensures { λ r. ⌜ (eqb (l .op) 8 ≡ true → r ≡ earlierAt h named standing) ⌝ }
 {
-    if l.op == 8 {
+    if l.op == call::REPLAY {
         return replay::earlier(h, named, standing);
     }
     0
@@ -126,8 +128,8 @@ fn keeping(answer: Answer, slot: usize, entry: EditRecord) -> Effect
 fn edit_in<'a>(
     l: Line,
     head: &mut Numbers,
-    values: &mut [i32; 256],
-    arrived: &'a [bool; 8],
+    values: &mut [i32; limit::VALUES],
+    arrived: &'a [bool; limit::SIDES],
     table: &'a Table,
     index: &'a Index,
     look: Look,
@@ -159,7 +161,7 @@ fn edit_in<'a>(
             counts::note_kept(counts, side, arrived[place]);
             keeping(
                 answer,
-                rows::capped(h.kept, 255),
+                rows::capped(h.kept, limit::LAST_EDIT),
                 edit::edit_record(h, l, change),
             )
         }
@@ -176,7 +178,7 @@ fn fate_number(accepted: bool) -> u32
 fn replay_in<'a>(
     l: Line,
     head: &'a Numbers,
-    draft: &mut [i32; 32],
+    draft: &mut [i32; limit::MEASURES],
     table: &'a Table,
     index: &'a Index,
     look: Look,
@@ -210,7 +212,7 @@ fn replay_in<'a>(
         Outcome::Settled(accepted, x) => {
             let point = replay::point_of(i, standing);
             draft[point] = x;
-            let place = rows::capped(counts[counts::SETTLED], 256) as u32 + 1;
+            let place = rows::capped(counts[counts::SETTLED], limit::EDITS) as u32 + 1;
             counts::note_settled(counts);
             let answer = Answer::Number(fate_number(accepted));
             keeping(
@@ -222,7 +224,12 @@ fn replay_in<'a>(
     }
 }
 
-fn send_in(l: Line, head: &Numbers, arrived: &mut [bool; 8], counts: &mut Tallies) -> Effect
+fn send_in(
+    l: Line,
+    head: &Numbers,
+    arrived: &mut [bool; limit::SIDES],
+    counts: &mut Tallies,
+) -> Effect
     requires { ⌜ l .op ≡ 7 ⌝ }
     ensures { λ r. ⌜ ((base draft values : List ℤ) (confirmed : List Bool) (table : List ℤ) (index : List ℤ) (look : Look) (sound : Bool) → Making l
         (headFrom (now (head .entry))) base draft values (now (arrived .entry)) confirmed table index look (now (counts .entry)) sound r
@@ -270,11 +277,11 @@ fn note_move(counts: &mut Tallies, accepted: bool, op: u32, h: Head)
 fn move_in(
     l: Line,
     head: &mut Numbers,
-    base: &mut [i32; 32],
-    draft: &mut [i32; 32],
-    values: &mut [i32; 256],
-    arrived: &mut [bool; 8],
-    confirmed: &mut [bool; 8],
+    base: &mut [i32; limit::MEASURES],
+    draft: &mut [i32; limit::MEASURES],
+    values: &mut [i32; limit::VALUES],
+    arrived: &mut [bool; limit::SIDES],
+    confirmed: &mut [bool; limit::SIDES],
     counts: &mut Tallies,
 ) -> Effect
     requires { ⌜ isMove (l .op) ≡ true ⌝ }
@@ -312,7 +319,7 @@ fn move_in(
 fn is_drawn(op: u32, answer: Answer) -> bool
     ensures { λ t. ⌜ t ≡ (eqb op 2 && isAccepted answer) ⌝ }
 {
-    if op == 2 {
+    if op == call::RULE {
         return counts::accepted(answer);
     }
     false
@@ -331,7 +338,7 @@ fn note_rule(table: &mut Table, k: u32, drawn: bool, a: i32, c: i32, b: i32, f: 
 fn is_opened(op: u32, answer: Answer) -> bool
     ensures { λ t. ⌜ t ≡ (eqb op 3 && isAccepted answer) ⌝ }
 {
-    if op == 3 {
+    if op == call::OPEN {
         return counts::accepted(answer);
     }
     false
@@ -352,7 +359,7 @@ fn note_index(index: &mut Index, table: &Table, k: u32, opened: bool)
 fn draw_in(
     l: Line,
     head: &mut Numbers,
-    values: &mut [i32; 256],
+    values: &mut [i32; limit::VALUES],
     table: &mut Table,
     index: &mut Index,
 ) -> Effect
@@ -362,7 +369,7 @@ fn draw_in(
         (now (values .exit)) arrived confirmed (now (table .exit)) (now (index .exit)) t) ⌝ }
 {
     let h = heads::from_numbers(head);
-    let spot = rows::capped(h.measures, 31);
+    let spot = rows::capped(h.measures, limit::LAST_MEASURE);
     let d = draw::decide_draw(h, table, values, l.op, l.a, l.b, l.c, l.d);
     let value = d.value;
     values[spot] = value;
@@ -396,14 +403,14 @@ fn read_in<'a>(l: Line, head: &'a Numbers, look: Look, counts: &'a Tallies) -> E
 fn moves(op: u32) -> bool
     ensures { λ t. ⌜ t ≡ isMove op ⌝ }
 {
-    if op == 4 {
+    if op == call::SPLIT {
         return true;
     }
-    if op == 6 {
+    if op == call::JOIN {
         return true;
     }
-    if 8 < op {
-        return op < 12;
+    if call::REPLAY < op {
+        return op < call::SHOW;
     }
     false
 }
@@ -413,7 +420,7 @@ fn draws(op: u32) -> bool
     ensures { λ t. ⌜ t ≡ isDraw op ⌝ }
 {
     if 0 < op {
-        return op < 4;
+        return op < call::SPLIT;
     }
     false
 }
@@ -422,11 +429,11 @@ fn draws(op: u32) -> bool
 pub fn make(
     l: Line,
     head: &mut Numbers,
-    base: &mut [i32; 32],
-    draft: &mut [i32; 32],
-    values: &mut [i32; 256],
-    arrived: &mut [bool; 8],
-    confirmed: &mut [bool; 8],
+    base: &mut [i32; limit::MEASURES],
+    draft: &mut [i32; limit::MEASURES],
+    values: &mut [i32; limit::VALUES],
+    arrived: &mut [bool; limit::SIDES],
+    confirmed: &mut [bool; limit::SIDES],
     table: &mut Table,
     index: &mut Index,
     look: Look,
@@ -438,13 +445,13 @@ pub fn make(
         (now (draft .exit)) (now (values .exit)) (now (arrived .exit)) (now (confirmed .exit)) (now (table .exit)) (now (index .exit)) (now (counts .exit)) ⌝ }
 {
     let op = l.op;
-    if op == 5 {
+    if op == call::EDIT {
         return edit_in(l, head, values, arrived, table, index, look, counts, sound);
     }
-    if op == 8 {
+    if op == call::REPLAY {
         return replay_in(l, head, draft, table, index, look, counts, sound);
     }
-    if op == 7 {
+    if op == call::SEND {
         return send_in(l, head, arrived, counts);
     }
     if moves(op) {

@@ -2,6 +2,7 @@
 ghost use mathlib.Core.Path.{_≡_};
 ghost use Rattle.protocol.specs.Plan.{inRange, isFactor, applied};
 ghost use Rattle.change.specs.Change.{viewChange, madeIf, madeOf, rangedOf};
+use protocol::limit;
 
 pub enum Change {
     Set(i32),
@@ -25,7 +26,7 @@ fn is_value(k: i32) -> bool
     ensures { λ t. ⌜ t ≡ inRange k ⌝ }
 {
     match k {
-        -1000000..=1000000 => true,
+        limit::LEAST_VALUE..=limit::VALUE => true,
         _ => false,
     }
 }
@@ -66,7 +67,7 @@ fn ranged(x: i64) -> Applied
     ensures { λ r. ⌜ r ≡ rangedOf x ⌝ }
 {
     match x {
-        -1000000..=1000000 => Applied::InRange(x as i32),
+        limit::LEAST_RESULT..=limit::RESULT => Applied::InRange(x as i32),
         _ => Applied::OutOfRange,
     }
 }

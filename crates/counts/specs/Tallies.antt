@@ -6,8 +6,9 @@ use mathlib.Core.List.{List}
 use lib.Dec.{T, eqb}
 use lib.ListN.{length, getD, set, replicate}
 use Rattle.protocol.specs.Lists.{bit, isNone, count}
-use Rattle.protocol.specs.Plan.{Kept, isWaiting, isSettled, Plan, whole, is, active, sideAt, unsentOf, sidesThat}
+use Rattle.protocol.specs.Plan.{Kept, isWaiting, isSettled, Plan, whole, is, active, sideAt, unsentOf, sidesThat, sideLimit, keptLimit}
 use Rattle.protocol.specs.Calls.{leftOf}
+use Rattle.protocol.specs.Numbering.{splitOp, joinOp, lastEdit}
 use Rattle.heads.specs.declared.Head.{Head}
 use Rattle.heads.specs.Heads.{modeOf, sidesIn, keptIn, indexOf}
 pub use Rattle.state.specs.Spread.{isAccepted}
@@ -31,7 +32,7 @@ missingIn t = getD t 11 0
 
 -- what the counts say of the kept edits
 pub record Counted (t : List ℕ) (ks : List Kept) : Type 0 where
-  pub unsent : (s : ℕ) → 0 < s → s ≤ 8 → unsentIn t s ≡ unsentOf s ks
+  pub unsent : (s : ℕ) → 0 < s → s ≤ sideLimit → unsentIn t s ≡ unsentOf s ks
   pub waiting : waitingIn t ≡ count isWaiting ks
   pub settled : settledIn t ≡ count isSettled ks
 
@@ -55,15 +56,15 @@ raise arrived unsent = suc (bit (arrived && isNone unsent))
 
 -- one edit more of a side; arrived says that the side's first log is there
 abbrev pub oneUnsent : ℕ → Bool → List ℕ → List ℕ
-oneUnsent s arrived t = set (set t (indexOf s) (min (unsentIn t s) 255 + 1)) 10 (min (leftIn t) 274 + raise arrived (unsentIn t s))
+oneUnsent s arrived t = set (set t (indexOf s) (min (unsentIn t s) lastEdit + 1)) 10 (min (leftIn t) 274 + raise arrived (unsentIn t s))
 
 -- arrived says that the side's first log was there before
 abbrev pub allSent : ℕ → Bool → List ℕ → List ℕ
 allSent s arrived t =
-    set (set (set (set t (indexOf s) 0) 8 (min (waitingIn t) 256 + min (unsentIn t s) 256)) 10 (leftIn t - 1)) 11 (cond arrived (missingIn t) (missingIn t - 1))
+    set (set (set (set t (indexOf s) 0) 8 (min (waitingIn t) keptLimit + min (unsentIn t s) keptLimit)) 10 (leftIn t - 1)) 11 (cond arrived (missingIn t) (missingIn t - 1))
 
 abbrev pub oneSettled : List ℕ → List ℕ
-oneSettled t = set (set (set t 8 (min (waitingIn t) 256 - 1)) 9 (min (settledIn t) 255 + 1)) 10 (leftIn t - 1)
+oneSettled t = set (set (set t 8 (min (waitingIn t) keptLimit - 1)) 9 (min (settledIn t) lastEdit + 1)) 10 (leftIn t - 1)
 
 -- a join begins, with so many sides and kept edits
 abbrev pub begun : ℕ → ℕ → List ℕ → List ℕ
@@ -74,4 +75,4 @@ oneLess t = set t 10 (leftIn t - 1)
 
 -- split (4), join (6), stop, confirm or install, by its number in the order of 01
 abbrev pub moveTally : ℕ → Head → List ℕ → List ℕ
-moveTally op h t = cond (eqb op 4) (cond (is whole (modeOf (h .mode))) noTallies t) (cond (eqb op 6) (begun (sidesIn h) (keptIn h) t) (oneLess t))
+moveTally op h t = cond (eqb op splitOp) (cond (is whole (modeOf (h .mode))) noTallies t) (cond (eqb op joinOp) (begun (sidesIn h) (keptIn h) t) (oneLess t))

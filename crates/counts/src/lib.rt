@@ -6,6 +6,8 @@ ghost use mathlib.Core.Path.{_≡_};
 ghost use Rattle.counts.specs.Tallies.{isAccepted, raise, noTallies, oneUnsent, allSent, oneSettled, moveTally};
 ghost use Rattle.heads.specs.Heads.{keptIn};
 use heads::Head;
+use protocol::call;
+use protocol::limit;
 use state::Answer;
 
 // How many edits each side has unsent, by the side's index; then how many wait, how many are settled, the number left, and how many first logs are missing.
@@ -40,7 +42,7 @@ pub fn accepted(answer: Answer) -> bool
 pub fn unsettled(h: Head, settled: u32) -> u32
     ensures { λ r. ⌜ (r ≡ keptIn h - settled) × (r ≤ 256) ⌝ }
 {
-    let k = rows::capped(h.kept, 256) as u32;
+    let k = rows::capped(h.kept, limit::EDITS) as u32;
     if settled < k {
         return k - settled;
     }
@@ -87,7 +89,7 @@ pub fn note_kept(t: &mut Tallies, s: u32, arrived: bool)
 {
     let i = heads::index(s);
     let u = t[i];
-    let n = rows::capped(u, 255) as u32 + 1;
+    let n = rows::capped(u, limit::LAST_EDIT) as u32 + 1;
     let left = rows::capped(t[LEFT], 274) as u32 + raised(arrived, u);
     t[i] = n;
     t[LEFT] = left;
@@ -99,7 +101,7 @@ pub fn note_sent(t: &mut Tallies, s: u32, arrived: bool)
 {
     let i = heads::index(s);
     let u = t[i];
-    let waiting = (rows::capped(t[WAITING], 256) + rows::capped(u, 256)) as u32;
+    let waiting = (rows::capped(t[WAITING], limit::EDITS) + rows::capped(u, limit::EDITS)) as u32;
     let left = one_less(t[LEFT]);
     let missing = still_missing(t[MISSING], arrived);
     t[i] = 0;
@@ -112,8 +114,8 @@ pub fn note_sent(t: &mut Tallies, s: u32, arrived: bool)
 pub fn note_settled(t: &mut Tallies)
     ensures { λ _. ⌜ now (t .exit) ≡ oneSettled (now (t .entry)) ⌝ }
 {
-    let waiting = one_less(rows::capped(t[WAITING], 256) as u32);
-    let settled = rows::capped(t[SETTLED], 255) as u32 + 1;
+    let waiting = one_less(rows::capped(t[WAITING], limit::EDITS) as u32);
+    let settled = rows::capped(t[SETTLED], limit::LAST_EDIT) as u32 + 1;
     let left = one_less(t[LEFT]);
     t[WAITING] = waiting;
     t[SETTLED] = settled;
@@ -124,14 +126,14 @@ pub fn note_settled(t: &mut Tallies)
 pub fn note_move(t: &mut Tallies, op: u32, h: Head)
     ensures { λ _. ⌜ now (t .exit) ≡ moveTally op h (now (t .entry)) ⌝ }
 {
-    if op == 4 {
+    if op == call::SPLIT {
         let mode = h.mode;
         if heads::mode_number(mode) == 1 {
             *t = [0u32; 12];
         }
         return;
     }
-    if op == 6 {
+    if op == call::JOIN {
         let n = heads::side_count(h) as u32;
         let left = 2 * n + unsettled(h, t[SETTLED]) + 2;
         t[LEFT] = left;

@@ -8,6 +8,7 @@ use lib.ListN.{getD, set}
 use Rattle.protocol.specs.Lists.{natural, isNone, oneTo}
 use Rattle.protocol.specs.Plan.{blank, is, measureLimit, ruleLimit}
 use Rattle.protocol.specs.Calls.{Call, measure, rule, open-plan, Check, _unless_, _when_, Verdict, fine, refused, first, no11, no15}
+use Rattle.protocol.specs.Numbering.{measureOp, ruleOp, lastMeasure, lastRule}
 use Rattle.rows.specs.Rows.{row}
 use Rattle.rules.specs.Rules.{holdsIn}
 use Rattle.heads.specs.declared.Head.{Head}
@@ -25,7 +26,7 @@ measureChecks h v = (31 unless is blank (modeOf (h .mode))) ∷ (12 unless ltb (
 abbrev pub ruleChecks : Head → ℕ → ℤ → ℕ → ℤ → List Check
 ruleChecks h a c b f =
     (31 unless is blank (modeOf (h .mode)))
-    ∷ (13 unless ltb (min (h .rules) 64) ruleLimit)
+    ∷ (13 unless ltb (min (h .rules) ruleLimit) ruleLimit)
     ∷ (14 unless (oneTo (measuresIn h) a && oneTo (measuresIn h) b && not (eqb a b)))
     ∷ no15 c f ∷ []
 
@@ -33,7 +34,7 @@ abbrev pub openChecks : Head → List ℕ → List ℤ → List ℕ → List ℤ
 openChecks h lower gap upper values =
     (31 unless is blank (modeOf (h .mode)))
     ∷ (16 when isNone (measuresIn h))
-    ∷ (17 unless holdsIn lower gap upper (min (h .rules) 64) (row values 0 (measuresIn h)))
+    ∷ (17 unless holdsIn lower gap upper (min (h .rules) ruleLimit) (row values 0 (measuresIn h)))
     ∷ []
 
 -- ---- heads
@@ -58,13 +59,13 @@ drawBy fine d h old = d
 drawBy (refused k) d h old = refusedDrawing h old k
 
 abbrev pub measureDrawing : Head → ℤ → Drawing
-measureDrawing h v = let n = min (h .measures) 31 + 1 in record { head = measured h n; value = v; answer = Number n }
+measureDrawing h v = let n = min (h .measures) lastMeasure + 1 in record { head = measured h n; value = v; answer = Number n }
 
 abbrev pub measureDecision : Head → ℤ → ℤ → Drawing
 measureDecision h v old = drawBy (first (measureChecks h v)) (measureDrawing h v) h old
 
 abbrev pub ruleDrawing : Head → ℤ → Drawing
-ruleDrawing h old = let n = min (h .rules) 63 + 1 in record { head = ruled h n; value = old; answer = Number n }
+ruleDrawing h old = let n = min (h .rules) lastRule + 1 in record { head = ruled h n; value = old; answer = Number n }
 
 abbrev pub ruleDecision : Head → ℤ → ℤ → ℤ → ℤ → ℤ → Drawing
 ruleDecision h a c b f old = drawBy (first (ruleChecks h (natural a) c (natural b) f)) (ruleDrawing h old) h old
@@ -77,28 +78,28 @@ openDecision h lower gap upper values old = drawBy (first (openChecks h lower ga
 
 -- measure, rule; another number is open's. By the call's number in the order of 01.
 abbrev pub drawCall : ℕ → ℤ → ℤ → ℤ → ℤ → Call
-drawCall op a b c d = cond (eqb op 1) (measure a) (cond (eqb op 2) (rule a b c d) open-plan)
+drawCall op a b c d = cond (eqb op measureOp) (measure a) (cond (eqb op ruleOp) (rule a b c d) open-plan)
 
 -- the value behind those that count
 abbrev pub valueAt : Head → List ℤ → ℤ
-valueAt h values = getD values (min (h .measures) 31) (pos 0)
+valueAt h values = getD values (min (h .measures) lastMeasure) (pos 0)
 
 abbrev pub drawDecision : ℕ → ℤ → ℤ → ℤ → ℤ → Head → List ℕ → List ℤ → List ℕ → List ℤ → Drawing
 drawDecision op a b c d h lower gap upper values =
     let old = valueAt h values in
-    cond (eqb op 1) (measureDecision h a old) (cond (eqb op 2) (ruleDecision h a b c d old) (openDecision h lower gap upper values old))
+    cond (eqb op measureOp) (measureDecision h a old) (cond (eqb op ruleOp) (ruleDecision h a b c d old) (openDecision h lower gap upper values old))
 
 -- ---- in the state
 
 -- a drawing carried out, with a rule of these numbers behind those that count, if one was drawn
 abbrev pub drawnIn : Spread → Drawing → Bool → ℤ → ℤ → ℤ → ℤ → Spread
 drawnIn p d drawn a c b f =
-    let n = min (p .head .rules) 63 in
+    let n = min (p .head .rules) lastRule in
     record {
       head = d .head;
       base = p .base;
       draft = p .draft;
-      values = set (p .values) (min (p .head .measures) 31) (d .value);
+      values = set (p .values) (min (p .head .measures) lastMeasure) (d .value);
       arrived = p .arrived;
       confirmed = p .confirmed;
       lower = cond drawn (set (p .lower) n (natural a)) (p .lower);

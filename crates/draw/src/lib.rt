@@ -9,6 +9,8 @@ ghost use Rattle.rules.specs.Table.{lowers, gaps, uppers};
 ghost use Rattle.state.specs.Meets.{refusalOf};
 use heads::Head;
 use heads::Mode;
+use protocol::call;
+use protocol::limit;
 use rules::Table;
 use state::Answer;
 
@@ -40,7 +42,7 @@ fn measure_refusal(h: Head, v: i32) -> u32
     if heads::mode_number(mode) != 0 {
         return 31;
     }
-    if 32 <= h.measures {
+    if limit::MEASURE <= h.measures {
         return 12;
     }
     if exact::in_range(v) {
@@ -65,7 +67,7 @@ fn decide_measure(h: Head, v: i32, old: i32) -> Drawing
     if k != 0 {
         return refused(h, old, k);
     }
-    let n = rows::capped(h.measures, 31) as u32 + 1;
+    let n = rows::capped(h.measures, limit::LAST_MEASURE) as u32 + 1;
     let head = with_measures(h, n);
     let answer = Answer::Number(n);
     Drawing {
@@ -95,7 +97,7 @@ fn limits_ok(c: i32, f: i32) -> bool
     ensures { λ t. ⌜ t ≡ no15 c f .passes ⌝ }
 {
     match c {
-        -2000000..=2000000 => match f {
+        limit::LEAST_GAP..=limit::GAP => match f {
             0..=1 => true,
             _ => false,
         },
@@ -110,10 +112,10 @@ fn rule_refusal(h: Head, a: u32, c: i32, b: u32, f: i32) -> u32
     if heads::mode_number(mode) != 0 {
         return 31;
     }
-    if 64 <= h.rules {
+    if limit::RULE <= h.rules {
         return 13;
     }
-    if !pair_in(rows::capped(h.measures, 32), a, b) {
+    if !pair_in(rows::capped(h.measures, limit::MEASURES), a, b) {
         return 14;
     }
     if limits_ok(c, f) {
@@ -140,7 +142,7 @@ fn decide_rule(h: Head, a: i32, c: i32, b: i32, f: i32, old: i32) -> Drawing
     if k != 0 {
         return refused(h, old, k);
     }
-    let n = rows::capped(h.rules, 63) as u32 + 1;
+    let n = rows::capped(h.rules, limit::LAST_RULE) as u32 + 1;
     let head = with_rules(h, n);
     let answer = Answer::Number(n);
     Drawing {
@@ -196,7 +198,7 @@ fn decide_open<'a>(h: Head, table: &'a Table, values: &'a [i32], old: i32) -> Dr
 pub fn decide_draw<'a>(
     h: Head,
     table: &'a Table,
-    values: &'a [i32; 256],
+    values: &'a [i32; limit::VALUES],
     op: u32,
     a: i32,
     b: i32,
@@ -205,12 +207,12 @@ pub fn decide_draw<'a>(
 ) -> Drawing
     ensures { λ r. ⌜ r ≡ drawDecision op a b c d h (lowers (now (table .entry))) (gaps (now (table .entry))) (uppers (now (table .entry))) (now (values .entry)) ⌝ }
 {
-    let i = rows::capped(h.measures, 31);
+    let i = rows::capped(h.measures, limit::LAST_MEASURE);
     let old = values[i];
-    if op == 1 {
+    if op == call::MEASURE {
         return decide_measure(h, a, old);
     }
-    if op == 2 {
+    if op == call::RULE {
         return decide_rule(h, a, b, c, d, old);
     }
     decide_open(h, table, values, old)

@@ -7,8 +7,9 @@ use lib.IntN.{ℤ, pos}
 use lib.ListN.{length, getD, set}
 use Rattle.protocol.specs.Lists.{natural, oneTo}
 use Rattle.protocol.specs.Plan as model
-use Rattle.protocol.specs.Plan.{is, whole, split, kindOf, applied, value, keptLimit}
+use Rattle.protocol.specs.Plan.{is, whole, split, kindOf, applied, value, keptLimit, ruleLimit, numberLimit}
 use Rattle.protocol.specs.Calls.{Check, _unless_, _when_, Verdict, fine, refused, first, apart, no22, no24, no25, no28, no30}
+use Rattle.protocol.specs.Numbering.{lastMeasure, lastEdit}
 use Rattle.change.specs.declared.Change.{Change}
 use Rattle.change.specs.declared.Change.the-variants.{Set}
 use Rattle.change.specs.declared.Made.{Made}
@@ -49,7 +50,7 @@ ruled (refused k) c x = Denied k
 unfoldable pub changeRuling : RuleTest → FirmTest → Head → List ℕ → List ℤ → List ℕ → List Bool → List ℤ → ℕ → ℕ → Change → Ruling
 changeRuling test firmly h lower gap upper firm values at m c =
     let vs = row values at (measuresIn h) in
-    ruled (first (changeChecks (test m lower gap upper (min (h .rules) 64) (applied (viewChange c) (value vs m)) vs) (modeOf (h .mode)) (firmly lower upper firm (min (h .rules) 64) m) (keptIn h) (h .next) vs m (viewChange c))) c (applied (viewChange c) (value vs m))
+    ruled (first (changeChecks (test m lower gap upper (min (h .rules) ruleLimit) (applied (viewChange c) (value vs m)) vs) (modeOf (h .mode)) (firmly lower upper firm (min (h .rules) ruleLimit) m) (keptIn h) (h .next) vs m (viewChange c))) c (applied (viewChange c) (value vs m))
 
 -- the change of a kind number and a constant
 abbrev pub changeOf : ℕ → ℤ → model.Change
@@ -62,7 +63,7 @@ changeIn NotMade = Set (pos 0)
 unfoldable pub editRuling : RuleTest → FirmTest → Head → List ℕ → List ℤ → List ℕ → List Bool → List ℤ → EditRecord → ℕ → ℤ → ℤ → ℕ → ℕ → ℤ → Ruling
 editRuling test firmly h lower gap upper firm values named s client n m kind k =
     let vs = row values (offsetOf s) (measuresIn h) in
-    ruled (first (editChecks (test m lower gap upper (min (h .rules) 64) (applied (changeOf kind k) (value vs m)) vs) (modeOf (h .mode)) (sidesIn h) (firmly lower upper firm (min (h .rules) 64) m) (keptAt 0 named) (keptIn h) (h .next) vs s client n m (changeOf kind k)))
+    ruled (first (editChecks (test m lower gap upper (min (h .rules) ruleLimit) (applied (changeOf kind k) (value vs m)) vs) (modeOf (h .mode)) (sidesIn h) (firmly lower upper firm (min (h .rules) ruleLimit) m) (keptAt 0 named) (keptIn h) (h .next) vs s client n m (changeOf kind k)))
     (changeIn (madeOf kind k)) (applied (changeOf kind k) (value vs m))
 
 -- from the numbers of a line, with the edit that it names, seen at a place from 1
@@ -87,8 +88,8 @@ editHead h =
       measures = h .measures;
       rules = h .rules;
       added = h .added;
-      kept = cond (is whole (modeOf (h .mode))) (h .kept) (min (h .kept) 255 + 1);
-      next = min (h .next) 999999 + 1;
+      kept = cond (is whole (modeOf (h .mode))) (h .kept) (min (h .kept) lastEdit + 1);
+      next = min (h .next) numberLimit + 1;
       mark = h .mark;
       based = h .based;
       drafted = h .drafted;
@@ -113,10 +114,10 @@ editDecision h (Granted c x) old s client earlier m =
 
 -- where a side's measure stands among all values, and where a new record goes
 abbrev pub spotOf : ℕ → ℕ → ℕ
-spotOf s m = offsetOf s + min (m - 1) 31
+spotOf s m = offsetOf s + min (m - 1) lastMeasure
 
 abbrev pub slotOf : Head → ℕ
-slotOf h = min (h .kept) 255
+slotOf h = min (h .kept) lastEdit
 
 -- the decision from a call's numbers, by tests of the rules, with the edit that it names, seen at a place from 1
 abbrev pub editFrom : RuleTest → FirmTest → Head → List ℕ → List ℤ → List ℕ → List Bool → List ℤ → ℕ → EditRecord → (s client n m kind k : ℤ) → Decision

@@ -17,6 +17,7 @@ use change::Change;
 use change::Made;
 use heads::Head;
 use heads::Mode;
+use protocol::limit;
 use reader::Line;
 use records::EditRecord;
 use records::Fate;
@@ -58,7 +59,7 @@ fn is_client(client: i32) -> bool
     ensures { λ t. ⌜ t ≡ no22 client .passes ⌝ }
 {
     match client {
-        1..=999 => true,
+        1..=limit::CLIENT => true,
         _ => false,
     }
 }
@@ -94,7 +95,7 @@ fn full(mode: Mode, kept: u32) -> bool
     ensures { λ t. ⌜ t ≡ (apart (modeOf mode) && leb 256 (min kept 256)) ⌝ }
 {
     if is_apart(mode) {
-        return 256 <= kept;
+        return limit::KEPT <= kept;
     }
     false
 }
@@ -105,7 +106,7 @@ fn change_ruling<'a>(
     h: Head,
     table: &'a Table,
     index: &'a Index,
-    values: &'a [i32; 256],
+    values: &'a [i32; limit::VALUES],
     at: usize,
     m: u32,
     old: i32,
@@ -123,7 +124,7 @@ fn change_ruling<'a>(
     if full(mode, h.kept) {
         return Ruling::Refused(27);
     }
-    if 999999 < h.next {
+    if limit::NUMBER < h.next {
         return Ruling::Refused(30);
     }
     let made = change::apply(change, old);
@@ -145,7 +146,7 @@ pub fn spot(s: i32, m: i32) -> usize
     if measure == 0 {
         return at;
     }
-    at + rows::capped(measure - 1, 31)
+    at + rows::capped(measure - 1, limit::LAST_MEASURE)
 }
 
 // The checks of an edit, from the line, and the edit that it names, seen at a place from 1: 31, 21, 22, 23, 24, 25, then those on the change.
@@ -154,7 +155,7 @@ pub fn decide_edit<'a>(
     h: Head,
     table: &'a Table,
     index: &'a Index,
-    values: &'a [i32; 256],
+    values: &'a [i32; limit::VALUES],
     i: usize,
     seen: EditRecord,
     sound: bool,
@@ -174,7 +175,7 @@ pub fn decide_edit<'a>(
         return Ruling::Refused(22);
     }
     let m = exact::number(l.d);
-    if !rows::one_to(rows::capped(h.measures, 32), m) {
+    if !rows::one_to(rows::capped(h.measures, limit::MEASURES), m) {
         return Ruling::Refused(23);
     }
     let made = change::make(exact::number(l.e), l.f);
@@ -209,7 +210,7 @@ pub fn edit_head(h: Head) -> Head
     if is_whole(mode) {
         return r;
     }
-    r.kept = rows::capped(h.kept, 255) as u32 + 1;
+    r.kept = rows::capped(h.kept, limit::LAST_EDIT) as u32 + 1;
     r
 }
 

@@ -4,6 +4,7 @@ ghost use lib.IntN.{_+ℤ_, _*ℤ_};
 ghost use lib.Signed.{quotZ};
 ghost use Rattle.protocol.specs.Lists.{natural, isZero};
 ghost use Rattle.protocol.specs.Plan.{inRange};
+use protocol::limit;
 
 pub fn sum(a: i32, b: i32) -> i64
     ensures { λ r. ⌜ r ≡ a +ℤ b ⌝ }
@@ -48,7 +49,7 @@ pub fn in_range(v: i32) -> bool
     ensures { λ t. ⌜ t ≡ inRange v ⌝ }
 {
     match v {
-        -1000000..=1000000 => true,
+        limit::LEAST_VALUE..=limit::VALUE => true,
         _ => false,
     }
 }

@@ -9,6 +9,8 @@ use Rattle.heads.specs.declared.Mode.{Mode}
 use Rattle.heads.specs.declared.Mode.the-variants.{Blank, Whole, Split, Joining, Closing}
 use Rattle.heads.specs.declared.Head.{Head}
 use Rattle.protocol.specs.Lists.{countTo, natural}
+use Rattle.protocol.specs.Plan.{measureLimit, keptLimit}
+use Rattle.protocol.specs.Numbering.{lastSide, lastEdit}
 use lib.IntN.{ℤ}
 
 abbrev pub modeOf : Mode → model.Mode
@@ -29,16 +31,16 @@ abbrev pub single : Head → Bool
 single h = ltb (model.modeNumber (modeOf (h .mode))) 2
 
 abbrev pub sidesIn : Head → ℕ
-sidesIn h = cond (single h) 1 (suc (min (h .added) 7))
+sidesIn h = cond (single h) 1 (suc (min (h .added) lastSide))
 
 abbrev pub indexOf : ℕ → ℕ
-indexOf s = min (s - 1) 7
+indexOf s = min (s - 1) lastSide
 
 abbrev pub offsetOf : ℕ → ℕ
-offsetOf s = 32 * indexOf s
+offsetOf s = measureLimit * indexOf s
 
 abbrev pub measuresIn : Head → ℕ
-measuresIn h = min (h .measures) 32
+measuresIn h = min (h .measures) measureLimit
 
 -- ---- kept edits: their numbers are consecutive, and end below the next number or, in a blank or whole plan, the mark
 
@@ -46,7 +48,7 @@ abbrev pub endIn : Head → ℕ
 endIn h = cond (single h) (h .mark) (h .next)
 
 abbrev pub keptIn : Head → ℕ
-keptIn h = min (h .kept) 256
+keptIn h = min (h .kept) keptLimit
 
 -- the place, from 1, of number n among k consecutive numbers that end below e; 0: none
 unfoldable pub positionOf : ℕ → ℕ → ℕ → ℕ
@@ -54,7 +56,7 @@ positionOf e k n = cond (eqb n 0) (cond (ltb 0 k && leb e k) 1 0) (cond (ltb n e
 
 -- the slot in which the edit at a place from 1 stands; place 0, which is none, has the last
 abbrev pub slotAt : ℕ → ℕ
-slotAt i = (i + 255) % 256
+slotAt i = (i + lastEdit) % keptLimit
 
 -- the place, from 1, of the kept edit that a call's number names, and where it stands
 abbrev pub namedAt : Head → ℤ → ℕ

@@ -6,6 +6,7 @@ ghost use Rattle.protocol.specs.Lists.{bit};
 ghost use Rattle.protocol.specs.Plan.{modeNumber, active};
 ghost use Rattle.heads.specs.Numbers.{modeFrom, headFrom, numbersOf};
 ghost use Rattle.heads.specs.Heads.{modeOf, inMode, sidesIn, offsetOf, indexOf, endIn, keptIn, positionOf, slotAt, namedAt, unsetIn};
+use protocol::limit;
 
 // 01's modes.
 pub enum Mode {
@@ -133,7 +134,7 @@ pub fn side_count(h: Head) -> usize
     if mode_number(m) < 2 {
         return 1;
     }
-    rows::capped(h.added, 7) + 1
+    rows::capped(h.added, limit::LAST_SIDE) + 1
 }
 
 // A side's place among the flags. A number that is no side's has some place too.
@@ -143,14 +144,14 @@ pub fn index(s: u32) -> usize
     if s == 0 {
         return 0;
     }
-    rows::capped(s - 1, 7)
+    rows::capped(s - 1, limit::LAST_SIDE)
 }
 
 // Where a side's values begin.
 pub fn offset(s: u32) -> usize
     ensures { λ r. ⌜ (r ≡ offsetOf s) × (r ≤ 224) ⌝ }
 {
-    32 * index(s)
+    limit::MEASURES * index(s)
 }
 
 // The number that the kept edits' numbers end below.
@@ -169,7 +170,7 @@ pub fn position(h: Head, n: u32) -> usize
     ensures { λ r. ⌜ (r ≡ positionOf (endIn h) (keptIn h) n) × (r ≤ 256) ⌝ }
 {
     let e = end(h) as usize;
-    let k = rows::capped(h.kept, 256);
+    let k = rows::capped(h.kept, limit::EDITS);
     let m = n as usize;
     if m == 0 {
         if 0 < k {
@@ -192,9 +193,9 @@ pub fn slot(i: usize) -> usize
     ensures { λ r. ⌜ (r ≡ slotAt i) × (r < 256) ⌝ }
 {
     if i == 0 {
-        return 255;
+        return limit::LAST_EDIT;
     }
-    (i - 1) % 256
+    (i - 1) % limit::EDITS
 }
 
 // The place, from 1, of the kept edit that a call's number names.
@@ -205,7 +206,7 @@ pub fn named(h: Head, n: i32) -> usize
 }
 
 // How many sides have a flag that is not set.
-pub fn unset(flags: &[bool; 8], h: Head) -> u32
+pub fn unset(flags: &[bool; limit::SIDES], h: Head) -> u32
     ensures { λ r. ⌜ (r ≡ unsetIn (now (flags .entry)) (sidesIn h)) × (r ≤ 8) ⌝ }
 {
     let n = side_count(h);

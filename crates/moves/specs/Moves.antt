@@ -6,7 +6,7 @@ use lib.Dec.{eqb, ltb}
 use lib.ListN.{length, getD}
 use mathlib.Core.Path.{_≡_}
 use Rattle.protocol.specs.Lists.{isNone, oneTo}
-use Rattle.protocol.specs.Plan.{joining, closing, modeNumber, is, active}
+use Rattle.protocol.specs.Plan.{joining, closing, modeNumber, is, active, keptLimit}
 use Rattle.protocol.specs.Calls.{Check, _unless_, _when_, Verdict, fine, refused, first, markSent}
 use Rattle.heads.specs.declared.Head.{Head}
 use Rattle.heads.specs.declared.Mode.the-variants.{Whole}
@@ -47,7 +47,7 @@ sendDecision h s arrived unsent = sendBy (first (sendChecks h s arrived unsent))
 
 -- The first i kept edits are sent where they are unsent and side s's; the rest are as before.
 pub record Marked (s : ℕ) (before next : List EditRecord) (i : ℕ) : Type 0 where
-  pub size : length next ≡ 256
+  pub size : length next ≡ keptLimit
   pub done : (j : ℕ) → j < i → (n : ℕ) → keptAt n (getD next j noRecord) ≡ markSent s (keptAt n (getD before j noRecord))
   pub rest : (j : ℕ) → i ≤ j → getD next j noRecord ≡ getD before j noRecord
   pub none : i ≡ 0 → next ≡ before

@@ -5,7 +5,7 @@ use mathlib.Core.List.{List, [], _∷_}
 use lib.Dec.{ltb}
 use lib.IntN.{ℤ}
 use Rattle.protocol.specs.Lists.{oneTo}
-use Rattle.protocol.specs.Plan.{whole, split, is, sideLimit}
+use Rattle.protocol.specs.Plan.{whole, split, is, sideLimit, measureLimit}
 use Rattle.protocol.specs.Calls.{Check, _unless_}
 use Rattle.rows.specs.Rows.{copiedIn}
 use Rattle.heads.specs.declared.Head.{Head}
@@ -37,4 +37,4 @@ joinHead h = record { mode = Joining; measures = h .measures; rules = h .rules; 
 
 -- the base: the first split of a whole plan makes side 1's row the base
 abbrev pub splitBase : Head → List ℤ → List ℤ → List ℤ
-splitBase h base values = cond (is whole (modeOf (h .mode))) (copiedIn base values 0 0 32) base
+splitBase h base values = cond (is whole (modeOf (h .mode))) (copiedIn base values 0 0 measureLimit) base

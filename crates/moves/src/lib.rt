@@ -20,6 +20,8 @@ ghost use Rattle.rows.specs.Rows.{copiedIn};
 ghost use Rattle.state.specs.Meets.{refusalOf};
 use heads::Head;
 use heads::Mode;
+use protocol::call;
+use protocol::limit;
 use records::EditRecord;
 use records::Fate;
 use records::Test;
@@ -45,22 +47,22 @@ fn deny(head: Head, k: u32) -> Told
 }
 
 // Sets a side's flag, by its place. The contract says how many flags are lent, which a caller does not know otherwise.
-fn put_flag(flags: &mut [bool; 8], i: usize, b: bool)
+fn put_flag(flags: &mut [bool; limit::SIDES], i: usize, b: bool)
     ensures { λ r. ⌜ (now (flags .exit) ≡ set (now (flags .entry)) i b) × (length (now (flags .entry)) ≡ 8) ⌝ }
 {
     let all: &mut [bool] = flags;
-    if i < 8 {
+    if i < limit::SIDES {
         all[i] = b;
     }
 }
 
 // How many values there are in arrays that were lent, which a caller does not know otherwise. It does nothing, and a compiler drops it.
 pub fn lengths<'a>(
-    base: &'a [i32; 32],
-    draft: &'a [i32; 32],
-    values: &'a [i32; 256],
-    arrived: &'a [bool; 8],
-    confirmed: &'a [bool; 8],
+    base: &'a [i32; limit::MEASURES],
+    draft: &'a [i32; limit::MEASURES],
+    values: &'a [i32; limit::VALUES],
+    arrived: &'a [bool; limit::SIDES],
+    confirmed: &'a [bool; limit::SIDES],
 )
     ensures { λ r. ⌜ (length (now (base .entry)) ≡ 32) × (length (now (draft .entry)) ≡ 32) × (length (now (values .entry)) ≡ 256) ×
         (length (now (arrived .entry)) ≡ 8) × (length (now (confirmed .entry)) ≡ 8) ⌝ }
@@ -87,7 +89,7 @@ fn split_refusal(h: Head, s: u32) -> u32
     if !rows::one_to(n, s) {
         return 21;
     }
-    if n < 8 {
+    if n < limit::SIDES {
         return 0;
     }
     32
@@ -121,33 +123,33 @@ fn join_head(h: Head) -> Head
 // ---- rows: the contracts say how many values are lent, which a caller does not know otherwise
 
 // The first split of a whole plan makes side 1's row the base.
-fn split_base(h: Head, base: &mut [i32; 32], values: &[i32; 256])
+fn split_base(h: Head, base: &mut [i32; limit::MEASURES], values: &[i32; limit::VALUES])
     ensures { λ r. ⌜ (now (base .exit) ≡ splitBase h (now (base .entry)) (now (values .entry))) × (T (is whole (modeOf (h .mode))) → length (now (base .entry)) ≡ 32) ⌝ }
 {
     let m = h.mode;
     if heads::mode_number(m) == 1 {
-        rows::copy(base, values, 0, 0, 32);
+        rows::copy(base, values, 0, 0, limit::MEASURES);
     }
 }
 
 // One side's row becomes another's.
-fn copy_row(values: &mut [i32; 256], from: usize, to: usize)
+fn copy_row(values: &mut [i32; limit::VALUES], from: usize, to: usize)
     requires { ⌜ from ≤ 224 ⌝ }
     ensures { λ r. ⌜ (now (values .exit) ≡ copiedIn (now (values .entry)) (now (values .entry)) from to 32) × (length (now (values .entry)) ≡ 256) ⌝ }
 {
-    let mut row = [0i32; 32];
-    rows::copy(&mut row, values, from, 0, 32);
-    rows::copy(values, &row, 0, to, 32);
+    let mut row = [0i32; limit::MEASURES];
+    rows::copy(&mut row, values, from, 0, limit::MEASURES);
+    rows::copy(values, &row, 0, to, limit::MEASURES);
 }
 
 // ---- the calls, on what is lent of a state and on a state
 
 fn split_in(
     h: Head,
-    base: &mut [i32; 32],
-    values: &mut [i32; 256],
-    arrived: &mut [bool; 8],
-    confirmed: &mut [bool; 8],
+    base: &mut [i32; limit::MEASURES],
+    values: &mut [i32; limit::VALUES],
+    arrived: &mut [bool; limit::SIDES],
+    confirmed: &mut [bool; limit::SIDES],
     s: i32,
 ) -> Told
     ensures { λ r. ⌜ ((draft : List ℤ) → Moves (split-side s)
@@ -171,10 +173,10 @@ fn split_in(
 
 fn join_in(
     h: Head,
-    base: &[i32; 32],
-    draft: &mut [i32; 32],
-    arrived: &mut [bool; 8],
-    confirmed: &mut [bool; 8],
+    base: &[i32; limit::MEASURES],
+    draft: &mut [i32; limit::MEASURES],
+    arrived: &mut [bool; limit::SIDES],
+    confirmed: &mut [bool; limit::SIDES],
 ) -> Told
     ensures { λ r. ⌜ ((values : List ℤ) → Moves join
         (frameFrom h (now (base .entry)) (now (draft .entry)) values (now (arrived .entry)) (now (confirmed .entry))) Anything
@@ -185,8 +187,8 @@ fn join_in(
         return deny(h, 31);
     }
     *draft = *base;
-    *arrived = [false; 8];
-    *confirmed = [false; 8];
+    *arrived = [false; limit::SIDES];
+    *confirmed = [false; limit::SIDES];
     let answer = Answer::Done;
     tell(join_head(h), answer)
 }
@@ -285,7 +287,7 @@ pub fn decide_send(h: Head, s: u32, arrived: bool, unsent: u32) -> Sending
     }
     let answer = Answer::Number(unsent);
     Sending {
-        marked: rows::capped(h.kept, 256),
+        marked: rows::capped(h.kept, limit::EDITS),
         arrived: true,
         answer,
     }
@@ -319,7 +321,7 @@ pub fn sent_record(e: EditRecord, s: u32) -> EditRecord
 
 // ---- the calls, on what is lent of a state
 
-fn stop_in(h: Head, arrived: &[bool; 8], waiting: u32) -> Told
+fn stop_in(h: Head, arrived: &[bool; limit::SIDES], waiting: u32) -> Told
     ensures { λ r. ⌜ ((base draft values : List ℤ) (confirmed : List Bool) → Moves stop (frameFrom h base draft values (now (arrived .entry)) confirmed)
         (Waiting (frameFrom h base draft values (now (arrived .entry)) confirmed) waiting) (movedTo r base draft values (now (arrived .entry)) confirmed)) ⌝ }
 {
@@ -332,7 +334,7 @@ fn stop_in(h: Head, arrived: &[bool; 8], waiting: u32) -> Told
     tell(heads::in_mode(h, Mode::Closing), answer)
 }
 
-fn confirm_in(h: Head, confirmed: &mut [bool; 8], s: i32, unsent: u32) -> Told
+fn confirm_in(h: Head, confirmed: &mut [bool; limit::SIDES], s: i32, unsent: u32) -> Told
     ensures { λ r. ⌜ ((base draft values : List ℤ) (arrived : List Bool) → Moves (confirm s) (frameFrom h base draft values arrived (now (confirmed .entry)))
         (Unsent (frameFrom h base draft values arrived (now (confirmed .entry))) (natural s) unsent)
         (movedTo r base draft values arrived (now (confirmed .exit)))) ⌝ }
@@ -351,10 +353,10 @@ fn confirm_in(h: Head, confirmed: &mut [bool; 8], s: i32, unsent: u32) -> Told
 
 fn install_in(
     h: Head,
-    draft: &[i32; 32],
-    values: &mut [i32; 256],
-    arrived: &mut [bool; 8],
-    confirmed: &mut [bool; 8],
+    draft: &[i32; limit::MEASURES],
+    values: &mut [i32; limit::VALUES],
+    arrived: &mut [bool; limit::SIDES],
+    confirmed: &mut [bool; limit::SIDES],
     waiting: u32,
 ) -> Told
     ensures { λ r. ⌜ ((base : List ℤ) → Moves install
@@ -367,7 +369,7 @@ fn install_in(
     if k != 0 {
         return deny(h, k);
     }
-    rows::copy(values, draft, 0, 0, 32);
+    rows::copy(values, draft, 0, 0, limit::MEASURES);
     put_flag(arrived, 0, false);
     put_flag(confirmed, 0, false);
     let answer = Answer::Done;
@@ -377,11 +379,11 @@ fn install_in(
 // split, join, stop, confirm; another number is install's. From how many edits the side has unsent and how many wait.
 pub fn make_move(
     h: Head,
-    base: &mut [i32; 32],
-    draft: &mut [i32; 32],
-    values: &mut [i32; 256],
-    arrived: &mut [bool; 8],
-    confirmed: &mut [bool; 8],
+    base: &mut [i32; limit::MEASURES],
+    draft: &mut [i32; limit::MEASURES],
+    values: &mut [i32; limit::VALUES],
+    arrived: &mut [bool; limit::SIDES],
+    confirmed: &mut [bool; limit::SIDES],
     op: u32,
     a: i32,
     unsent: u32,
@@ -392,16 +394,16 @@ pub fn make_move(
         (Counts (frameFrom h (now (base .entry)) (now (draft .entry)) (now (values .entry)) (now (arrived .entry)) (now (confirmed .entry))) (natural a) unsent
         waiting) (movedTo r (now (base .exit)) (now (draft .exit)) (now (values .exit)) (now (arrived .exit)) (now (confirmed .exit))) ⌝ }
 {
-    if op == 4 {
+    if op == call::SPLIT {
         return split_in(h, base, values, arrived, confirmed, a);
     }
-    if op == 6 {
+    if op == call::JOIN {
         return join_in(h, base, draft, arrived, confirmed);
     }
-    if op == 9 {
+    if op == call::STOP {
         return stop_in(h, arrived, waiting);
     }
-    if op == 10 {
+    if op == call::CONFIRM {
         return confirm_in(h, confirmed, a, unsent);
     }
     install_in(h, draft, values, arrived, confirmed, waiting)

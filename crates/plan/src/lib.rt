@@ -8,6 +8,7 @@ ghost use mathlib.Core.Bool.{false};
 ghost use lib.Dec.{eqb};
 ghost use Rattle.state.specs.Meets.{Meets};
 ghost use Rattle.plan.specs.Turns.{Turns};
+use protocol::call;
 pub use query::show;
 pub use query::show_in;
 use reader::Line;
@@ -34,7 +35,7 @@ fn turn(p: State, l: Line) -> Answered
     let mut index = [0i32; 512];
     // An edit needs no counts, and counting copies the kept edits.
     let mut counts = counts::no_tallies();
-    if l.op != 5 {
+    if l.op != call::EDIT {
         let t = query::tallies(edits, h, &p.arrived, &p.confirmed);
         counts = t;
     }
@@ -101,19 +102,19 @@ fn line(op: u32, a: i32, b: i32, c: i32, d: i32, e: i32, f: i32) -> Line
 pub fn measure(p: State, v: i32) -> Answered
     ensures { λ r. ⌜ Meets (measure v) p r ⌝ }
 {
-    turn(p, line(1, v, 0, 0, 0, 0, 0))
+    turn(p, line(call::MEASURE, v, 0, 0, 0, 0, 0))
 }
 
 pub fn rule(p: State, a: i32, c: i32, b: i32, f: i32) -> Answered
     ensures { λ r. ⌜ Meets (rule a c b f) p r ⌝ }
 {
-    turn(p, line(2, a, c, b, f, 0, 0))
+    turn(p, line(call::RULE, a, c, b, f, 0, 0))
 }
 
 pub fn open_plan(p: State) -> Answered
     ensures { λ r. ⌜ Meets open-plan p r ⌝ }
 {
-    turn(p, line(3, 0, 0, 0, 0, 0, 0))
+    turn(p, line(call::OPEN, 0, 0, 0, 0, 0, 0))
 }
 
 // ---- splitting, editing and joining
@@ -121,49 +122,49 @@ pub fn open_plan(p: State) -> Answered
 pub fn split(p: State, s: i32) -> Answered
     ensures { λ r. ⌜ Meets (split-side s) p r ⌝ }
 {
-    turn(p, line(4, s, 0, 0, 0, 0, 0))
+    turn(p, line(call::SPLIT, s, 0, 0, 0, 0, 0))
 }
 
 pub fn edit(p: State, s: i32, client: i32, after: i32, m: i32, kind: i32, constant: i32) -> Answered
     ensures { λ r. ⌜ Meets (edit s client after m kind constant) p r ⌝ }
 {
-    turn(p, line(5, s, client, after, m, kind, constant))
+    turn(p, line(call::EDIT, s, client, after, m, kind, constant))
 }
 
 pub fn join(p: State) -> Answered
     ensures { λ r. ⌜ Meets join p r ⌝ }
 {
-    turn(p, line(6, 0, 0, 0, 0, 0, 0))
+    turn(p, line(call::JOIN, 0, 0, 0, 0, 0, 0))
 }
 
 pub fn send(p: State, s: i32) -> Answered
     ensures { λ r. ⌜ Meets (send s) p r ⌝ }
 {
-    turn(p, line(7, s, 0, 0, 0, 0, 0))
+    turn(p, line(call::SEND, s, 0, 0, 0, 0, 0))
 }
 
 pub fn replay(p: State, n: i32) -> Answered
     ensures { λ r. ⌜ Meets (replay n) p r ⌝ }
 {
-    turn(p, line(8, n, 0, 0, 0, 0, 0))
+    turn(p, line(call::REPLAY, n, 0, 0, 0, 0, 0))
 }
 
 pub fn stop(p: State) -> Answered
     ensures { λ r. ⌜ Meets stop p r ⌝ }
 {
-    turn(p, line(9, 0, 0, 0, 0, 0, 0))
+    turn(p, line(call::STOP, 0, 0, 0, 0, 0, 0))
 }
 
 pub fn confirm(p: State, s: i32) -> Answered
     ensures { λ r. ⌜ Meets (confirm s) p r ⌝ }
 {
-    turn(p, line(10, s, 0, 0, 0, 0, 0))
+    turn(p, line(call::CONFIRM, s, 0, 0, 0, 0, 0))
 }
 
 pub fn install(p: State) -> Answered
     ensures { λ r. ⌜ Meets install p r ⌝ }
 {
-    turn(p, line(11, 0, 0, 0, 0, 0, 0))
+    turn(p, line(call::INSTALL, 0, 0, 0, 0, 0, 0))
 }
 
 // ---- reading; show is query's
@@ -171,11 +172,11 @@ pub fn install(p: State) -> Answered
 pub fn fate(p: State, n: i32) -> Answered
     ensures { λ r. ⌜ Meets (fate-of n) p r ⌝ }
 {
-    turn(p, line(13, n, 0, 0, 0, 0, 0))
+    turn(p, line(call::FATE, n, 0, 0, 0, 0, 0))
 }
 
 pub fn left(p: State) -> Answered
     ensures { λ r. ⌜ Meets left p r ⌝ }
 {
-    turn(p, line(14, 0, 0, 0, 0, 0, 0))
+    turn(p, line(call::LEFT, 0, 0, 0, 0, 0, 0))
 }

@@ -3,3 +3,4 @@ pub mod Plan
 pub mod Calls
 pub mod History
 pub mod Trials
+pub mod Numbering

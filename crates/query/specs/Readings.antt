@@ -7,6 +7,7 @@ use lib.IntN.{ℤ}
 use Rattle.protocol.specs.Lists.{natural}
 use Rattle.protocol.specs.Plan.{measureLimit, active}
 use Rattle.protocol.specs.Calls.{Call, show, fate-of, left, Verdict, fine, refused, first}
+use Rattle.protocol.specs.Numbering.{showOp, fateOp, leftOp}
 use Rattle.records.specs.declared.EditRecord.{EditRecord}
 use Rattle.heads.specs.declared.Head.{Head}
 use Rattle.state.specs.declared.Answer.{Answer}
@@ -17,7 +18,7 @@ use Rattle.query.specs.declared.Reading.{Reading}
 
 -- the reading calls by their number in the order of 01
 abbrev pub readCall : ℕ → ℤ → Option Call
-readCall op a = cond (eqb op 12) (some (show a measureLimit)) (cond (eqb op 13) (some (fate-of a)) (cond (eqb op 14) (some left) none))
+readCall op a = cond (eqb op showOp) (some (show a measureLimit)) (cond (eqb op fateOp) (some (fate-of a)) (cond (eqb op leftOp) (some left) none))
 
 abbrev pub alone : Answer → Reading
 alone a = record { answer = a; from = 0; width = 0 }
@@ -34,4 +35,4 @@ leftAnswer h n = Number (cond (active (modeOf (h .mode))) n 0)
 
 abbrev pub readingOf : ℕ → ℤ → Head → ℕ → EditRecord → ℕ → Reading
 readingOf op a h i seen n =
-    cond (eqb op 12) (showReading h (natural a)) (cond (eqb op 13) (alone (fateAnswer i seen)) (cond (eqb op 14) (alone (leftAnswer h n)) (alone (Refused 51))))
+    cond (eqb op showOp) (showReading h (natural a)) (cond (eqb op fateOp) (alone (fateAnswer i seen)) (cond (eqb op leftOp) (alone (leftAnswer h n)) (alone (Refused 51))))

@@ -19,6 +19,8 @@ ghost use Rattle.state.specs.View.{view};
 use counts::Tallies;
 use heads::Head;
 use heads::Mode;
+use protocol::call;
+use protocol::limit;
 use records::EditRecord;
 use records::Test;
 use state::Answer;
@@ -52,7 +54,7 @@ fn pending_bit(arrived: bool, unsent: u32) -> u32
 }
 
 // How many sides have no first log yet or unsent edits.
-fn pending_sides<'a>(arrived: &'a [bool; 8], t: &'a Tallies, h: Head) -> u32
+fn pending_sides<'a>(arrived: &'a [bool; limit::SIDES], t: &'a Tallies, h: Head) -> u32
     ensures { λ r. ⌜ (r ≡ pendingIn (now (arrived .entry)) (now (t .entry)) (sidesIn h)) × (r ≤ 8) ⌝ }
 {
     let n = heads::side_count(h);
@@ -76,8 +78,8 @@ fn joining_bit(mode: Mode) -> u32
 // The number left, from the counts of the kept edits: how many are unsent or waiting, and how many each side has unsent.
 fn left_number<'a>(
     h: Head,
-    arrived: &'a [bool; 8],
-    confirmed: &'a [bool; 8],
+    arrived: &'a [bool; limit::SIDES],
+    confirmed: &'a [bool; limit::SIDES],
     t: &'a Tallies,
     unsettled: u32,
 ) -> u32
@@ -88,19 +90,19 @@ fn left_number<'a>(
         return 0;
     }
     let a = pending_sides(arrived, t, h);
-    let b = rows::capped(unsettled, 256) as u32;
+    let b = rows::capped(unsettled, limit::EDITS) as u32;
     let c = heads::unset(confirmed, h);
     let j = joining_bit(mode);
     a + b + c + j + 1
 }
 
 // How many edits each side has unsent, and no other count.
-fn unsent_counts(edits: [EditRecord; 256], h: Head) -> Tallies
+fn unsent_counts(edits: [EditRecord; limit::EDITS], h: Head) -> Tallies
     ensures { λ r. ⌜ r ≡ unsentCounts h edits 8 ⌝ }
 {
     let mut counts = [0u32; 12];
     let mut i: usize = 0;
-    while i < 8 {
+    while i < limit::SIDES {
         let n = records::count(edits, h, Test::UnsentOf(i as u32 + 1));
         counts[i] = n;
         i += 1;
@@ -121,14 +123,14 @@ fn show_refusal(h: Head, s: u32, room: usize) -> u32
     if !rows::one_to(heads::side_count(h), s) {
         return 21;
     }
-    if rows::capped(h.measures, 32) <= room {
+    if rows::capped(h.measures, limit::MEASURES) <= room {
         return 0;
     }
     41
 }
 
 // The n values from a place on, copied to the front of a buffer that has room for them; the rest is untouched.
-fn fill(values: &[i32; 256], at: usize, n: usize, buffer: &mut [i32])
+fn fill(values: &[i32; limit::VALUES], at: usize, n: usize, buffer: &mut [i32])
     requires { ⌜ (at + n ≤ length (now values)) × (n ≤ length (now buffer)) ⌝ }
     ensures { λ _. ⌜ now (buffer .exit) ≡ row (now (values .entry)) at n ++ drop n (now (buffer .entry)) ⌝ }
 {
@@ -149,7 +151,7 @@ pub fn show_in(p: State, s: i32, buffer: &mut [i32], refusal: &mut u32) -> usize
     if k != 0 {
         return 0;
     }
-    let n = rows::capped(h.measures, 32);
+    let n = rows::capped(h.measures, limit::MEASURES);
     let at = heads::offset(side);
     fill(&p.values, at, n, buffer);
     n
@@ -174,7 +176,7 @@ pub struct Reading {
 fn show_reading(h: Head, s: u32) -> Reading
     ensures { λ r. ⌜ r ≡ showReading h s ⌝ }
 {
-    let refusal = show_refusal(h, s, 32);
+    let refusal = show_refusal(h, s, limit::MEASURES);
     if refusal != 0 {
         let answer = Answer::Refused(refusal);
         return Reading {
@@ -187,7 +189,7 @@ fn show_reading(h: Head, s: u32) -> Reading
     Reading {
         answer,
         from: heads::offset(s),
-        width: rows::capped(h.measures, 32),
+        width: rows::capped(h.measures, limit::MEASURES),
     }
 }
 
@@ -206,10 +208,10 @@ fn left_answer(h: Head, left: u32) -> Answer
 pub fn read(op: u32, a: i32, h: Head, i: usize, seen: EditRecord, left: u32) -> Reading
     ensures { λ r. ⌜ r ≡ readingOf op a h i seen left ⌝ }
 {
-    if op == 12 {
+    if op == call::SHOW {
         return show_reading(h, exact::number(a));
     }
-    if op == 13 {
+    if op == call::FATE {
         let answer = fate_answer(i, seen);
         return Reading {
             answer,
@@ -217,7 +219,7 @@ pub fn read(op: u32, a: i32, h: Head, i: usize, seen: EditRecord, left: u32) -> 
             width: 0,
         };
     }
-    if op == 14 {
+    if op == call::LEFT {
         let answer = left_answer(h, left);
         return Reading {
             answer,
@@ -235,10 +237,10 @@ pub fn read(op: u32, a: i32, h: Head, i: usize, seen: EditRecord, left: u32) -> 
 
 // The counts of kept edits, from the records, the number left and how many first logs are missing.
 pub fn tallies<'a>(
-    edits: [EditRecord; 256],
+    edits: [EditRecord; limit::EDITS],
     h: Head,
-    arrived: &'a [bool; 8],
-    confirmed: &'a [bool; 8],
+    arrived: &'a [bool; limit::SIDES],
+    confirmed: &'a [bool; limit::SIDES],
 ) -> Tallies
     ensures { λ r. ⌜ Counted r (keptOf h edits) × (length r ≡ 12) ×
         (leftIn r ≡ leftNumber h (now (arrived .entry)) (now (confirmed .entry)) r (min (keptIn h - settledIn r) 256)) ×

@@ -10,6 +10,7 @@ use lib.ListN.{length, getD, drop}
 use Rattle.protocol.specs.Lists.{all}
 use Rattle.protocol.specs.Plan.{measureLimit}
 use Rattle.protocol.specs.Calls.{Call, measure, rule, open-plan, split-side, edit, join, send, replay, stop, confirm, install, show, fate-of, left}
+use Rattle.protocol.specs.Numbering.{measureOp, ruleOp, openOp, splitOp, editOp, joinOp, sendOp, replayOp, stopOp, confirmOp, installOp, showOp, fateOp, leftOp}
 use Rattle.format.specs.Numbers.{isDigit, decimal, isMagnitude, number}
 use Rattle.format.specs.Lines.{space, lineFeed, Shape, complete, takes, Form, forms, sameBytes, lineCall}
 use Rattle.reader.specs.declared.Number.{Number}
@@ -115,38 +116,38 @@ lineFrom op xs end = record { op = op; a = getD xs 0 (pos 0); b = getD xs 1 (pos
 
 abbrev pub lineFor : Option Call → ℕ → Line
 lineFor none end = lineFrom 0 [] end
-lineFor (some (measure v)) end = lineFrom 1 (v ∷ []) end
-lineFor (some (rule a c b f)) end = lineFrom 2 (a ∷ c ∷ b ∷ f ∷ []) end
-lineFor (some open-plan) end = lineFrom 3 [] end
-lineFor (some (split-side s)) end = lineFrom 4 (s ∷ []) end
-lineFor (some (edit s client n m kind k)) end = lineFrom 5 (s ∷ client ∷ n ∷ m ∷ kind ∷ k ∷ []) end
-lineFor (some join) end = lineFrom 6 [] end
-lineFor (some (send s)) end = lineFrom 7 (s ∷ []) end
-lineFor (some (replay n)) end = lineFrom 8 (n ∷ []) end
-lineFor (some stop) end = lineFrom 9 [] end
-lineFor (some (confirm s)) end = lineFrom 10 (s ∷ []) end
-lineFor (some install) end = lineFrom 11 [] end
-lineFor (some (show s room)) end = lineFrom 12 (s ∷ []) end
-lineFor (some (fate-of n)) end = lineFrom 13 (n ∷ []) end
-lineFor (some left) end = lineFrom 14 [] end
+lineFor (some (measure v)) end = lineFrom measureOp (v ∷ []) end
+lineFor (some (rule a c b f)) end = lineFrom ruleOp (a ∷ c ∷ b ∷ f ∷ []) end
+lineFor (some open-plan) end = lineFrom openOp [] end
+lineFor (some (split-side s)) end = lineFrom splitOp (s ∷ []) end
+lineFor (some (edit s client n m kind k)) end = lineFrom editOp (s ∷ client ∷ n ∷ m ∷ kind ∷ k ∷ []) end
+lineFor (some join) end = lineFrom joinOp [] end
+lineFor (some (send s)) end = lineFrom sendOp (s ∷ []) end
+lineFor (some (replay n)) end = lineFrom replayOp (n ∷ []) end
+lineFor (some stop) end = lineFrom stopOp [] end
+lineFor (some (confirm s)) end = lineFrom confirmOp (s ∷ []) end
+lineFor (some install) end = lineFrom installOp [] end
+lineFor (some (show s room)) end = lineFrom showOp (s ∷ []) end
+lineFor (some (fate-of n)) end = lineFrom fateOp (n ∷ []) end
+lineFor (some left) end = lineFrom leftOp [] end
 
 -- the call of a line that was read; none: it cannot be read
 abbrev pub lineIn : Line → Option Call
 lineIn l =
-    cond (eqb (l .op) 1) (some (measure (l .a)))
-    (cond (eqb (l .op) 2) (some (rule (l .a) (l .b) (l .c) (l .d)))
-    (cond (eqb (l .op) 3) (some open-plan)
-    (cond (eqb (l .op) 4) (some (split-side (l .a)))
-    (cond (eqb (l .op) 5) (some (edit (l .a) (l .b) (l .c) (l .d) (l .e) (l .f)))
-    (cond (eqb (l .op) 6) (some join)
-    (cond (eqb (l .op) 7) (some (send (l .a)))
-    (cond (eqb (l .op) 8) (some (replay (l .a)))
-    (cond (eqb (l .op) 9) (some stop)
-    (cond (eqb (l .op) 10) (some (confirm (l .a)))
-    (cond (eqb (l .op) 11) (some install)
-    (cond (eqb (l .op) 12) (some (show (l .a) measureLimit))
-    (cond (eqb (l .op) 13) (some (fate-of (l .a)))
-    (cond (eqb (l .op) 14) (some left)
+    cond (eqb (l .op) measureOp) (some (measure (l .a)))
+    (cond (eqb (l .op) ruleOp) (some (rule (l .a) (l .b) (l .c) (l .d)))
+    (cond (eqb (l .op) openOp) (some open-plan)
+    (cond (eqb (l .op) splitOp) (some (split-side (l .a)))
+    (cond (eqb (l .op) editOp) (some (edit (l .a) (l .b) (l .c) (l .d) (l .e) (l .f)))
+    (cond (eqb (l .op) joinOp) (some join)
+    (cond (eqb (l .op) sendOp) (some (send (l .a)))
+    (cond (eqb (l .op) replayOp) (some (replay (l .a)))
+    (cond (eqb (l .op) stopOp) (some stop)
+    (cond (eqb (l .op) confirmOp) (some (confirm (l .a)))
+    (cond (eqb (l .op) installOp) (some install)
+    (cond (eqb (l .op) showOp) (some (show (l .a) measureLimit))
+    (cond (eqb (l .op) fateOp) (some (fate-of (l .a)))
+    (cond (eqb (l .op) leftOp) (some left)
     none)))))))))))))
 
 -- a line was read to its end, or up to a place at which it is no call's

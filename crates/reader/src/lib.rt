@@ -10,6 +10,7 @@ ghost use Rattle.format.specs.Numbers.{isDigit};
 ghost use Rattle.format.specs.Lines.{lineFeed, lineCall};
 ghost use Rattle.reader.specs.Cut.{upTo, firstLine};
 ghost use Rattle.reader.specs.Reads.{wordAt, numberAt, magnitudeAt, followed, isEnd, ending, packedBehind, callOfCode, Named, lineFrom, lineFor, lineIn, Taken};
+use protocol::call;
 
 // A number with the place behind it, or a word that is none.
 pub enum Number {
@@ -205,20 +206,62 @@ fn call_of(code: u64) -> Call
     ensures { λ r. ⌜ r ≡ callOfCode code ⌝ }
 {
     match code {
-        0x16d656173757265 => Call { op: 1, count: 1 }, // measure
-        0x172756c65 => Call { op: 2, count: 4 }, // rule
-        0x16f70656e => Call { op: 3, count: 0 }, // open
-        0x173706c6974 => Call { op: 4, count: 1 }, // split
-        0x165646974 => Call { op: 5, count: 6 }, // edit
-        0x16a6f696e => Call { op: 6, count: 0 }, // join
-        0x173656e64 => Call { op: 7, count: 1 }, // send
-        0x17265706c6179 => Call { op: 8, count: 1 }, // replay
-        0x173746f70 => Call { op: 9, count: 0 }, // stop
-        0x1636f6e6669726d => Call { op: 10, count: 1 }, // confirm
-        0x1696e7374616c6c => Call { op: 11, count: 0 }, // install
-        0x173686f77 => Call { op: 12, count: 1 }, // show
-        0x166617465 => Call { op: 13, count: 1 }, // fate
-        0x16c656674 => Call { op: 14, count: 0 }, // left
+        0x16d656173757265 => Call {
+            op: call::MEASURE,
+            count: 1,
+        }, // measure
+        0x172756c65 => Call {
+            op: call::RULE,
+            count: 4,
+        }, // rule
+        0x16f70656e => Call {
+            op: call::OPEN,
+            count: 0,
+        }, // open
+        0x173706c6974 => Call {
+            op: call::SPLIT,
+            count: 1,
+        }, // split
+        0x165646974 => Call {
+            op: call::EDIT,
+            count: 6,
+        }, // edit
+        0x16a6f696e => Call {
+            op: call::JOIN,
+            count: 0,
+        }, // join
+        0x173656e64 => Call {
+            op: call::SEND,
+            count: 1,
+        }, // send
+        0x17265706c6179 => Call {
+            op: call::REPLAY,
+            count: 1,
+        }, // replay
+        0x173746f70 => Call {
+            op: call::STOP,
+            count: 0,
+        }, // stop
+        0x1636f6e6669726d => Call {
+            op: call::CONFIRM,
+            count: 1,
+        }, // confirm
+        0x1696e7374616c6c => Call {
+            op: call::INSTALL,
+            count: 0,
+        }, // install
+        0x173686f77 => Call {
+            op: call::SHOW,
+            count: 1,
+        }, // show
+        0x166617465 => Call {
+            op: call::FATE,
+            count: 1,
+        }, // fate
+        0x16c656674 => Call {
+            op: call::LEFT,
+            count: 0,
+        }, // left
         _ => Call { op: 0, count: 0 },
     }
 }

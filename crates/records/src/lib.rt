@@ -6,6 +6,7 @@ ghost use Rattle.protocol.specs.Plan.{fateNumber};
 ghost use Rattle.records.specs.Records.{fateOf, keptAt, keptOf, noRecord, withFate, testOf, recordOf};
 use change::Change;
 use heads::Head;
+use protocol::limit;
 
 // 01's fates.
 pub enum Fate {
@@ -79,10 +80,10 @@ pub fn satisfies(e: EditRecord, t: Test) -> u32
 }
 
 // How many of the kept edits pass a test.
-pub fn count(edits: [EditRecord; 256], h: Head, t: Test) -> u32
+pub fn count(edits: [EditRecord; limit::EDITS], h: Head, t: Test) -> u32
     ensures { λ r. ⌜ (r ≡ count (testOf t) (keptOf h edits)) × (r ≤ 256) ⌝ }
 {
-    let k = rows::capped(h.kept, 256);
+    let k = rows::capped(h.kept, limit::EDITS);
     let mut n: u32 = 0;
     let mut i: usize = 0;
     while i < k {

@@ -6,8 +6,9 @@ use lib.IntN.{ℤ, pos}
 use lib.ListN.{getD, set}
 use Rattle.protocol.specs.Lists.{isNone, oneTo, count}
 use Rattle.protocol.specs.Plan as model
-use Rattle.protocol.specs.Plan.{active, isWaiting, isSettled, fits, applied, value}
+use Rattle.protocol.specs.Plan.{active, isWaiting, isSettled, fits, applied, value, measureLimit, ruleLimit}
 use Rattle.protocol.specs.Calls.{Check, _unless_, _when_, Verdict, fine, refused, first}
+use Rattle.protocol.specs.Numbering.{lastMeasure}
 use Rattle.change.specs.declared.Change.{Change}
 use Rattle.change.specs.Change.{viewChange}
 use Rattle.rows.specs.Rows.{row}
@@ -32,7 +33,7 @@ replayChecks mode missing e earlier = (31 unless active mode) ∷ (34 unless isN
 -- ---- the trial on the draft
 
 abbrev pub draftIn : Head → List ℤ → List ℤ
-draftIn h draft = row draft 0 (min (h .drafted) 32)
+draftIn h draft = row draft 0 (min (h .drafted) measureLimit)
 
 -- whether a change takes effect, with the rules of three arrays and any test of them
 unfoldable pub effectiveIn : RuleTest → List ℕ → List ℤ → List ℕ → ℕ → ℕ → model.Change → List ℤ → Bool
@@ -43,8 +44,8 @@ effectiveIn test lower gap upper k m ch vs = fits m ch vs && test m lower gap up
 unfoldable pub draftOutcome : RuleTest → Head → List ℕ → List ℤ → List ℕ → List ℤ → ℕ → Change → ℤ → Outcome
 draftOutcome test h lower gap upper draft m c old =
     let vs = draftIn h draft in
-    let b = effectiveIn test lower gap upper (min (h .rules) 64) m (viewChange c) vs in
-    Settled b (cond (b && oneTo (min (h .drafted) 32) m) (applied (viewChange c) (value vs m)) old)
+    let b = effectiveIn test lower gap upper (min (h .rules) ruleLimit) m (viewChange c) vs in
+    Settled b (cond (b && oneTo (min (h .drafted) measureLimit) m) (applied (viewChange c) (value vs m)) old)
 
 abbrev pub settledBy : Verdict → Outcome → Outcome
 settledBy fine o = o
@@ -75,7 +76,7 @@ replayDecision (Denied k) standing old place = record { amount = old; entry = st
 replayDecision (Settled b x) standing old place = record { amount = x; entry = settledRecord standing b place; answer = Number (cond b 3 4) }
 
 abbrev pub pointOf : ℕ → ℕ
-pointOf m = min (m - 1) 31
+pointOf m = min (m - 1) lastMeasure
 
 -- the place of the edit that one, seen at a place from 1, names as earlier
 abbrev pub earlierAt : Head → ℕ → EditRecord → ℕ

@@ -12,6 +12,7 @@ ghost use Rattle.rules.specs.Table.{lowers, gaps, uppers};
 use change::Applied;
 use change::Change;
 use heads::Head;
+use protocol::limit;
 use records::EditRecord;
 use records::Fate;
 use rules::Index;
@@ -32,7 +33,7 @@ fn point(m: u32) -> usize
     if m == 0 {
         return 0;
     }
-    rows::capped(m - 1, 31)
+    rows::capped(m - 1, limit::LAST_MEASURE)
 }
 
 // Where the measure of an edit, seen at a place from 1, stands in the draft.
@@ -80,7 +81,7 @@ fn try_draft<'a>(
     h: Head,
     table: &'a Table,
     index: &'a Index,
-    draft: &'a [i32; 32],
+    draft: &'a [i32; limit::MEASURES],
     m: u32,
     change: Change,
     sound: bool,
@@ -90,7 +91,7 @@ fn try_draft<'a>(
 {
     let at = point(m);
     let old = draft[at];
-    let here = rows::one_to(rows::capped(h.drafted, 32), m);
+    let here = rows::one_to(rows::capped(h.drafted, limit::MEASURES), m);
     let made = change::apply(change, counted(here, old));
     let Applied::InRange(x) = made else {
         return Outcome::Settled(false, old);
@@ -110,7 +111,7 @@ pub fn decide_replay<'a>(
     h: Head,
     table: &'a Table,
     index: &'a Index,
-    draft: &'a [i32; 32],
+    draft: &'a [i32; limit::MEASURES],
     missing: u32,
     i: usize,
     standing: EditRecord,

@@ -9,6 +9,7 @@ use lib.Signed.{ltZ}
 use lib.ListN.{length, getD, set}
 use Rattle.protocol.specs.Lists.{natural, oneTo, count, all}
 use Rattle.protocol.specs.Plan as model
+use Rattle.protocol.specs.Plan.{measureLimit}
 use Rattle.rows.specs.Rows.{span}
 use Rattle.rules.specs.Rules.{withValue, namesAt, dueAt, RuleTest, testedIn, firmIn}
 
@@ -27,7 +28,7 @@ pub record Naming : Type 0 where
 
 -- where a measure's value stands in a row, from 0; 32 if it is none of 32, and 33 for measure m, whose value is not the row's
 abbrev pub placeOf : ℕ → ℕ → ℕ
-placeOf m k = cond (eqb k m) 33 (cond (oneTo 32 k) (k - 1) 32)
+placeOf m k = cond (eqb k m) 33 (cond (oneTo measureLimit k) (k - 1) 32)
 
 -- the place of the upper measure as it is, where m is the lower one; else that of the lower one below 0
 abbrev pub otherOf : ℕ → ℕ → ℕ → ℤ
@@ -82,8 +83,8 @@ flagIn index m = eqb (natural (getD index (64 + m) (pos 0))) 1
 
 -- the index of the first n rules
 pub record Indexed (index : List ℤ) (lower : List ℕ) (gap : List ℤ) (upper : List ℕ) (firm : List Bool) (n : ℕ) : Type 0 where
-  pub named : (m : ℕ) → m ≤ 32 → namingsIn index m ≡ namingsOf lower gap upper n m
-  pub firmly : (m : ℕ) → 0 < m → m ≤ 32 → flagIn index m ≡ firmIn lower upper firm n m
+  pub named : (m : ℕ) → m ≤ measureLimit → namingsIn index m ≡ namingsOf lower gap upper n m
+  pub firmly : (m : ℕ) → 0 < m → m ≤ measureLimit → flagIn index m ≡ firmIn lower upper firm n m
 
 -- where all rules are known to hold (`sound`), it is theirs
 abbrev pub IndexedIf : Bool → List ℤ → List ℕ → List ℤ → List ℕ → List Bool → ℕ → Type 0
@@ -106,7 +107,7 @@ pub record Added (lower : List ℕ) (gap : List ℤ) (upper : List ℕ) (end m n
 
 -- measures are indexed from 1 to 32; 0 stands for any other
 abbrev pub listedAs : ℕ → ℕ
-listedAs m = cond (leb m 32) m 0
+listedAs m = cond (leb m measureLimit) m 0
 
 -- the rules that the index has for measure m, tested
 unfoldable pub indexedIn : List ℤ → ℕ → ℤ → List ℤ → Bool

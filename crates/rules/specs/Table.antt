@@ -7,19 +7,20 @@ use lib.IntN.{ℤ, pos}
 use lib.ListN.{getD, set}
 use Rattle.protocol.specs.Lists.{natural}
 use Rattle.protocol.specs.Plan as model
+use Rattle.protocol.specs.Plan.{ruleLimit}
 use Rattle.rows.specs.Rows.{span}
 
 unfoldable pub lowers : List ℤ → List ℕ
-lowers table = span 0 64 (λ i. natural (getD table (4 * i) (pos 0)))
+lowers table = span 0 ruleLimit (λ i. natural (getD table (4 * i) (pos 0)))
 
 unfoldable pub gaps : List ℤ → List ℤ
-gaps table = span 0 64 (λ i. getD table (4 * i + 1) (pos 0))
+gaps table = span 0 ruleLimit (λ i. getD table (4 * i + 1) (pos 0))
 
 unfoldable pub uppers : List ℤ → List ℕ
-uppers table = span 0 64 (λ i. natural (getD table (4 * i + 2) (pos 0)))
+uppers table = span 0 ruleLimit (λ i. natural (getD table (4 * i + 2) (pos 0)))
 
 unfoldable pub firms : List ℤ → List Bool
-firms table = span 0 64 (λ i. eqb (natural (getD table (4 * i + 3) (pos 0))) 1)
+firms table = span 0 ruleLimit (λ i. eqb (natural (getD table (4 * i + 3) (pos 0))) 1)
 
 -- rule i written anew
 abbrev pub withRule : List ℤ → ℕ → ℤ → ℤ → ℤ → ℤ → List ℤ

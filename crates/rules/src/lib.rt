@@ -15,6 +15,7 @@ ghost use Rattle.rules.specs.Rules.{withValue, pairHolds, namesPair, nam
 ghost use Rattle.rules.specs.Index.{placeOf, otherOf, beyond, withNaming, NoneAbove, Added, Indexed, listedAs, sideHolds, indexedIn, testedBy, firmBy};
 use change::Applied;
 use change::Change;
+use protocol::limit;
 
 // A change tried on a row: the value that it makes, or why it takes no effect.
 pub enum Trial {
@@ -78,7 +79,7 @@ fn firm_of(table: &Table, i: usize) -> bool
 pub fn put_rule(table: &mut Table, k: u32, a: i32, c: i32, b: i32, f: i32)
     ensures { λ r. ⌜ now (table .exit) ≡ withRule (now (table .entry)) (min k 63) a c b f ⌝ }
 {
-    let i = rows::capped(k, 63);
+    let i = rows::capped(k, limit::LAST_RULE);
     table[4 * i] = a;
     table[4 * i + 1] = c;
     table[4 * i + 2] = b;
@@ -129,7 +130,7 @@ fn place_of(k: u32, m: u32) -> i32
     if k == m {
         return 33;
     }
-    if rows::one_to(32, k) {
+    if rows::one_to(limit::MEASURES, k) {
         return (k - 1) as i32;
     }
     32
@@ -231,7 +232,7 @@ fn bit(t: bool) -> i32
 pub fn indexed(table: &Table, k: u32) -> Index
     ensures { λ r. ⌜ Indexed r (lowers (now (table .entry))) (gaps (now (table .entry))) (uppers (now (table .entry))) (firms (now (table .entry))) (min k 64) ⌝ }
 {
-    let rules = rows::capped(k, 64);
+    let rules = rows::capped(k, limit::RULES);
     let top = highest(table, rules);
     let mut index = [0i32; 512];
     let mut n: usize = 0;
@@ -252,7 +253,7 @@ pub fn indexed(table: &Table, k: u32) -> Index
 fn listed(m: u32) -> usize
     ensures { λ r. ⌜ (r ≡ listedAs m) × (r ≤ 32) ⌝ }
 {
-    if m <= 32 {
+    if m <= limit::MEASURE {
         return m as usize;
     }
     0
@@ -343,8 +344,8 @@ pub fn all_hold<'a>(
 ) -> bool
     ensures { λ t. ⌜ t ≡ testedIn false m (lowers (now (table .entry))) (gaps (now (table .entry))) (uppers (now (table .entry))) (min k 64) x (row (now (values .entry)) at (min n 32)) ⌝ }
 {
-    let end = rows::capped(k, 64);
-    let size = rows::capped(n, 32);
+    let end = rows::capped(k, limit::RULES);
+    let size = rows::capped(n, limit::MEASURES);
     let mut i: usize = 0;
     while i < end {
         let a = lower_of(table, i);
@@ -375,7 +376,7 @@ pub fn hold<'a>(
         (min k 64) x (row (now (values .entry)) at (min n 32)) ⌝ }
 {
     if sound {
-        return broken_at(index, values, at, rows::capped(n, 32), m, x) == 128;
+        return broken_at(index, values, at, rows::capped(n, limit::MEASURES), m, x) == 128;
     }
     all_hold(table, k, values, at, n, m, x)
 }
@@ -396,7 +397,7 @@ fn names_firmly(f: bool, a: u32, b: u32, m: u32) -> bool
 fn firm_named(table: &Table, k: u32, m: u32) -> bool
     ensures { λ t. ⌜ t ≡ firmIn (lowers (now (table .entry))) (uppers (now (table .entry))) (firms (now (table .entry))) (min k 64) m ⌝ }
 {
-    let end = rows::capped(k, 64);
+    let end = rows::capped(k, limit::RULES);
     let mut i: usize = 0;
     while i < end {
         let f = firm_of(table, i);
@@ -449,7 +450,10 @@ pub fn try_change<'a>(
         (testedBy sound (now (index .entry)) m (lowers (now (table .entry))) (gaps (now (table .entry))) (uppers (now (table .entry))) (min k 64)) m
         (viewChange change) (row (now (values .entry)) at (min n 32)) ⌝ }
 {
-    let made = change::apply(change, value_at(values, at, rows::capped(n, 32), m));
+    let made = change::apply(
+        change,
+        value_at(values, at, rows::capped(n, limit::MEASURES), m),
+    );
     let Applied::InRange(x) = made else {
         return Trial::OutOfRange;
     };

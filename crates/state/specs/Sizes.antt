@@ -1,16 +1,18 @@
 -- Scaffolding: the lengths of a state's lists. Assumes nothing.
 use mathlib.Core.Path.{_≡_}
 use lib.ListN.{length}
+use Rattle.protocol.specs.Plan.{measureLimit, ruleLimit, sideLimit, keptLimit}
+use Rattle.protocol.specs.Numbering.{allValues}
 use Rattle.state.specs.Spread.{Spread}
 
 pub record Sized (p : Spread) : Type 0 where
-  pub base : length (p .base) ≡ 32
-  pub draft : length (p .draft) ≡ 32
-  pub values : length (p .values) ≡ 256
-  pub arrived : length (p .arrived) ≡ 8
-  pub confirmed : length (p .confirmed) ≡ 8
-  pub lower : length (p .lower) ≡ 64
-  pub gap : length (p .gap) ≡ 64
-  pub upper : length (p .upper) ≡ 64
-  pub firm : length (p .firm) ≡ 64
-  pub edits : length (p .edits) ≡ 256
+  pub base : length (p .base) ≡ measureLimit
+  pub draft : length (p .draft) ≡ measureLimit
+  pub values : length (p .values) ≡ allValues
+  pub arrived : length (p .arrived) ≡ sideLimit
+  pub confirmed : length (p .confirmed) ≡ sideLimit
+  pub lower : length (p .lower) ≡ ruleLimit
+  pub gap : length (p .gap) ≡ ruleLimit
+  pub upper : length (p .upper) ≡ ruleLimit
+  pub firm : length (p .firm) ≡ ruleLimit
+  pub edits : length (p .edits) ≡ keptLimit

@@ -8,6 +8,7 @@ use lib.IntN.{ℤ}
 use lib.ListN.{getD}
 use Rattle.protocol.specs.Plan as model
 use Rattle.protocol.specs.Calls.{Call, step}
+use Rattle.protocol.specs.Plan.{measureLimit, ruleLimit}
 use Rattle.rows.specs.Rows.{span, row}
 use Rattle.rules.specs.Table.{rulesIn, lowers, gaps, uppers, firms}
 use Rattle.heads.specs.declared.Head.{Head}
@@ -57,7 +58,7 @@ sideOf p s =
     }
 
 abbrev pub rulesOf : Spread → List model.Rule
-rulesOf p = rulesIn (p .lower) (p .gap) (p .upper) (p .firm) (min (p .head .rules) 64)
+rulesOf p = rulesIn (p .lower) (p .gap) (p .upper) (p .firm) (min (p .head .rules) ruleLimit)
 
 abbrev pub planOf : Spread → model.Plan
 planOf p =
@@ -67,8 +68,8 @@ planOf p =
           record {
             rules = rulesOf p;
             next = p .head .next;
-            base = row (p .base) 0 (min (p .head .based) 32);
-            draft = row (p .draft) 0 (min (p .head .drafted) 32);
+            base = row (p .base) 0 (min (p .head .based) measureLimit);
+            draft = row (p .draft) 0 (min (p .head .drafted) measureLimit);
             sides = span 1 (sidesIn (p .head)) (sideOf p);
             kept = keptOf (p .head) (p .edits);
           };

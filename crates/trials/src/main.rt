@@ -7,6 +7,7 @@ ghost use lib.ListN.{length};
 use plan::Answer;
 use plan::Answered;
 use plan::State;
+use protocol::call;
 use reader::Line;
 
 // The line of an answer and of a row of values behind it, as on a sheet, but for its first bytes.
@@ -36,18 +37,18 @@ fn show(p: State, s: i32, room: u32) {
 fn call(p: State, l: Line) -> Answered {
     let op = l.op;
     match op {
-        1 => plan::measure(p, l.a),
-        2 => plan::rule(p, l.a, l.b, l.c, l.d),
-        3 => plan::open_plan(p),
-        4 => plan::split(p, l.a),
-        5 => plan::edit(p, l.a, l.b, l.c, l.d, l.e, l.f),
-        6 => plan::join(p),
-        7 => plan::send(p, l.a),
-        8 => plan::replay(p, l.a),
-        9 => plan::stop(p),
-        10 => plan::confirm(p, l.a),
-        11 => plan::install(p),
-        13 => plan::fate(p, l.a),
+        call::MEASURE => plan::measure(p, l.a),
+        call::RULE => plan::rule(p, l.a, l.b, l.c, l.d),
+        call::OPEN => plan::open_plan(p),
+        call::SPLIT => plan::split(p, l.a),
+        call::EDIT => plan::edit(p, l.a, l.b, l.c, l.d, l.e, l.f),
+        call::JOIN => plan::join(p),
+        call::SEND => plan::send(p, l.a),
+        call::REPLAY => plan::replay(p, l.a),
+        call::STOP => plan::stop(p),
+        call::CONFIRM => plan::confirm(p, l.a),
+        call::INSTALL => plan::install(p),
+        call::FATE => plan::fate(p, l.a),
         _ => plan::left(p),
     }
 }
@@ -58,7 +59,7 @@ fn trial(p: State, l: Line, n: u32) -> State {
         io::write_all(1, b"\n");
         return plan::blank();
     }
-    if l.op == 12 {
+    if l.op == call::SHOW {
         show(p, l.a, n);
         return p;
     }
@@ -91,7 +92,7 @@ fn line(p: State, n: u32, text: &[u8], at: usize) -> Turn
 {
     let rest = &text[at..];
     let l = read(rest);
-    if 1 < n && l.op != 12 {
+    if 1 < n && l.op != call::SHOW {
         let r = call(p, l);
         let state = r.state;
         return Turn {
