@@ -243,16 +243,9 @@ fn send_in(
     arrived[place] = d.arrived;
     let answer = d.answer;
     note_sent(counts, counts::accepted(answer), side, was);
-    let entry = records::no_record();
-    Effect {
-        answer,
-        from: 0,
-        width: 0,
-        kept: false,
-        slot: 0,
-        entry,
-        marked: d.marked,
-    }
+    let mut e = plain_effect(answer);
+    e.marked = d.marked;
+    e
 }
 
 // Counts a send, if it was accepted.

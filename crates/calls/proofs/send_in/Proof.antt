@@ -17,7 +17,7 @@ use Rattle.exact.proofs.number.Reads as number-reads
 use Rattle.heads.proofs.from_numbers.Reads as from-numbers-reads
 use Rattle.heads.proofs.index.Reads as index-reads
 use Rattle.moves.proofs.decide_send.Reads as decide-send-reads
-use Rattle.records.proofs.no_record.Reads as no-record-reads
+use Rattle.calls.proofs.plain_effect.Reads as plain-effect-reads
 
 from-numbers-requires : tie.Need-from-numbers-requires
 from-numbers-requires c κs = search needs
@@ -49,8 +49,8 @@ accepted-requires c κs = search needs
 note-sent-requires : tie.Need-note-sent-requires
 note-sent-requires c κs = search needs
 
-no-record-requires : tie.Need-no-record-requires
-no-record-requires c κs = search needs
+plain-effect-requires : tie.Need-plain-effect-requires
+plain-effect-requires c κs = search needs
 
 returns : tie.Need-returns
 returns c =
@@ -60,12 +60,13 @@ returns c =
     let h = (c .before .before .before .before .before .before .before .before .before .before .from-numbers .result) in
     let d = (c .before .before .before .before .decide-send .result) in
     let to-a = toZ-ofZ (fits32 (l .a) ((c .before .before .before .before .before .before .before .before .before .struct-told .given .1 .0 .1))) in
-    λ base draft values confirmed table index look sound. lent (c .before .before .before .before .before .before .before .before .before .before .from-numbers .ensures)
-    (λ j. record { answer = d .answer; from = 0; width = 0; kept = false; slot = 0; entry = (c .no-record .ensures) j; marked = d .marked }) (sym (c .before .before .before .before .before .before .before .before .before .before .from-numbers .ensures))
+    rw (c .plain-effect .ensures)
+    (λ base draft values confirmed table index look sound. lent (c .before .before .before .before .before .before .before .before .before .before .from-numbers .ensures)
+    refl (sym (c .before .before .before .before .before .before .before .before .before .before .from-numbers .ensures))
     (send-making l h base draft values (a .arrived .now) confirmed table index look (a .counts .now) sound (s .pre) d
     ((c .before .before .before .before .before .before .before .before .number .ensures) ∙ ap natural to-a) (c .before .before .before .before .before .before .before .index .ensures .0)
     ((c .before .note-sent .ensures) ∙ ap (λ b. cond b (allSent (c .before .before .before .before .before .before .before .before .number .result) (getD (a .arrived .now) (c .before .before .before .before .before .before .before .index .result) false) (a .counts .now)) (a .counts .now)) (c .before .before .accepted .ensures))
-    (c .before .before .before .before .decide-send .ensures))
+    (c .before .before .before .before .decide-send .ensures)))
 
 pub send-in-spec : {M : Type 1} → statement M
 send-in-spec =
@@ -81,5 +82,5 @@ send-in-spec =
     element-write-arrived
     accepted-requires
     note-sent-requires
-    no-record-requires
+    plain-effect-requires
     returns)
