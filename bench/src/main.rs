@@ -47,6 +47,20 @@ fn drawn(measures: usize, rules: usize, firm: bool) -> String {
     text + "open\n"
 }
 
+/// Measure 1 between the other 31, with so many rules that name it, every second one as its upper measure.
+fn naming(rules: usize) -> String {
+    let mut text = String::from("measure 500\n");
+    for m in 2..=32 {
+        writeln!(text, "measure {}", if m % 2 == 0 { 1000 } else { 0 }).unwrap();
+    }
+    for rule in 0..rules {
+        let other = rule % 31 + 2;
+        let (lower, upper) = if other % 2 == 0 { (1, other) } else { (other, 1) };
+        writeln!(text, "rule {lower} 1 {upper} 0").unwrap();
+    }
+    text + "open\n"
+}
+
 /// Accepted edits of a whole plan, of every kind, that leave its values as they were.
 fn edits(measures: usize) -> String {
     let mut text = String::new();
@@ -174,6 +188,12 @@ fn growth() -> Vec<(&'static str, Vec<Workload>)> {
         let body = filled(&setup, &edits(32), 1000);
         rules.push(Workload::new(&format!("edit, {}", counted(count, "rule")), setup, body));
     }
+    let mut names = Vec::new();
+    for count in [0, 1, 3, 11, 64] {
+        let setup = naming(count);
+        let body = filled(&setup, "edit 1 1 0 1 2 10\nedit 1 1 0 1 2 -10\n", 1500);
+        names.push(Workload::new(&format!("edit, {} naming its measure", counted(count, "rule")), setup, body));
+    }
     // Refused at the last but one check, so that the plan stays as it is.
     let refused = |kept: usize| {
         let client = if kept == 0 { 1 } else { (kept - 1) % 8 + 1 };
@@ -222,7 +242,7 @@ fn growth() -> Vec<(&'static str, Vec<Workload>)> {
     for (name, sheet) in KITCHENS {
         run.push(Workload::new(&format!("examples/{name}, {} lines", sheet.lines().count()), String::new(), sheet.to_string()));
     }
-    vec![("rules", rules), ("kept edits", kept), ("sides", sides), ("a whole run", run)]
+    vec![("rules", rules), ("rules that name the measure", names), ("kept edits", kept), ("sides", sides), ("a whole run", run)]
 }
 
 /// Nanoseconds of one run; of a short one, the mean of several in a row.
