@@ -1,5 +1,5 @@
 -- Laws of names: packing is injective, so a name's place in the table is that of its code. Assumes nothing.
-use Prim.Native.Nat.{ℕ, zero, suc, _+_, _*_, _^_, _<_, _≤_}
+use Prim.Native.Nat.{ℕ, zero, suc, _+_, _-_, _*_, _^_, _<_, _≤_}
 use native.Mathlib.Omega.{arith}
 use native.Mathlib.Numerals.{add-one}
 use native.Mathlib.Nat.{pow-le-pow-right, mul-le-mul-right, mul-assoc}
@@ -143,6 +143,22 @@ no-place P code (f ∷ fs) m =
     let Q = P × (code ≡ packedBehind 1 (f .name) → ⊥) in
     rw (ne-eqb code (packedBehind 1 (f .name)) (known-before Q code fs m .1), no-place Q code fs m)
 
+-- ---- names of 4 letters, and of more
+
+-- the code of a name of 4 letters, without the 1 before them
+pub four-letters : (code four : ℕ) → 4294967296 ≤ code → code - 4294967296 ≡ four → code ≡ 4294967296 + four
+four-letters code four h e = omega arith
+
+pub not-four : (code four name : ℕ) → (code - 4294967296 ≡ four → ⊥) → name ≡ 4294967296 + four → code ≡ name → ⊥
+not-four code four name n f e = n (omega arith)
+
+-- a code below a bound is no name at or above it, and the other way round
+pub below-name : {code name bound : ℕ} → code < bound → bound ≤ name → code ≡ name → ⊥
+below-name h k e = omega arith
+
+pub above-name : {code name bound : ℕ} → bound ≤ code → name < bound → code ≡ name → ⊥
+above-name h k e = omega arith
+
 -- ---- the first word of a sheet
 
 abbrev pub wordIn : List ℕ → List ℕ
@@ -221,6 +237,15 @@ packed-four (a ∷ []) h = absurd (omega arith)
 packed-four (a ∷ b ∷ []) h = absurd (omega arith)
 packed-four (a ∷ b ∷ c ∷ []) h = absurd (omega arith)
 packed-four (a ∷ b ∷ c ∷ d ∷ bs) h = refl
+
+pub four-range : (bs : List ℕ) (code : ℕ) → Bytes bs → 4 ≤ length bs → code ≡ packedBehind 1 (take 4 bs) → (4294967296 ≤ code) × (code < 8589934592)
+four-range bs code h l e =
+    let p = packed-four bs l in
+    let a = h 0 in
+    let b = h 1 in
+    let c = h 2 in
+    let d = h 3 in
+    (omega (arith, e, p, a, b, c, d), omega (arith, e, p, a, b, c, d))
 
 -- the bytes up to a place are packed; behind the fourth none ends the word
 abbrev pub Packing : List ℕ → ℕ → ℕ → Type 0

@@ -202,46 +202,76 @@ fn read_number(sheet: &[u8], at: usize) -> Number
 // ---- names
 
 // The call of a name, packed: a 1 and the name's bytes are the digits of the code in base 256.
+// A name of 4 letters, whose bytes are those of a u32: nearly all calls have such a name.
+fn call_of_four(code: u64) -> Call
+    requires { ⌜ (4294967296 ≤ code) × (code < 8589934592) ⌝ }
+    ensures { λ r. ⌜ r ≡ callOfCode code ⌝ }
+{
+    let four = (code - 4294967296) as u32;
+    match four {
+        0x72756c65 => Call {
+            op: call::RULE,
+            count: 4,
+        }, // rule
+        0x6f70656e => Call {
+            op: call::OPEN,
+            count: 0,
+        }, // open
+        0x65646974 => Call {
+            op: call::EDIT,
+            count: 6,
+        }, // edit
+        0x6a6f696e => Call {
+            op: call::JOIN,
+            count: 0,
+        }, // join
+        0x73656e64 => Call {
+            op: call::SEND,
+            count: 1,
+        }, // send
+        0x73746f70 => Call {
+            op: call::STOP,
+            count: 0,
+        }, // stop
+        0x73686f77 => Call {
+            op: call::SHOW,
+            count: 1,
+        }, // show
+        0x66617465 => Call {
+            op: call::FATE,
+            count: 1,
+        }, // fate
+        0x6c656674 => Call {
+            op: call::LEFT,
+            count: 0,
+        }, // left
+        _ => Call { op: 0, count: 0 },
+    }
+}
+
+// A name of any length.
 fn call_of(code: u64) -> Call
     ensures { λ r. ⌜ r ≡ callOfCode code ⌝ }
 {
+    if code < 4294967296 {
+        return Call { op: 0, count: 0 };
+    }
+    if code < 8589934592 {
+        return call_of_four(code);
+    }
     match code {
         0x16d656173757265 => Call {
             op: call::MEASURE,
             count: 1,
         }, // measure
-        0x172756c65 => Call {
-            op: call::RULE,
-            count: 4,
-        }, // rule
-        0x16f70656e => Call {
-            op: call::OPEN,
-            count: 0,
-        }, // open
         0x173706c6974 => Call {
             op: call::SPLIT,
             count: 1,
         }, // split
-        0x165646974 => Call {
-            op: call::EDIT,
-            count: 6,
-        }, // edit
-        0x16a6f696e => Call {
-            op: call::JOIN,
-            count: 0,
-        }, // join
-        0x173656e64 => Call {
-            op: call::SEND,
-            count: 1,
-        }, // send
         0x17265706c6179 => Call {
             op: call::REPLAY,
             count: 1,
         }, // replay
-        0x173746f70 => Call {
-            op: call::STOP,
-            count: 0,
-        }, // stop
         0x1636f6e6669726d => Call {
             op: call::CONFIRM,
             count: 1,
@@ -250,19 +280,19 @@ fn call_of(code: u64) -> Call
             op: call::INSTALL,
             count: 0,
         }, // install
-        0x173686f77 => Call {
-            op: call::SHOW,
-            count: 1,
-        }, // show
-        0x166617465 => Call {
-            op: call::FATE,
-            count: 1,
-        }, // fate
-        0x16c656674 => Call {
-            op: call::LEFT,
-            count: 0,
-        }, // left
         _ => Call { op: 0, count: 0 },
+    }
+}
+
+fn named_four(code: u64) -> Name
+    requires { ⌜ (4294967296 ≤ code) × (code < 8589934592) ⌝ }
+    ensures { λ r. ⌜ (r .op ≡ callOfCode code .op) × (r .count ≡ callOfCode code .count) × (r .end ≡ 4) ⌝ }
+{
+    let call = call_of_four(code);
+    Name {
+        op: call.op,
+        count: call.count,
+        end: 4,
     }
 }
 
@@ -304,6 +334,9 @@ fn read_name(sheet: &[u8]) -> Name
         return named(0, 0);
     }
     let mut code = first_four(sheet);
+    if ends(byte_at(sheet, 4)) {
+        return named_four(code);
+    }
     let mut i: usize = 4;
     while i < 7 {
         let b = byte_at(sheet, i);

@@ -10,14 +10,14 @@ use lib.Dec.{eqb, ltb, leb}
 use lib.IntN.{ℤ, pos, negsuc, _+ℤ_}
 use lib.ListN.{length, getD}
 use lib.Signed.{ltZ}
-use Rattle.protocol.specs.Lists.{oneTo, all, snoc}
+use Rattle.protocol.specs.Lists.{natural, oneTo, all, snoc}
 use Rattle.protocol.specs.Plan.{value}
 use Rattle.protocol.proofs.Laws.{cases, and-false, range, is-yes}
 use Rattle.rows.specs.Rows.{span, row}
 use Rattle.rows.proofs.Spans.{span-next, span-over, all-span}
 use Rattle.rules.specs.Rules.{withValue, pairHolds, holdsAt, namesPair, namesAt, dueAt, testedIn, firmIn}
 use Rattle.rules.proofs.Rows.{value-row, value-outside, value-out, with-other}
-use Rattle.rules.specs.Index.{passing, placeOf, otherOf, otherAt, namingOf, namingsOf, namingHolds, sideHolds, namingAt, firstAt, lastAt, namingsIn, flagIn, Indexed, IndexedIf, listedAs, indexedIn, testedBy, firmBy}
+use Rattle.rules.specs.Index.{passing, placeOf, otherOf, beyond, otherAt, namingOf, namingsOf, namingHolds, sideHolds, namingAt, firstAt, lastAt, namingsIn, flagIn, Indexed, IndexedIf, listedAs, indexedIn, testedBy, firmBy}
 
 -- ---- what passes a test
 
@@ -77,6 +77,11 @@ module _ (vs : List ℤ) (at n : ℕ) (y : ℤ) (p : ℕ) where
 
   pub far-is : n ≤ p → cond (eqb p 33) y (pos 0) ≡ otherAt (value (row vs at n)) y p
   far-is h = ap (λ v. cond (eqb p 33) y v) (value-outside vs at n (p + 1) (omega arith) (omega arith))
+
+-- a rule whose other measure is past the row
+pub far-side : (vs : List ℤ) (at n : ℕ) (y o g : ℤ) → n ≤ natural o + beyond o → sideHolds (λ k. pos 0) y o g ≡ sideHolds (value (row vs at n)) y o g
+far-side vs at n y (pos p) g h = ap (λ v. ltZ (y +ℤ g) v) (far-is vs at n y p (omega arith))
+far-side vs at n y (negsuc p) g h = ap (λ v. ltZ (v +ℤ g) y) (far-is vs at n y p (omega arith))
 
 -- the place of the other measure
 pub other-upper : (m a b : ℕ) → a ≡ m → pos (placeOf m b) ≡ otherOf m a b

@@ -1,28 +1,18 @@
-// The rules of a plan as parallel number arrays, and their test on a row of values that lies in a larger array. Everything is lent.
+// The rules of a plan as one table of numbers, an index from each measure to the rules that name it, and their test on a row of values that lies in a larger array.
+// Everything is lent.
 ghost use mathlib.Core.Path.{_≡_};
-ghost use mathlib.Core.Bool.{false, cond, _&&_};
+ghost use mathlib.Core.Bool.{false, _&&_};
 ghost use Prim.Native.Nat.{_+_, _-_, _<_, _≤_, min};
-ghost use lib.Dec.{eqb};
-ghost use lib.IntN.{pos, negsuc, _+ℤ_};
+ghost use lib.IntN.{ℤ, pos, negsuc, _+ℤ_};
 ghost use lib.ListN.{length, getD};
 ghost use lib.Signed.{ltZ};
 ghost use Rattle.protocol.specs.Lists.{natural, count, bit as bitOf};
 ghost use Rattle.protocol.specs.Plan.{value};
-ghost use Rattle.change.specs.Change.{viewChange};
 ghost use Rattle.rows.specs.Rows.{span, row};
 ghost use Rattle.rules.specs.Table.{lowers, gaps, uppers, firms, withRule};
-ghost use Rattle.rules.specs.Rules.{withValue, pairHolds, namesPair, namesAt, testedIn, firmIn, trialOf};
+ghost use Rattle.rules.specs.Rules.{withValue, pairHolds, namesPair, namesAt, testedIn, firmIn};
 ghost use Rattle.rules.specs.Index.{placeOf, otherOf, beyond, withNaming, NoneAbove, Added, Indexed, listedAs, sideHolds, indexedIn, testedBy, firmBy};
-use change::Applied;
-use change::Change;
 use protocol::limit;
-
-// A change tried on a row: the value that it makes, or why it takes no effect.
-pub enum Trial {
-    Effective(i32),
-    OutOfRange,
-    Broken,
-}
 
 // The value of measure m in the row of n values that begins at a place; 0 where there is none.
 fn value_at(values: &[i32], at: usize, n: usize, m: u32) -> i32
@@ -259,54 +249,80 @@ fn listed(m: u32) -> usize
     0
 }
 
-// How many of n values from a place on an array of so many has.
+// What an array of so many has from a place on.
+fn rest(len: usize, at: usize) -> usize
+    ensures { λ r. ⌜ r ≡ len - at ⌝ }
+{
+    if at < len {
+        return len - at;
+    }
+    0
+}
+
+// How many of n values from a place on it has.
 fn room(len: usize, at: usize, n: usize) -> usize
     ensures { λ r. ⌜ r ≡ min n (len - at) ⌝ }
 {
-    if at < len {
-        let k = len - at;
-        if n < k {
-            return n;
-        }
-        return k;
+    let k = rest(len, at);
+    if n < k {
+        return n;
     }
-    0
+    k
 }
 
-// The value at a place past a row, where the measure that is tested counts as y.
-fn outside(p: usize, y: i32) -> i32
-    ensures { λ r. ⌜ r ≡ cond (eqb p 33) y (pos 0) ⌝ }
+// The place of a rule's other measure, as the index has it or put below 0.
+fn place_in(o: i32) -> usize
+    ensures { λ r. ⌜ r ≡ natural o + beyond o ⌝ }
+{
+    if o < 0 {
+        return behind(o) as usize;
+    }
+    exact::number(o) as usize
+}
+
+// What the gap is to be less than, so that a rule holds that names a measure, which counts as y, if its other measure is none of the row: it counts as 0, or, at
+// place 33, as y.
+fn far_limit(p: usize, y: i32, o: i32) -> i64
+    requires { ⌜ p ≡ natural o + beyond o ⌝ }
+    ensures { λ r. ⌜ ((g : ℤ) → ltZ g r ≡ sideHolds (λ k. pos 0) y o g) ⌝ }
 {
     if p == 33 {
-        return y;
+        return 0;
     }
-    0
+    if o < 0 {
+        return y as i64;
+    }
+    -(y as i64)
 }
 
 // Whether a rule holds that names a measure, which counts as y: from its other measure and its gap, as the index has them, on the row of n values that begins at a
-// place. Nearly all tests are made here, and one look at n is all that they need.
+// place. Nearly all tests are made here, and one look at n is all that they need. It stays so short that a compiler puts it into the callers of `hold`.
 fn naming_holds(values: &[i32], at: usize, n: usize, y: i32, o: i32, g: i32) -> bool
     requires { ⌜ (n ≤ 32) × (n ≤ length (now values) - at) ⌝ }
     ensures { λ t. ⌜ t ≡ sideHolds (value (row (now (values .entry)) at n)) y o g ⌝ }
 {
-    if o < 0 {
-        let p = behind(o) as usize;
-        if p < n {
-            return less_by(values[at + p], g, y);
-        }
-        return less_by(outside(p, y), g, y);
-    }
-    let p = exact::number(o) as usize;
+    let p = place_in(o);
     if p < n {
-        return less_by(y, g, values[at + p]);
+        let v = values[at + p];
+        if o < 0 {
+            return less_by(v, g, y);
+        }
+        return less_by(y, g, v);
     }
-    less_by(y, g, outside(p, y))
+    (g as i64) < far_limit(p, y, o)
 }
 
-// The place in the index of the first rule that does not hold, of those that it has for measure m, which counts as x; 128 if each holds. Any numbers may stand there.
-fn broken_at<'a>(index: &'a Index, values: &'a [i32], at: usize, n: usize, m: u32, x: i32) -> usize
+// Whether each rule holds that the index has for measure m, which counts as x. Any numbers may stand there.
+fn namings_hold<'a>(
+    index: &'a Index,
+    values: &'a [i32],
+    at: usize,
+    n: usize,
+    m: u32,
+    x: i32,
+) -> bool
     requires { ⌜ n ≤ 32 ⌝ }
-    ensures { λ r. ⌜ eqb r 128 ≡ indexedIn (now (index .entry)) m x (row (now (values .entry)) at n) ⌝ }
+    ensures { λ t. ⌜ t ≡ indexedIn (now (index .entry)) m x (row (now (values .entry)) at n) ⌝ }
 {
     let y = value_with(values, at, n, m, x, m);
     let size = room(values.len(), at, n);
@@ -315,11 +331,11 @@ fn broken_at<'a>(index: &'a Index, values: &'a [i32], at: usize, n: usize, m: u3
     let mut k = exact::number(index[p]) as usize;
     while k < last {
         if !naming_holds(values, at, size, y, index[129 + 3 * k], index[130 + 3 * k]) {
-            return k;
+            return false;
         }
         k += 1;
     }
-    128
+    true
 }
 
 fn pair_holds(values: &[i32], at: usize, n: usize, m: u32, x: i32, a: u32, g: i32, b: u32) -> bool
@@ -376,7 +392,7 @@ pub fn hold<'a>(
         (min k 64) x (row (now (values .entry)) at (min n 32)) ⌝ }
 {
     if sound {
-        return broken_at(index, values, at, rows::capped(n, limit::MEASURES), m, x) == 128;
+        return namings_hold(index, values, at, rows::capped(n, limit::MEASURES), m, x);
     }
     all_hold(table, k, values, at, n, m, x)
 }
@@ -430,35 +446,4 @@ pub fn firm_in<'a>(table: &'a Table, k: u32, index: &'a Index, m: u32, sound: bo
         return exact::number(index[64 + listed(m)]) == 1;
     }
     firm_named(table, k, m)
-}
-
-// ---- a change
-
-// A change of measure m tried on a row of at most 32 values against the first k rules, all of which held before if `sound`.
-pub fn try_change<'a>(
-    table: &'a Table,
-    k: u32,
-    index: &'a Index,
-    values: &'a [i32],
-    at: usize,
-    n: u32,
-    m: u32,
-    change: Change,
-    sound: bool,
-) -> Trial
-    ensures { λ r. ⌜ r ≡ trialOf
-        (testedBy sound (now (index .entry)) m (lowers (now (table .entry))) (gaps (now (table .entry))) (uppers (now (table .entry))) (min k 64)) m
-        (viewChange change) (row (now (values .entry)) at (min n 32)) ⌝ }
-{
-    let made = change::apply(
-        change,
-        value_at(values, at, rows::capped(n, limit::MEASURES), m),
-    );
-    let Applied::InRange(x) = made else {
-        return Trial::OutOfRange;
-    };
-    if hold(table, k, index, values, at, n, m, x, sound) {
-        return Trial::Effective(x);
-    }
-    Trial::Broken
 }

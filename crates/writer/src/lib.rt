@@ -49,7 +49,7 @@ fn width(n: u32) -> usize
 }
 
 // The digits of n up to a place, written from the last to the first, two at a time; the place where they begin.
-// A digit is what the quotient leaves, which compiles to less than `m % 10`.
+// `m % 100` tells a compiler that the two are below 100; a digit is what the quotient leaves, which compiles to less than `m % 10`.
 fn put_back(n: u32, end: usize, area: &mut [u8]) -> usize
     requires { ⌜ (length (digits n) ≤ end) × (end ≤ length (now area)) ⌝ }
     ensures { λ r. ⌜ (now (area .exit) ≡ sets (now (area .entry)) r (digits n)) × (r ≡ end - length (digits n)) ⌝ }
@@ -58,7 +58,7 @@ fn put_back(n: u32, end: usize, area: &mut [u8]) -> usize
     let mut i = end;
     while 100 <= m {
         let q = m / 100;
-        let r = m - q * 100;
+        let r = m % 100;
         let t = r / 10;
         area[i - 1] = (48 + (r - t * 10)) as u8;
         area[i - 2] = (48 + t) as u8;

@@ -9,7 +9,7 @@ use Rattle.format.specs.Lines.{lineFeed}
 use Rattle.reader.specs.declared.Name.{Name}
 use Rattle.reader.specs.Cut.{firstLine}
 use Rattle.reader.specs.Reads.{isEnd, opOf, callOfCode, takenBy, Named}
-use Rattle.reader.proofs.Names.{Bytes, wordIn, Packing, word-most, nameless-few, packing-begin, packing-next, packing-small, packing-stop, packing-long}
+use Rattle.reader.proofs.Names.{Bytes, wordIn, Packing, word-most, nameless-few, four-range, packing-begin, packing-next, packing-small, packing-stop, packing-long}
 use Rattle.reader.proofs.read_name.Statement.{statement}
 use Rattle.reader.proofs.read_name.Tie as tie
 use Rattle.reader.proofs.read_name.Reads as reads
@@ -18,6 +18,7 @@ use Rattle.reader.proofs.byte_at.Reads as byte-at-reads
 use Rattle.reader.proofs.ends.Reads as ends-reads
 use Rattle.reader.proofs.first_four.Reads as first-four-reads
 use Rattle.reader.proofs.named.Reads as named-reads
+use Rattle.reader.proofs.named_four.Reads as named-four-reads
 use Rattle.reader.proofs.packed.Reads as packed-reads
 
 -- what is found where the name ends
@@ -49,26 +50,45 @@ returns c =
 first-four-requires : tie.Need-first-four-requires Inv-loop μ-loop
 first-four-requires c κs = omega (arith, (c .if1 .left))
 
-loop-holds : tie.Need-loop-holds Inv-loop μ-loop
-loop-holds c =
-    packing-begin ((c .before .before .before .args .sheet .now)) ((c .first-four .result)) (omega (arith, (c .before .if1 .left))) ((c .first-four .ensures))
-
 byte-at-requires : tie.Need-byte-at-requires Inv-loop μ-loop
 byte-at-requires c κs = search needs
 
 ends-requires : tie.Need-ends-requires Inv-loop μ-loop
 ends-requires c κs = search needs
 
-named-requires-2 : tie.Need-named-requires-2 Inv-loop μ-loop
-named-requires-2 c κs = search needs
+-- what is known of the first four bytes
+first : (c : tie.After-first-four Inv-loop μ-loop) → Packing (c .before .before .before .args .sheet .now) (c .first-four .result) 4
+first c = packing-begin (c .before .before .before .args .sheet .now) (c .first-four .result) (omega (arith, (c .before .if1 .left))) (c .first-four .ensures)
+
+named-four-requires : tie.Need-named-four-requires Inv-loop μ-loop
+named-four-requires c κs =
+    let d = (c .before .before .before) in
+    four-range (d .before .before .before .args .sheet .now) (d .first-four .result) (λ k. (d .before .before .shared-slice-known .given) k .fits) (omega (arith, (d .before .if1 .left))) (d .first-four .ensures)
 
 returns-2 : tie.Need-returns-2 Inv-loop μ-loop
 returns-2 c =
-    found-name ((c .before .before .before .before .before .before .before .before .before .args .sheet .now)) ((c .before .before .before .before .before .loop .code)) ((c .before .before .before .before .before .loop .i)) _ _ (λ k. (c .before .before .before .before .before .before .before .before .shared-slice-known .given) k .fits) ((c .before .before .before .before .before .loop .inv)) ((c .before .before .before .byte-at .ensures)) (sym ((c .before .before .ends .ensures)) ∙ ((c .before .if2 .taken))) ((c .named2 .ensures .0)) ((c .named2 .ensures .1)) ((c .named2 .ensures .2))
+    let d = (c .before .before .before .before) in
+    found-name (d .before .before .before .args .sheet .now) (d .first-four .result) 4 _ _ (λ k. (d .before .before .shared-slice-known .given) k .fits) (first d) (c .before .before .before .byte-at .ensures) (sym (c .before .before .ends .ensures) ∙ (c .before .if2 .taken)) (c .named-four .ensures .0) (c .named-four .ensures .1) (c .named-four .ensures .2)
+
+loop-holds : tie.Need-loop-holds Inv-loop μ-loop
+loop-holds c = first (c .before .before .before)
+
+byte-at-requires-2 : tie.Need-byte-at-requires-2 Inv-loop μ-loop
+byte-at-requires-2 c κs = search needs
+
+ends-requires-2 : tie.Need-ends-requires-2 Inv-loop μ-loop
+ends-requires-2 c κs = search needs
+
+named-requires-2 : tie.Need-named-requires-2 Inv-loop μ-loop
+named-requires-2 c κs = search needs
+
+returns-3 : tie.Need-returns-3 Inv-loop μ-loop
+returns-3 c =
+    found-name ((c .before .before .before .before .before .before .before .before .before .before .before .before .args .sheet .now)) ((c .before .before .before .before .before .loop .code)) ((c .before .before .before .before .before .loop .i)) _ _ (λ k. (c .before .before .before .before .before .before .before .before .before .before .before .shared-slice-known .given) k .fits) ((c .before .before .before .before .before .loop .inv)) ((c .before .before .before .byte-at2 .ensures)) (sym ((c .before .before .ends2 .ensures)) ∙ ((c .before .if3 .taken))) ((c .named2 .ensures .0)) ((c .named2 .ensures .1)) ((c .named2 .ensures .2))
 
 packed-requires : tie.Need-packed-requires Inv-loop μ-loop
 packed-requires c κs =
-    omega (arith, packing-small ((c .before .before .before .before .before .before .before .before .args .sheet .now)) (λ k. (c .before .before .before .before .before .before .before .shared-slice-known .given) k .fits) ((c .before .before .before .before .loop .code)) ((c .before .before .before .before .loop .i)) ((c .before .before .before .before .loop .inv)) (omega (arith, (c .before .before .before .loop-test .taken))))
+    omega (arith, packing-small ((c .before .before .before .before .before .before .before .before .before .before .before .args .sheet .now)) (λ k. (c .before .before .before .before .before .before .before .before .before .before .shared-slice-known .given) k .fits) ((c .before .before .before .before .loop .code)) ((c .before .before .before .before .loop .i)) ((c .before .before .before .before .loop .inv)) (omega (arith, (c .before .before .before .loop-test .taken))))
 
 add-i : tie.Need-add-i Inv-loop μ-loop
 add-i c = omega (arith, (c .before .before .before .before .loop-test .taken))
@@ -78,31 +98,31 @@ loop-less c = omega (arith, (c .before .before .before .before .loop-test .taken
 
 loop-again : tie.Need-loop-again Inv-loop μ-loop
 loop-again c =
-    let bs = (c .before .before .before .before .before .before .before .before .before .args .sheet .now) in
-    let e = (c .before .before .before .byte-at .ensures) in
+    let bs = (c .before .before .before .before .before .before .before .before .before .before .before .before .args .sheet .now) in
+    let e = (c .before .before .before .byte-at2 .ensures) in
     subst (λ k. Packing bs k ((c .before .before .before .before .before .loop .i) + 1)) (ap (λ b. (c .before .before .before .before .before .loop .code) * 256 + b) (sym e) ∙ sym ((c .packed .ensures)))
-    (packing-next bs (λ k. (c .before .before .before .before .before .before .before .before .shared-slice-known .given) k .fits) ((c .before .before .before .before .before .loop .code)) ((c .before .before .before .before .before .loop .i)) ((c .before .before .before .before .before .loop .inv)) (ap isEnd (sym e) ∙ sym ((c .before .before .ends .ensures)) ∙ ((c .before .if2 .left))) (omega (arith, (c .before .before .before .before .loop-test .taken))))
+    (packing-next bs (λ k. (c .before .before .before .before .before .before .before .before .before .before .before .shared-slice-known .given) k .fits) ((c .before .before .before .before .before .loop .code)) ((c .before .before .before .before .before .loop .i)) ((c .before .before .before .before .before .loop .inv)) (ap isEnd (sym e) ∙ sym ((c .before .before .ends2 .ensures)) ∙ ((c .before .if3 .left))) (omega (arith, (c .before .before .before .before .loop-test .taken))))
 
-byte-at-requires-2 : tie.Need-byte-at-requires-2 Inv-loop μ-loop
-byte-at-requires-2 c κs = search needs
+byte-at-requires-3 : tie.Need-byte-at-requires-3 Inv-loop μ-loop
+byte-at-requires-3 c κs = search needs
 
-ends-requires-2 : tie.Need-ends-requires-2 Inv-loop μ-loop
-ends-requires-2 c κs = search needs
+ends-requires-3 : tie.Need-ends-requires-3 Inv-loop μ-loop
+ends-requires-3 c κs = search needs
 
 named-requires-3 : tie.Need-named-requires-3 Inv-loop μ-loop
 named-requires-3 c κs = search needs
 
-returns-3 : tie.Need-returns-3 Inv-loop μ-loop
-returns-3 c =
-    found-name ((c .before .before .before .before .before .before .before .before .before .args .sheet .now)) ((c .before .before .before .before .before .loop .code)) ((c .before .before .before .before .before .loop .i)) _ _ (λ k. (c .before .before .before .before .before .before .before .before .shared-slice-known .given) k .fits) ((c .before .before .before .before .before .loop .inv)) ((c .before .before .before .byte-at2 .ensures)) (sym ((c .before .before .ends2 .ensures)) ∙ ((c .before .if3 .taken))) ((c .named3 .ensures .0)) ((c .named3 .ensures .1)) ((c .named3 .ensures .2))
+returns-4 : tie.Need-returns-4 Inv-loop μ-loop
+returns-4 c =
+    found-name ((c .before .before .before .before .before .before .before .before .before .before .before .before .args .sheet .now)) ((c .before .before .before .before .before .loop .code)) ((c .before .before .before .before .before .loop .i)) _ _ (λ k. (c .before .before .before .before .before .before .before .before .before .before .before .shared-slice-known .given) k .fits) ((c .before .before .before .before .before .loop .inv)) ((c .before .before .before .byte-at3 .ensures)) (sym ((c .before .before .ends3 .ensures)) ∙ ((c .before .if4 .taken))) ((c .named3 .ensures .0)) ((c .named3 .ensures .1)) ((c .named3 .ensures .2))
 
 named-requires-4 : tie.Need-named-requires-4 Inv-loop μ-loop
 named-requires-4 c κs = search needs
 
-returns-4 : tie.Need-returns-4 Inv-loop μ-loop
-returns-4 c =
-    let bs = (c .before .before .before .before .before .before .before .before .before .args .sheet .now) in
-    no-name bs _ (packing-long bs (λ k. (c .before .before .before .before .before .before .before .before .shared-slice-known .given) k .fits) ((c .before .before .before .before .before .loop .code)) ((c .before .before .before .before .before .loop .i)) ((c .before .before .before .before .before .loop .inv)) (ap isEnd (sym ((c .before .before .before .byte-at2 .ensures))) ∙ sym ((c .before .before .ends2 .ensures)) ∙ ((c .before .if3 .left))) (omega (arith, (c .before .before .before .before .loop-test .left)))) ((c .named4 .ensures .0)) ((c .named4 .ensures .1))
+returns-5 : tie.Need-returns-5 Inv-loop μ-loop
+returns-5 c =
+    let bs = (c .before .before .before .before .before .before .before .before .before .before .before .before .args .sheet .now) in
+    no-name bs _ (packing-long bs (λ k. (c .before .before .before .before .before .before .before .before .before .before .before .shared-slice-known .given) k .fits) ((c .before .before .before .before .before .loop .code)) ((c .before .before .before .before .before .loop .i)) ((c .before .before .before .before .before .loop .inv)) (ap isEnd (sym ((c .before .before .before .byte-at3 .ensures))) ∙ sym ((c .before .before .ends3 .ensures)) ∙ ((c .before .if4 .left))) (omega (arith, (c .before .before .before .before .loop-test .left)))) ((c .named4 .ensures .0)) ((c .named4 .ensures .1))
 
 pub read-name-spec : {M : Type 1} → statement M
 read-name-spec =
@@ -113,18 +133,22 @@ read-name-spec =
     named-requires
     returns
     first-four-requires
-    loop-holds
     byte-at-requires
     ends-requires
-    named-requires-2
+    named-four-requires
     returns-2
+    loop-holds
+    byte-at-requires-2
+    ends-requires-2
+    named-requires-2
+    returns-3
     packed-requires
     add-i
     loop-less
     loop-again
-    byte-at-requires-2
-    ends-requires-2
+    byte-at-requires-3
+    ends-requires-3
     named-requires-3
-    returns-3
+    returns-4
     named-requires-4
-    returns-4)
+    returns-5)

@@ -14,13 +14,13 @@ use Rattle.rules.proofs.hold.Reads as reads
 use Rattle.rules.proofs.hold.Lts as lts
 use Rattle.rows.proofs.capped.Reads as capped-reads
 use Rattle.rules.proofs.all_hold.Reads as all-hold-reads
-use Rattle.rules.proofs.broken_at.Reads as broken-at-reads
+use Rattle.rules.proofs.namings_hold.Reads as namings-hold-reads
 
 capped-requires : tie.Need-capped-requires
 capped-requires c κs = search needs
 
-broken-at-requires : tie.Need-broken-at-requires
-broken-at-requires c κs = let n = c .capped .ensures in omega arith
+namings-hold-requires : tie.Need-namings-hold-requires
+namings-hold-requires c κs = let n = c .capped .ensures in omega arith
 
 returns : tie.Need-returns
 unfolding testedBy
@@ -28,7 +28,7 @@ returns c =
     let s = (c .before .before .before) in
     let a = s .args in
     let n = (c .before .capped .ensures) in
-    rw (c .before .before .if1 .taken) ((c .broken-at .ensures) ∙ (λ i. indexedIn (a .index .now) (a .m) (toZ-ofZ (s .fits .x) i) (row (a .values .now) (a .at) (n i))))
+    rw (c .before .before .if1 .taken) ((c .namings-hold .ensures) ∙ (λ i. indexedIn (a .index .now) (a .m) (toZ-ofZ (s .fits .x) i) (row (a .values .now) (a .at) (n i))))
 
 all-hold-requires : tie.Need-all-hold-requires
 all-hold-requires c κs = search needs
@@ -42,4 +42,4 @@ returns-2 c =
 
 pub hold-spec : {M : Type 1} → statement M
 hold-spec =
-    tie.close (tie.spec capped-requires broken-at-requires returns all-hold-requires returns-2)
+    tie.close (tie.spec capped-requires namings-hold-requires returns all-hold-requires returns-2)

@@ -22,12 +22,6 @@ loop-holds c =
 room : (c : tie.At-loop Inv-loop μ-loop) → 10 ≤ c .loop .m → (1 < c .loop .i) × (c .loop .i ≤ length (c .loop .area))
 room c h = let r = writing-above-two _ _ _ _ _ _ (c .loop .inv .0) h in (omega arith, c .loop .inv .0 .0)
 
-mul-r : tie.Need-mul-r Inv-loop μ-loop
-mul-r c = omega arith
-
-sub-r : tie.Need-sub-r Inv-loop μ-loop
-sub-r c = omega arith
-
 mul-area : tie.Need-mul-area Inv-loop μ-loop
 mul-area c = omega arith
 
@@ -131,8 +125,6 @@ put-back-spec =
     Inv-loop
     μ-loop
     loop-holds
-    mul-r
-    sub-r
     mul-area
     sub-area
     add-area

@@ -8,7 +8,7 @@ use lib.ListN.{getD}
 use mir.Syntax.{w32}
 use mir.Val.{toZ, ofZ}
 use mir.Facts.{toZ-ofZ}
-use borrow.Author.Tests.{not-true, not-false, ne-eqb}
+use borrow.Author.Tests.{not-true, not-false}
 use Rattle.exact.proofs.Ints.{fits32}
 use Rattle.protocol.specs.Lists.{natural, all}
 use Rattle.protocol.specs.Plan.{value}
@@ -17,10 +17,10 @@ use Rattle.rules.specs.Rules.{withValue}
 use Rattle.rules.specs.Index.{namingHolds, namingAt, sideHolds, indexedIn}
 use Rattle.rules.proofs.Indexes.{reading-begin, reading-next, reading-stop, reading-over, side-same}
 use Rattle.rules.proofs.Rows.{value-room}
-use Rattle.rules.proofs.broken_at.Statement.{statement}
-use Rattle.rules.proofs.broken_at.Tie as tie
-use Rattle.rules.proofs.broken_at.Reads as reads
-use Rattle.rules.proofs.broken_at.Lts as lts
+use Rattle.rules.proofs.namings_hold.Statement.{statement}
+use Rattle.rules.proofs.namings_hold.Tie as tie
+use Rattle.rules.proofs.namings_hold.Reads as reads
+use Rattle.rules.proofs.namings_hold.Lts as lts
 use Rattle.exact.proofs.number.Reads as number-reads
 use Rattle.rows.proofs.capped.Reads as capped-reads
 use Rattle.rules.proofs.listed.Reads as listed-reads
@@ -135,9 +135,7 @@ naming-holds-requires c κs =
 
 returns : tie.Need-returns Inv-loop μ-loop
 returns c =
-    let k = (c .before .before .before .before .before .loop .k) in
-    ne-eqb k 128 (omega arith)
-    ∙ (reading-stop _ _ _ _ _ (c .before .before .before .before .before .loop .k) (c .before .before .before .before .before .loop .inv) (omega arith) (sym (tested (c .before)) ∙ not-true _ (c .if1 .taken)) ∙ exactly (c .before .before .before .before .before .before .before .before .before .before .before .before .before .before))
+    reading-stop _ _ _ _ _ (c .before .before .before .before .before .loop .k) (c .before .before .before .before .before .loop .inv) (omega arith) (sym (tested (c .before)) ∙ not-true _ (c .if1 .taken)) ∙ exactly (c .before .before .before .before .before .before .before .before .before .before .before .before .before .before)
 
 add-k : tie.Need-add-k Inv-loop μ-loop
 add-k c = omega arith
@@ -153,8 +151,8 @@ returns-2 : tie.Need-returns-2 Inv-loop μ-loop
 returns-2 c =
     (reading-over _ _ _ _ _ (c .before .loop .k) (c .before .loop .inv) (omega arith) ∙ exactly (c .before .before .before .before .before .before .before .before .before .before))
 
-pub broken-at-spec : {M : Type 1} → statement M
-broken-at-spec =
+pub namings-hold-spec : {M : Type 1} → statement M
+namings-hold-spec =
     tie.close
     (tie.spec
     Inv-loop
