@@ -40,7 +40,7 @@ fn tell(head: Head, answer: Answer) -> Told
 fn deny(head: Head, k: u32) -> Told
     ensures { λ r. ⌜ r ≡ deniedAs head k ⌝ }
 {
-    let answer = Answer::Refused(k);
+    let answer = Answer::Refused(k, 0);
     tell(head, answer)
 }
 
@@ -165,7 +165,7 @@ fn split_in(
     let i = heads::index(to);
     put_flag(arrived, i, false);
     put_flag(confirmed, i, false);
-    let answer = Answer::Number(to);
+    let answer = Answer::Given(1, to, 0, 0);
     tell(split_head(h), answer)
 }
 
@@ -187,7 +187,7 @@ fn join_in(
     *draft = *base;
     *arrived = [false; 8];
     *confirmed = [false; 8];
-    let answer = Answer::Done;
+    let answer = Answer::Given(0, 0, 0, 0);
     tell(join_head(h), answer)
 }
 
@@ -276,14 +276,14 @@ pub fn decide_send(h: Head, s: u32, arrived: bool, unsent: u32) -> Sending
 {
     let k = send_refusal(h, s, arrived, unsent);
     if k != 0 {
-        let answer = Answer::Refused(k);
+        let answer = Answer::Refused(k, 0);
         return Sending {
             marked: 0,
             arrived,
             answer,
         };
     }
-    let answer = Answer::Number(unsent);
+    let answer = Answer::Given(1, unsent, 0, 0);
     Sending {
         marked: rows::capped(h.kept, 256),
         arrived: true,
@@ -328,7 +328,7 @@ fn stop_in(h: Head, arrived: &[bool; 8], waiting: u32) -> Told
     if k != 0 {
         return deny(h, k);
     }
-    let answer = Answer::Done;
+    let answer = Answer::Given(0, 0, 0, 0);
     tell(heads::in_mode(h, Mode::Closing), answer)
 }
 
@@ -345,7 +345,7 @@ fn confirm_in(h: Head, confirmed: &mut [bool; 8], s: i32, unsent: u32) -> Told
         return deny(h, k);
     }
     put_flag(confirmed, i, true);
-    let answer = Answer::Done;
+    let answer = Answer::Given(0, 0, 0, 0);
     tell(h, answer)
 }
 
@@ -370,7 +370,7 @@ fn install_in(
     rows::copy(values, draft, 0, 0, 32);
     put_flag(arrived, 0, false);
     put_flag(confirmed, 0, false);
-    let answer = Answer::Done;
+    let answer = Answer::Given(0, 0, 0, 0);
     tell(install_head(h), answer)
 }
 
