@@ -25,11 +25,11 @@ use Rattle.records.specs.declared.EditRecord.{EditRecord}
 use Rattle.records.specs.Records.{keptOf, noRecord, recordOf}
 use Rattle.state.specs.Spread.{Spread}
 use Rattle.state.specs.declared.Answer.{Answer}
-use Rattle.state.specs.declared.Answer.the-variants.{Refused, Done, Number, Pair}
+use Rattle.state.specs.declared.Answer.the-variants.{Refused, Given}
 use Rattle.state.specs.Spread.{planOf}
 use Rattle.state.specs.Sizes.{Sized}
 use Rattle.state.specs.Spread.{namedIn}
-use Rattle.state.specs.Meets.{answerOf}
+use Rattle.state.specs.Meets.{answerOf, refusal, number}
 use Rattle.state.specs.Spread.{SameIfRefused, MeetsSpread}
 use Rattle.state.proofs.Views.{sides-most}
 use Rattle.moves.specs.declared.Told.{Told}
@@ -77,23 +77,17 @@ same-state p q b e =
     λ i. record { head = e i .head; base = e i .base; draft = e i .draft; values = e i .values; arrived = e i .arrived; confirmed = e i .confirmed; table = b i; edits = e i .edits }
 
 same-if : (a : Answer) (p q : State) → (isAccepted a ≡ false → q .table ≡ p .table) → SameIfRefused a (spread p) (spread q) → SameIf a (q ≡ p)
-same-if (Refused k) p q b e = same-state p q (b refl) e
-same-if Done p q b e = tt
-same-if (Number n) p q b e = tt
-same-if (Pair m n) p q b e = tt
+same-if (Refused k r) p q b e = same-state p q (b refl) e
+same-if (Given count l m n) p q b e = tt
 
 all-same : (a : Answer) (p q : State) → q ≡ p → SameIf a (q ≡ p)
-all-same (Refused k) p q e = e
-all-same Done p q e = tt
-all-same (Number n) p q e = tt
-all-same (Pair m n) p q e = tt
+all-same (Refused k r) p q e = e
+all-same (Given count l m n) p q e = tt
 
 -- a refusal leaves everything
 refused-same : (a : Answer) {A : Type 0} → isAccepted a ≡ false → SameIf a A → A
-refused-same (Refused k) e x = x
-refused-same Done e x = absurd (is-yes (sym e))
-refused-same (Number n) e x = absurd (is-yes (sym e))
-refused-same (Pair m n) e x = absurd (is-yes (sym e))
+refused-same (Refused k r) e x = x
+refused-same (Given count l m n) e x = absurd (is-yes (sym e))
 
 and-true : (b : Bool) → (b && true) ≡ b
 and-true true = refl
@@ -178,20 +172,20 @@ module _ (l : Line) (h : Head) (base draft values : List ℤ) (arrived confirmed
     pub keeps : (edits : List EditRecord) → noted e edits ≡ cond (d .kept) (set edits (slotOf h) (d .entry)) edits
     pub counts : t′ ≡ cond (d .kept) (oneUnsent (natural (l .a)) (getD arrived (indexOf (natural (l .a))) false) t) t
 
-  pub edit-refused : (k : ℕ) {r : Ruling} {e : Effect} → r ≡ Denied k → e ≡ plain (Refused k) → Edits (ruledAs r) e h values t
+  pub edit-refused : (k : ℕ) {r : Ruling} {e : Effect} → r ≡ Denied k → e ≡ plain (refusal k) → Edits (ruledAs r) e h values t
   edit-refused k {r = r} {e = e} r-is e-is =
       subst (λ x. Edits (ruledAs x) e h values t) (sym r-is) (subst (λ x. Edits (ruledAs (Denied k)) x h values t) (sym e-is)
       (record { bare = (refl, refl, refl, omega arith); answer = refl; head = refl; written = sym (set-getD values spot (pos 0)); keeps = λ es. refl; counts = refl }))
 
   -- in a whole plan an edit is not kept, in another it is
   pub edit-made : (ch : Change) (x : ℤ) {r : Ruling} {e : Effect} {h′ : Head} {values′ : List ℤ} → r ≡ Granted ch x → is whole (modeOf (h .mode)) ≡ true
-      → e ≡ plain (Number (h .next)) → h′ ≡ editHead h → values′ ≡ set values spot x → Edits (ruledAs r) e h′ values′ t
+      → e ≡ plain (number (h .next)) → h′ ≡ editHead h → values′ ≡ set values spot x → Edits (ruledAs r) e h′ values′ t
   edit-made ch x {r = r} {e = e} {h′ = h′} {values′ = values′} r-is w e-is h-is values-is =
       subst (λ y. Edits (ruledAs y) e h′ values′ t) (sym r-is) (subst (λ y. Edits (ruledAs (Granted ch x)) y h′ values′ t) (sym e-is)
       (record { bare = (refl, refl, refl, omega arith); answer = refl; head = h-is; written = values-is; keeps = λ es. rw w; counts = rw w }))
 
   pub edit-kept : (ch : Change) (x : ℤ) {r : Ruling} {e : Effect} {h′ : Head} {values′ : List ℤ} {t′ : List ℕ} → r ≡ Granted ch x → is whole (modeOf (h .mode)) ≡ false
-      → e ≡ stored (Number (h .next)) (slotOf h) (editRecord h (natural (l .a)) (natural (l .b)) (natural (l .c)) (natural (l .d)) ch) → h′ ≡ editHead h → values′ ≡ set values spot x
+      → e ≡ stored (number (h .next)) (slotOf h) (editRecord h (natural (l .a)) (natural (l .b)) (natural (l .c)) (natural (l .d)) ch) → h′ ≡ editHead h → values′ ≡ set values spot x
       → t′ ≡ oneUnsent (natural (l .a)) (getD arrived (indexOf (natural (l .a))) false) t → Edits (ruledAs r) e h′ values′ t′
   edit-kept ch x {r = r} {e = e} {h′ = h′} {values′ = values′} {t′ = t′} r-is w e-is h-is values-is counts-is =
       subst (λ y. Edits (ruledAs y) e h′ values′ t′) (sym r-is) (subst (λ y. Edits (ruledAs (Granted ch x)) y h′ values′ t′) (sym e-is)
@@ -244,13 +238,13 @@ module _ (l : Line) (h : Head) (base draft values : List ℤ) (arrived confirmed
     pub keeps : (edits : List EditRecord) → look .standing ≡ getD edits (slotAt (look .named)) noRecord → noted e edits ≡ set edits (slotAt (look .named)) (d .entry)
     pub counts : t′ ≡ cond (isAccepted (d .answer)) (oneSettled t) t
 
-  pub replay-refused : (k : ℕ) {r : Outcome} {e : Effect} → r ≡ Barred k → e ≡ plain (Refused k) → Settles (settledAs r) e draft t
+  pub replay-refused : (k : ℕ) {r : Outcome} {e : Effect} → r ≡ Barred k → e ≡ plain (refusal k) → Settles (settledAs r) e draft t
   replay-refused k {r = r} {e = e} r-is e-is =
       subst (λ x. Settles (settledAs x) e draft t) (sym r-is) (subst (λ x. Settles (settledAs (Barred k)) x draft t) (sym e-is)
       (record { bare = (refl, refl, refl, omega arith); answer = refl; written = sym (set-getD draft point (pos 0)); keeps = λ es stood. sym (ap (set es (slotAt (look .named))) stood ∙ set-getD es (slotAt (look .named)) noRecord); counts = refl }))
 
   pub replay-settled : (b : Bool) (x : ℤ) {r : Outcome} {e : Effect} {slot : ℕ} {draft′ : List ℤ} {t′ : List ℕ} → r ≡ Settled b x
-      → e ≡ stored (Number (cond b 3 4)) slot (replays.settledRecord (look .standing) b (min (settledIn t) 256 + 1)) → slot ≡ slotAt (look .named) → slot < 256
+      → e ≡ stored (number (cond b 3 4)) slot (replays.settledRecord (look .standing) b (min (settledIn t) 256 + 1)) → slot ≡ slotAt (look .named) → slot < 256
       → draft′ ≡ set draft point x → t′ ≡ oneSettled t → Settles (settledAs r) e draft′ t′
   replay-settled b x {r = r} {e = e} {draft′ = draft′} {t′ = t′} r-is e-is slot-is few draft-is counts-is =
       subst (λ y. Settles (settledAs y) e draft′ t′) (sym r-is) (subst (λ y. Settles (settledAs (Settled b x)) y draft′ t′) (sym e-is)

@@ -23,14 +23,14 @@ use Rattle.rows.proofs.Spans.{length-span}
 use Rattle.state.specs.declared.State.{State}
 use Rattle.state.specs.Spread.{Spread, spread}
 use Rattle.state.specs.declared.Answer.{Answer}
-use Rattle.state.specs.declared.Answer.the-variants.{Refused, Done, Number, Pair}
+use Rattle.state.specs.declared.Answer.the-variants.{Refused, Given}
 use Rattle.state.specs.Spread.{SpreadAnswered}
 use Rattle.state.specs.Spread.{planOf, rulesOf}
 use Rattle.state.specs.Spread.{namedIn}
 use Rattle.heads.specs.Heads.{modeOf, sidesIn, indexOf, offsetOf, measuresIn, keptIn, endIn}
 use Rattle.records.specs.declared.EditRecord.{EditRecord}
 use Rattle.records.specs.Records.{keptOf, keptAt, noRecord, testOf}
-use Rattle.state.specs.Meets.{answerOf}
+use Rattle.state.specs.Meets.{answerOf, refusal}
 use Rattle.state.specs.Spread.{MeetsSpread}
 use Rattle.state.specs.Sizes.{Sized}
 use Rattle.state.proofs.Views.{sides-length, sides-most, side-at}
@@ -130,7 +130,7 @@ pub meets-made : (c : Call) (p : Spread) (r : SpreadAnswered) → MeetsSpread c 
 unfolding step
 meets-made c p r m = record { answer = alone-row (r .answer) ∙ m .answer; plan = m .plan }
 
-pub none-made : (p : Spread) → Made none p p (Refused 51) []
+pub none-made : (p : Spread) → Made none p p (refusal 51) []
 none-made p = record { answer = refl; plan = refl }
 
 -- ---- the rules stay
@@ -216,16 +216,12 @@ sound-made {l = l} {p = p} m h e = subst (λ x. Holding (x .mode) (x .content)) 
 -- ---- the counts after it
 
 refused-answer : (a : Answer) (vs : List ℤ) (k : ℕ) → withRow (answerOf a) vs ≡ no k → isAccepted a ≡ false
-refused-answer (Refused j) vs k e = refl
-refused-answer Done vs k e = cc
-refused-answer (Number n) vs k e = cc
-refused-answer (Pair m n) vs k e = cc
+refused-answer (Refused j r) vs k e = refl
+refused-answer (Given count l m n) vs k e = cc
 
 accepted-answer : (a : Answer) (vs xs : List ℤ) → withRow (answerOf a) vs ≡ ok xs → isAccepted a ≡ true
-accepted-answer (Refused j) vs xs e = cc
-accepted-answer Done vs xs e = refl
-accepted-answer (Number n) vs xs e = refl
-accepted-answer (Pair m n) vs xs e = refl
+accepted-answer (Refused j r) vs xs e = cc
+accepted-answer (Given count l m n) vs xs e = refl
 
 kept-length : (p : Spread) → length (planOf p .content .kept) ≡ keptIn (p .head)
 kept-length p = length-span 0 (keptIn (p .head)) (λ i. keptAt (endIn (p .head) - (keptIn (p .head) - i)) (getD (p .edits) i noRecord))

@@ -20,7 +20,7 @@ use Rattle.records.specs.declared.EditRecord.{EditRecord}
 use Rattle.records.specs.Records.{noRecord}
 use Rattle.state.specs.Spread.{Spread}
 use Rattle.state.specs.declared.Answer.{Answer}
-use Rattle.state.specs.declared.Answer.the-variants.{Refused, Done, Number, Pair}
+use Rattle.state.specs.declared.Answer.the-variants.{Refused, Given}
 use Rattle.state.specs.Spread.{planOf}
 use Rattle.state.specs.Sizes.{Sized}
 use Rattle.state.specs.Meets.{answerOf}
@@ -74,10 +74,8 @@ pub record Known (l : Line) (p : State) (index : List ℤ) (look : Look) (t : Li
 -- ---- what a call promises
 
 abbrev pub SameIf : Answer → Type 0 → Type 0
-SameIf (Refused k) A = A
-SameIf Done A = Unit {0}
-SameIf (Number n) A = Unit {0}
-SameIf (Pair a b) A = Unit {0}
+SameIf (Refused k r) A = A
+SameIf (Given count a b c) A = Unit {0}
 
 -- from one state to the next, with counts and index before and after
 pub record Makes (l : Line) (p q : State) (t t′ : List ℕ) (index index′ : List ℤ) (e : Effect) : Type 0 where

@@ -104,9 +104,9 @@ fn plain_effect(answer: Answer) -> Effect
 }
 
 fn refusal(k: u32) -> Effect
-    ensures { λ r. ⌜ r ≡ plain (Answer.Refused k) ⌝ }
+    ensures { λ r. ⌜ r ≡ plain (Answer.Refused k 0) ⌝ }
 {
-    let answer = Answer::Refused(k);
+    let answer = Answer::Refused(k, 0);
     plain_effect(answer)
 }
 
@@ -151,7 +151,7 @@ fn edit_in<'a>(
             values[spot] = x;
             let next = heads::numbers(edit::edit_head(h));
             *head = next;
-            let answer = Answer::Number(h.next);
+            let answer = Answer::Given(1, h.next, 0, 0);
             let mode = h.mode;
             if edit::is_whole(mode) {
                 return plain_effect(answer);
@@ -214,7 +214,7 @@ fn replay_in<'a>(
             draft[point] = x;
             let place = rows::capped(counts[counts::SETTLED], limit::EDITS) as u32 + 1;
             counts::note_settled(counts);
-            let answer = Answer::Number(fate_number(accepted));
+            let answer = Answer::Given(1, fate_number(accepted), 0, 0);
             keeping(
                 answer,
                 heads::slot(i),

@@ -31,10 +31,8 @@ pub fn accepted(answer: Answer) -> bool
     ensures { λ t. ⌜ t ≡ isAccepted answer ⌝ }
 {
     match answer {
-        Answer::Refused(_) => false,
-        Answer::Done => true,
-        Answer::Number(_) => true,
-        Answer::Pair(_, _) => true,
+        Answer::Refused(_, _) => false,
+        Answer::Given(_, _, _, _) => true,
     }
 }
 

@@ -17,14 +17,13 @@ use Rattle.rows.specs.Rows.{row}
 use Rattle.rules.specs.Table.{rulesIn}
 use Rattle.rows.proofs.Spans.{length-span, span-same, span-snoc, getD-set, getD-other}
 use Rattle.rules.proofs.Rows.{holds-is}
-use Rattle.state.specs.declared.Answer.the-variants.{Refused, Done}
 use Rattle.heads.specs.declared.Head.{Head}
 use Rattle.state.specs.Spread.{Spread}
 use Rattle.heads.specs.Heads.{modeOf, sidesIn, measuresIn}
 use Rattle.state.specs.Spread.{planOf, sideOf, rulesOf}
 use Rattle.state.specs.Sizes.{Sized}
 use Rattle.state.proofs.Views.{plan-same, sides-modify, sides-least, first-row, row-snoc, row-length}
-use Rattle.state.specs.Meets.{answerOf}
+use Rattle.state.specs.Meets.{answerOf, refusal, done}
 use Rattle.state.specs.Spread.{isAccepted, SameIfRefused, MeetsSpread}
 use Rattle.state.proofs.Meeting.{refused-meets, accepted-meets, fine-pass}
 use Rattle.state.proofs.Steps.{stored}
@@ -51,7 +50,7 @@ abbrev old : Spread → ℤ
 old p = valueAt (p .head) (p .values)
 
 -- the value behind those that count, stored again, with whatever answer
-value-same : (p : Spread) (h : Head) → valueIn p (record { head = h; value = old p; answer = Done }) ≡ withHead p h
+value-same : (p : Spread) (h : Head) → valueIn p (record { head = h; value = old p; answer = done }) ≡ withHead p h
 value-same p h = rw (set-getD (p .values) (min (p .head .measures) 31) (pos 0))
 
 -- by the verdict on the checks
@@ -62,7 +61,7 @@ decided c p cs d to none same given next s = by (first cs) refl
   where
     by : (v : Verdict) → first cs ≡ v → let x = drawBy v d (p .head) (old p) in MeetsSpread c p (record { state = to x; answer = x .answer })
     by fine e = let f = fine-pass cs e in accepted-meets c p (record { state = to d; answer = d .answer }) (same ∙ e) (given f) (next f) s
-    by (refused k) e = subst (λ q. MeetsSpread c p (record { state = q; answer = Refused k })) (sym (none k)) (refused-meets c p k (same ∙ e))
+    by (refused k) e = subst (λ q. MeetsSpread c p (record { state = q; answer = refusal k })) (sym (none k)) (refused-meets c p k (same ∙ e))
 
 -- ---- measure
 

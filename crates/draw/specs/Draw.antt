@@ -13,7 +13,7 @@ use Rattle.rows.specs.Rows.{row}
 use Rattle.rules.specs.Rules.{holdsIn}
 use Rattle.heads.specs.declared.Head.{Head}
 use Rattle.state.specs.Spread.{Spread}
-use Rattle.state.specs.declared.Answer.the-variants.{Refused, Done, Number}
+use Rattle.state.specs.Meets.{refusal, done, number}
 use Rattle.heads.specs.declared.Mode.the-variants.{Whole}
 use Rattle.heads.specs.Heads.{modeOf, measuresIn}
 use Rattle.draw.specs.declared.Drawing.{Drawing}
@@ -51,7 +51,7 @@ opened h = record { mode = Whole; measures = h .measures; rules = h .rules; adde
 -- ---- decisions
 
 abbrev pub refusedDrawing : Head → ℤ → ℕ → Drawing
-refusedDrawing h old k = record { head = h; value = old; answer = Refused k }
+refusedDrawing h old k = record { head = h; value = old; answer = refusal k }
 
 -- by the verdict on the checks: the drawing, or all as it was
 abbrev pub drawBy : Verdict → Drawing → Head → ℤ → Drawing
@@ -59,19 +59,19 @@ drawBy fine d h old = d
 drawBy (refused k) d h old = refusedDrawing h old k
 
 abbrev pub measureDrawing : Head → ℤ → Drawing
-measureDrawing h v = let n = min (h .measures) lastMeasure + 1 in record { head = measured h n; value = v; answer = Number n }
+measureDrawing h v = let n = min (h .measures) lastMeasure + 1 in record { head = measured h n; value = v; answer = number n }
 
 abbrev pub measureDecision : Head → ℤ → ℤ → Drawing
 measureDecision h v old = drawBy (first (measureChecks h v)) (measureDrawing h v) h old
 
 abbrev pub ruleDrawing : Head → ℤ → Drawing
-ruleDrawing h old = let n = min (h .rules) lastRule + 1 in record { head = ruled h n; value = old; answer = Number n }
+ruleDrawing h old = let n = min (h .rules) lastRule + 1 in record { head = ruled h n; value = old; answer = number n }
 
 abbrev pub ruleDecision : Head → ℤ → ℤ → ℤ → ℤ → ℤ → Drawing
 ruleDecision h a c b f old = drawBy (first (ruleChecks h (natural a) c (natural b) f)) (ruleDrawing h old) h old
 
 abbrev pub openDrawing : Head → ℤ → Drawing
-openDrawing h old = record { head = opened h; value = old; answer = Done }
+openDrawing h old = record { head = opened h; value = old; answer = done }
 
 abbrev pub openDecision : Head → List ℕ → List ℤ → List ℕ → List ℤ → ℤ → Drawing
 openDecision h lower gap upper values old = drawBy (first (openChecks h lower gap upper values)) (openDrawing h old) h old

@@ -25,7 +25,7 @@ pub struct Drawing {
 fn refused(h: Head, old: i32, k: u32) -> Drawing
     ensures { λ r. ⌜ r ≡ refusedDrawing h old k ⌝ }
 {
-    let answer = Answer::Refused(k);
+    let answer = Answer::Refused(k, 0);
     Drawing {
         head: h,
         value: old,
@@ -69,7 +69,7 @@ fn decide_measure(h: Head, v: i32, old: i32) -> Drawing
     }
     let n = rows::capped(h.measures, limit::LAST_MEASURE) as u32 + 1;
     let head = with_measures(h, n);
-    let answer = Answer::Number(n);
+    let answer = Answer::Given(1, n, 0, 0);
     Drawing {
         head,
         value: v,
@@ -144,7 +144,7 @@ fn decide_rule(h: Head, a: i32, c: i32, b: i32, f: i32, old: i32) -> Drawing
     }
     let n = rows::capped(h.rules, limit::LAST_RULE) as u32 + 1;
     let head = with_rules(h, n);
-    let answer = Answer::Number(n);
+    let answer = Answer::Given(1, n, 0, 0);
     Drawing {
         head,
         value: old,
@@ -186,7 +186,7 @@ fn decide_open<'a>(h: Head, table: &'a Table, values: &'a [i32], old: i32) -> Dr
         return refused(h, old, k);
     }
     let head = with_open(h);
-    let answer = Answer::Done;
+    let answer = Answer::Given(0, 0, 0, 0);
     Drawing {
         head,
         value: old,

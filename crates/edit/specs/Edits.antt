@@ -23,7 +23,7 @@ use Rattle.records.specs.declared.Fate.the-variants.{Unsent}
 use Rattle.heads.specs.declared.Head.{Head}
 use Rattle.state.specs.Spread.{Spread}
 use Rattle.state.specs.declared.Answer.{Answer}
-use Rattle.state.specs.declared.Answer.the-variants.{Refused, Number}
+use Rattle.state.specs.Meets.{refusal, number}
 use Rattle.reader.specs.declared.Line.{Line}
 use Rattle.heads.specs.Heads.{modeOf, sidesIn, measuresIn, offsetOf, keptIn, namedAt, seatOf}
 use Rattle.records.specs.Records.{keptAt, noRecord, recordOf}
@@ -102,14 +102,14 @@ editRecord h s client earlier m c =
     record { change = c; fate = Unsent; side = s % 256; client = client; earlier = earlier; measure = m % 256; place = 0; replied = is split (modeOf (h .mode)) }
 
 abbrev pub editDecision : Head → Ruling → ℤ → ℕ → ℕ → ℕ → ℕ → Decision
-editDecision h (Denied k) old s client earlier m = record { head = h; value = old; kept = false; entry = noRecord; answer = Refused k }
+editDecision h (Denied k) old s client earlier m = record { head = h; value = old; kept = false; entry = noRecord; answer = refusal k }
 editDecision h (Granted c x) old s client earlier m =
     record {
       head = editHead h;
       value = x;
       kept = not (is whole (modeOf (h .mode)));
       entry = editRecord h s client earlier m c;
-      answer = Number (h .next);
+      answer = number (h .next);
     }
 
 -- where a side's measure stands among all values, and where a new record goes

@@ -15,7 +15,6 @@ use Rattle.protocol.proofs.Laws.{range, is-yes}
 use Rattle.rows.specs.Rows.{span, copiedIn}
 use Rattle.rows.proofs.Copies.{row-copied}
 use Rattle.rows.proofs.Spans.{getD-set}
-use Rattle.state.specs.declared.Answer.the-variants.{Done, Number}
 use Rattle.records.specs.declared.EditRecord.{EditRecord}
 use Rattle.heads.specs.declared.Head.{Head}
 use Rattle.heads.specs.declared.Mode.the-variants.{Closing}
@@ -23,7 +22,7 @@ use Rattle.state.specs.Spread.{Spread}
 use Rattle.heads.specs.Heads.{modeOf, sidesIn, keptIn, indexOf, unsetIn, inMode}
 use Rattle.records.specs.Records.{keptOf}
 use Rattle.state.specs.Spread.{planOf, sideOf}
-use Rattle.state.specs.Meets.{refusalOf}
+use Rattle.state.specs.Meets.{refusalOf, done, number}
 use Rattle.state.specs.Spread.{MeetsSpread}
 use Rattle.state.proofs.Views.{plan-same, sides-most, sides-length, side-at, sides-modify, flags-unset}
 use Rattle.state.proofs.Meeting.{verdict-fine}
@@ -117,14 +116,14 @@ module _ (p : Spread) (s : ℤ) {side i n k : ℕ} (w : Named p s side i n) wher
 abbrev pub stopTo : Spread → Spread
 stopTo p = stored p (inMode (p .head) Closing) (p .base) (p .draft) (p .values) (p .arrived) (p .confirmed) (p .edits)
 
-pub stop-accepts : (p : Spread) {k : ℕ} → Checked stop p (stopping p) k → k ≡ 0 → MeetsSpread stop p (record { state = stopTo p; answer = Done })
+pub stop-accepts : (p : Spread) {k : ℕ} → Checked stop p (stopping p) k → k ≡ 0 → MeetsSpread stop p (record { state = stopTo p; answer = done })
 unfolding after gives
 stop-accepts p w z = accepts _ w tt z (λ t. refl) (λ t. rw (eqb→eq (modeNumber (modeOf (p .head .mode))) 3 (t .0))) tt
 
 abbrev pub installTo : Spread → Spread
 installTo p = stored p (installHead (p .head)) (p .base) (p .draft) (copiedIn (p .values) (p .draft) 0 0 32) (set (p .arrived) 0 false) (set (p .confirmed) 0 false) (p .edits)
 
-pub install-accepts : (p : Spread) {k : ℕ} → Checked install p (installing p) k → length (p .draft) ≡ 32 → length (p .values) ≡ 256 → length (p .arrived) ≡ 8 → length (p .confirmed) ≡ 8 → k ≡ 0 → MeetsSpread install p (record { state = installTo p; answer = Done })
+pub install-accepts : (p : Spread) {k : ℕ} → Checked install p (installing p) k → length (p .draft) ≡ 32 → length (p .values) ≡ 256 → length (p .arrived) ≡ 8 → length (p .confirmed) ≡ 8 → k ≡ 0 → MeetsSpread install p (record { state = installTo p; answer = done })
 unfolding after gives
 install-accepts p w d v a c z =
     accepts _ w tt z (λ t. refl)
@@ -146,7 +145,7 @@ at-place : {p : Spread} {s : ℤ} {side i n : ℕ} → Named p s side i n → i 
 at-place w = w .place ∙ ap indexOf (w .number)
 
 pub confirm-accepts : (p : Spread) (s : ℤ) {side i n k : ℕ} → Named p s side i n → Checked (confirm s) p (confirming p s) k → length (p .confirmed) ≡ 8 → k ≡ 0
-    → MeetsSpread (confirm s) p (record { state = stored p (p .head) (p .base) (p .draft) (p .values) (p .arrived) (set (p .confirmed) i true) (p .edits); answer = Done })
+    → MeetsSpread (confirm s) p (record { state = stored p (p .head) (p .base) (p .draft) (p .values) (p .arrived) (set (p .confirmed) i true) (p .edits); answer = done })
 unfolding after gives
 confirm-accepts p s w e l z =
     rw (at-place w) (accepts _ e tt z (λ t. refl)
@@ -156,7 +155,7 @@ confirm-accepts p s w e l z =
     tt)
 
 pub send-accepts : (p : Spread) (s : ℤ) {side i n k : ℕ} → Named p s side i n → Checked (send s) p (sending p s) k → (es : List EditRecord) → keptOf (p .head) es ≡ map (markSent side) (keptOf (p .head) (p .edits)) → length (p .arrived) ≡ 8 → k ≡ 0
-    → MeetsSpread (send s) p (record { state = stored p (p .head) (p .base) (p .draft) (p .values) (set (p .arrived) i true) (p .confirmed) es; answer = Number n })
+    → MeetsSpread (send s) p (record { state = stored p (p .head) (p .base) (p .draft) (p .values) (set (p .arrived) i true) (p .confirmed) es; answer = number n })
 unfolding after gives
 send-accepts p s w e es f l z =
     rw (at-place w) (accepts _ e tt z

@@ -15,14 +15,13 @@ use Rattle.protocol.specs.Calls.{first, checks, further, after, gives, ok, join
 use Rattle.protocol.proofs.Laws.{range, which}
 use Rattle.rows.specs.Rows.{span, row, copiedIn}
 use Rattle.rows.proofs.Spans.{span-same, span-snoc, map-span, getD-blank}
-use Rattle.state.specs.declared.Answer.the-variants.{Done, Number}
 use Rattle.heads.specs.declared.Head.{Head}
 use Rattle.state.specs.Spread.{Spread}
 use Rattle.heads.specs.Heads.{modeOf, sidesIn, indexOf, offsetOf, measuresIn, endIn, keptIn}
 use Rattle.records.specs.Records.{logOf}
 use Rattle.state.specs.Spread.{planOf, sideOf, rulesOf}
 use Rattle.state.specs.Spread.{refusedAs}
-use Rattle.state.specs.Meets.{refusalOf}
+use Rattle.state.specs.Meets.{refusalOf, done, number}
 use Rattle.state.specs.Spread.{MeetsSpread}
 use Rattle.state.proofs.Views.{plan-same, sides-length, side-at, first-row}
 use Rattle.state.proofs.Meeting.{refused-meets, accepted-meets}
@@ -44,7 +43,7 @@ reset-sides p n =
     span-same 1 n _ (λ k. reset (sideOf p k)) (λ k a b i. record { values = sideOf p k .values; arrived = getD-blank 8 (indexOf k) false i; confirmed = getD-blank 8 (indexOf k) false i })
     ∙ sym (map-span reset 1 n (sideOf p))
 
-pub join-accepts : (p : Spread) → modeNumber (modeOf (p .head .mode)) ≡ 2 → MeetsSpread join p (record { state = joinTo p; answer = Done })
+pub join-accepts : (p : Spread) → modeNumber (modeOf (p .head .mode)) ≡ 2 → MeetsSpread join p (record { state = joinTo p; answer = done })
 unfolding checks further after gives
 join-accepts p e = accepted-meets join p _ (rw e) refl (rw e (plan-same refl refl refl refl refl (reset-sides p (suc (min (p .head .added) 7))) refl)) tt
 
@@ -115,7 +114,7 @@ split-end : (h : Head) → T (is whole (modeOf (h .mode)) || is split (modeOf (h
 split-end h t f = which (is whole (modeOf (h .mode))) (is split (modeOf (h .mode))) t (λ y. absurd (T-not (is whole (modeOf (h .mode))) f y)) (λ y. rw (eqb→eq (modeNumber (modeOf (h .mode))) 2 y))
 
 pub split-accepts : (p : Spread) (s : ℤ) {side k n from to i : ℕ} → side ≡ natural s → Checked (split-side s) p (splitChecks (p .head) (natural s)) k → n ≡ suc (sidesIn (p .head)) → from ≡ offsetOf side → to ≡ offsetOf n → i ≡ indexOf n
-    → (T (is whole (modeOf (p .head .mode))) → length (p .base) ≡ 32) → length (p .values) ≡ 256 → length (p .arrived) ≡ 8 → length (p .confirmed) ≡ 8 → k ≡ 0 → MeetsSpread (split-side s) p (record { state = splitTo p from to i; answer = Number n })
+    → (T (is whole (modeOf (p .head .mode))) → length (p .base) ≡ 32) → length (p .values) ≡ 256 → length (p .arrived) ≡ 8 → length (p .confirmed) ≡ 8 → k ≡ 0 → MeetsSpread (split-side s) p (record { state = splitTo p from to i; answer = number n })
 unfolding after gives
 split-accepts p s w e a b c d u v f g z =
     rw (b, c, d, a, w) (accepts _ e tt z

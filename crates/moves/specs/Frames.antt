@@ -14,7 +14,7 @@ use Rattle.records.specs.declared.EditRecord.{EditRecord}
 use Rattle.records.specs.Records.{keptOf}
 use Rattle.state.specs.Spread.{Spread}
 use Rattle.state.specs.declared.Answer.{Answer}
-use Rattle.state.specs.declared.Answer.the-variants.{Refused}
+use Rattle.state.specs.Meets.{refusal}
 use Rattle.state.specs.Spread.{MeetsSpread}
 use Rattle.moves.specs.declared.Told.{Told}
 
@@ -64,7 +64,7 @@ abbrev pub toldAs : Head → Answer → Told
 toldAs h a = record { head = h; answer = a }
 
 abbrev pub deniedAs : Head → ℕ → Told
-deniedAs h k = record { head = h; answer = Refused k }
+deniedAs h k = record { head = h; answer = refusal k }
 
 -- ---- what a call on a frame promises
 

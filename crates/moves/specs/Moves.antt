@@ -11,7 +11,7 @@ use Rattle.protocol.specs.Calls.{Check, _unless_, _when_, Verdict, fine, refuse
 use Rattle.heads.specs.declared.Head.{Head}
 use Rattle.heads.specs.declared.Mode.the-variants.{Whole}
 use Rattle.heads.specs.Heads.{modeOf, sidesIn, keptIn}
-use Rattle.state.specs.declared.Answer.the-variants.{Refused, Number}
+use Rattle.state.specs.Meets.{refusal, number}
 use Rattle.records.specs.declared.EditRecord.{EditRecord}
 use Rattle.records.specs.Records.{keptAt, noRecord}
 use Rattle.moves.specs.declared.Sending.{Sending}
@@ -39,8 +39,8 @@ installChecks h missing waiting = turnChecks h (modeNumber closing) 40 missing w
 
 -- the edits of its side among the kept ones are marked; a refused send marks none
 abbrev pub sendBy : Verdict → Head → Bool → ℕ → Sending
-sendBy fine h arrived unsent = record { marked = keptIn h; arrived = true; answer = Number unsent }
-sendBy (refused k) h arrived unsent = record { marked = 0; arrived = arrived; answer = Refused k }
+sendBy fine h arrived unsent = record { marked = keptIn h; arrived = true; answer = number unsent }
+sendBy (refused k) h arrived unsent = record { marked = 0; arrived = arrived; answer = refusal k }
 
 abbrev pub sendDecision : Head → ℕ → Bool → ℕ → Sending
 sendDecision h s arrived unsent = sendBy (first (sendChecks h s arrived unsent)) h arrived unsent

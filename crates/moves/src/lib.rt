@@ -42,7 +42,7 @@ fn tell(head: Head, answer: Answer) -> Told
 fn deny(head: Head, k: u32) -> Told
     ensures { λ r. ⌜ r ≡ deniedAs head k ⌝ }
 {
-    let answer = Answer::Refused(k);
+    let answer = Answer::Refused(k, 0);
     tell(head, answer)
 }
 
@@ -167,7 +167,7 @@ fn split_in(
     let i = heads::index(to);
     put_flag(arrived, i, false);
     put_flag(confirmed, i, false);
-    let answer = Answer::Number(to);
+    let answer = Answer::Given(1, to, 0, 0);
     tell(split_head(h), answer)
 }
 
@@ -189,7 +189,7 @@ fn join_in(
     *draft = *base;
     *arrived = [false; limit::SIDES];
     *confirmed = [false; limit::SIDES];
-    let answer = Answer::Done;
+    let answer = Answer::Given(0, 0, 0, 0);
     tell(join_head(h), answer)
 }
 
@@ -278,14 +278,14 @@ pub fn decide_send(h: Head, s: u32, arrived: bool, unsent: u32) -> Sending
 {
     let k = send_refusal(h, s, arrived, unsent);
     if k != 0 {
-        let answer = Answer::Refused(k);
+        let answer = Answer::Refused(k, 0);
         return Sending {
             marked: 0,
             arrived,
             answer,
         };
     }
-    let answer = Answer::Number(unsent);
+    let answer = Answer::Given(1, unsent, 0, 0);
     Sending {
         marked: rows::capped(h.kept, limit::EDITS),
         arrived: true,
@@ -330,7 +330,7 @@ fn stop_in(h: Head, arrived: &[bool; limit::SIDES], waiting: u32) -> Told
     if k != 0 {
         return deny(h, k);
     }
-    let answer = Answer::Done;
+    let answer = Answer::Given(0, 0, 0, 0);
     tell(heads::in_mode(h, Mode::Closing), answer)
 }
 
@@ -347,7 +347,7 @@ fn confirm_in(h: Head, confirmed: &mut [bool; limit::SIDES], s: i32, unsent: u32
         return deny(h, k);
     }
     put_flag(confirmed, i, true);
-    let answer = Answer::Done;
+    let answer = Answer::Given(0, 0, 0, 0);
     tell(h, answer)
 }
 
@@ -372,7 +372,7 @@ fn install_in(
     rows::copy(values, draft, 0, 0, limit::MEASURES);
     put_flag(arrived, 0, false);
     put_flag(confirmed, 0, false);
-    let answer = Answer::Done;
+    let answer = Answer::Given(0, 0, 0, 0);
     tell(install_head(h), answer)
 }
 

@@ -2,7 +2,7 @@
 use Prim.Native.Nat.{ℕ, _-_, _≤_, min}
 use native.Mathlib.Omega.{arith}
 use mathlib.Core.Path.{_≡_, refl, sym, ap, _∙_}
-use mathlib.Core.List.{List, [], _∷_}
+use mathlib.Core.List.{List, [], _∷_, append-nil}
 use lib.Dec.{eqb}
 use lib.IntN.{ℤ, pos}
 use lib.ListN.{length, getD}
@@ -16,11 +16,11 @@ use Rattle.rows.specs.Rows.{row}
 use Rattle.rows.proofs.Spans.{length-span}
 use Rattle.state.specs.Spread.{Spread}
 use Rattle.state.specs.declared.Answer.{Answer}
-use Rattle.state.specs.declared.Answer.the-variants.{Refused, Done, Number, Pair}
+use Rattle.state.specs.declared.Answer.the-variants.{Refused, Given}
 use Rattle.state.specs.Spread.{planOf}
 use Rattle.records.specs.Records.{keptAt, keptOf, noRecord}
 use Rattle.heads.specs.Heads.{modeOf, sidesIn, endIn, keptIn, namedAt, seatOf, unsetIn}
-use Rattle.state.specs.Meets.{answerOf}
+use Rattle.state.specs.Meets.{answerOf, firstOf}
 use Rattle.state.proofs.Views.{flags-unset}
 use Rattle.state.proofs.Meeting.{fine-pass}
 use Rattle.query.specs.Reads.{fateAnswer, showChecks, leftNumber}
@@ -32,10 +32,8 @@ use Rattle.writer.specs.Writes.{withRow}
 
 -- an answer with no values besides
 pub alone-row : (a : Answer) → withRow (answerOf a) [] ≡ answerOf a
-alone-row (Refused k) = refl
-alone-row Done = refl
-alone-row (Number n) = refl
-alone-row (Pair a b) = refl
+alone-row (Refused k r) = refl
+alone-row (Given count a b c) = ap ok (append-nil (firstOf count a b c))
 
 -- counts made from the records, and the number left from them, are the plan's
 pub tallies-right : (p : Spread) (t : List ℕ) → Counted t (keptOf (p .head) (p .edits)) → length t ≡ 12 → leftIn t ≡ leftNumber (p .head) (p .arrived) (p .confirmed) t (min (keptIn (p .head) - settledIn t) 256)

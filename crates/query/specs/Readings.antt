@@ -11,7 +11,7 @@ use Rattle.protocol.specs.Numbering.{showOp, fateOp, leftOp}
 use Rattle.records.specs.declared.EditRecord.{EditRecord}
 use Rattle.heads.specs.declared.Head.{Head}
 use Rattle.state.specs.declared.Answer.{Answer}
-use Rattle.state.specs.declared.Answer.the-variants.{Refused, Done, Number}
+use Rattle.state.specs.Meets.{refusal, done, number}
 use Rattle.heads.specs.Heads.{modeOf, offsetOf, measuresIn}
 use Rattle.query.specs.Reads.{fateAnswer, showChecks}
 use Rattle.query.specs.declared.Reading.{Reading}
@@ -24,15 +24,15 @@ abbrev pub alone : Answer → Reading
 alone a = record { answer = a; from = 0; width = 0 }
 
 abbrev pub showBy : Verdict → Head → ℕ → Reading
-showBy fine h s = record { answer = Done; from = offsetOf s; width = measuresIn h }
-showBy (refused k) h s = alone (Refused k)
+showBy fine h s = record { answer = done; from = offsetOf s; width = measuresIn h }
+showBy (refused k) h s = alone (refusal k)
 
 abbrev pub showReading : Head → ℕ → Reading
 showReading h s = showBy (first (showChecks h s measureLimit)) h s
 
 abbrev pub leftAnswer : Head → ℕ → Answer
-leftAnswer h n = Number (cond (active (modeOf (h .mode))) n 0)
+leftAnswer h n = number (cond (active (modeOf (h .mode))) n 0)
 
 abbrev pub readingOf : ℕ → ℤ → Head → ℕ → EditRecord → ℕ → Reading
 readingOf op a h i seen n =
-    cond (eqb op showOp) (showReading h (natural a)) (cond (eqb op fateOp) (alone (fateAnswer i seen)) (cond (eqb op leftOp) (alone (leftAnswer h n)) (alone (Refused 51))))
+    cond (eqb op showOp) (showReading h (natural a)) (cond (eqb op fateOp) (alone (fateAnswer i seen)) (cond (eqb op leftOp) (alone (leftAnswer h n)) (alone (refusal 51))))

@@ -12,10 +12,10 @@ use Rattle.heads.specs.declared.Head.{Head}
 use Rattle.heads.specs.Heads.{modeOf, sidesIn, indexOf, measuresIn, unsetIn}
 use Rattle.records.specs.Records.{fateOf, keptOf}
 use Rattle.state.specs.declared.Answer.{Answer}
-use Rattle.state.specs.declared.Answer.the-variants.{Pair}
+use Rattle.state.specs.Meets.{pair}
 
 abbrev pub fateAnswer : ℕ → EditRecord → Answer
-fateAnswer i e = cond (eqb i 0) (Pair 0 0) (Pair (fateNumber (fateOf (e .fate))) (e .place))
+fateAnswer i e = cond (eqb i 0) (pair 0 0) (pair (fateNumber (fateOf (e .fate))) (e .place))
 
 abbrev pub showChecks : Head → ℕ → ℕ → List Check
 showChecks h s room = (31 unless not (is blank (modeOf (h .mode)))) ∷ (21 unless oneTo (sidesIn h) s) ∷ (41 unless leb (measuresIn h) room) ∷ []

@@ -33,10 +33,10 @@ fn fate_answer(i: usize, e: EditRecord) -> Answer
     ensures { λ r. ⌜ r ≡ fateAnswer i e ⌝ }
 {
     if i == 0 {
-        return Answer::Pair(0, 0);
+        return Answer::Given(2, 0, 0, 0);
     }
     let f = e.fate;
-    Answer::Pair(records::fate_number(f), e.place)
+    Answer::Given(2, records::fate_number(f), e.place, 0)
 }
 
 // ---- left
@@ -178,14 +178,14 @@ fn show_reading(h: Head, s: u32) -> Reading
 {
     let refusal = show_refusal(h, s, limit::MEASURES);
     if refusal != 0 {
-        let answer = Answer::Refused(refusal);
+        let answer = Answer::Refused(refusal, 0);
         return Reading {
             answer,
             from: 0,
             width: 0,
         };
     }
-    let answer = Answer::Done;
+    let answer = Answer::Given(0, 0, 0, 0);
     Reading {
         answer,
         from: heads::offset(s),
@@ -199,9 +199,9 @@ fn left_answer(h: Head, left: u32) -> Answer
 {
     let mode = h.mode;
     if heads::is_active(mode) {
-        return Answer::Number(left);
+        return Answer::Given(1, left, 0, 0);
     }
-    Answer::Number(0)
+    Answer::Given(1, 0, 0, 0)
 }
 
 // The call numbered op, with its number a: from the edit that it names, seen at place i from 1, and the number left.
@@ -227,7 +227,7 @@ pub fn read(op: u32, a: i32, h: Head, i: usize, seen: EditRecord, left: u32) -> 
             width: 0,
         };
     }
-    let answer = Answer::Refused(51);
+    let answer = Answer::Refused(51, 0);
     Reading {
         answer,
         from: 0,

@@ -19,7 +19,7 @@ use Rattle.records.specs.declared.Fate.the-variants.{Accepted, Revoked}
 use Rattle.heads.specs.declared.Head.{Head}
 use Rattle.state.specs.Spread.{Spread}
 use Rattle.state.specs.declared.Answer.{Answer}
-use Rattle.state.specs.declared.Answer.the-variants.{Refused, Number}
+use Rattle.state.specs.Meets.{refusal, number}
 use Rattle.heads.specs.Heads.{modeOf, sidesIn, endIn, keptIn, positionOf, slotAt, namedAt, seatOf, unsetIn}
 use Rattle.records.specs.Records.{keptAt, keptOf, noRecord, recordOf}
 use Rattle.replay.specs.declared.Outcome.{Outcome}
@@ -72,8 +72,8 @@ settledRecord e b place =
     record { change = e .change; fate = settledFate b; side = e .side; client = e .client; earlier = e .earlier; measure = e .measure; place = place; replied = e .replied }
 
 abbrev pub replayDecision : Outcome → EditRecord → ℤ → ℕ → Decision
-replayDecision (Denied k) standing old place = record { amount = old; entry = standing; answer = Refused k }
-replayDecision (Settled b x) standing old place = record { amount = x; entry = settledRecord standing b place; answer = Number (cond b 3 4) }
+replayDecision (Denied k) standing old place = record { amount = old; entry = standing; answer = refusal k }
+replayDecision (Settled b x) standing old place = record { amount = x; entry = settledRecord standing b place; answer = number (cond b 3 4) }
 
 abbrev pub pointOf : ℕ → ℕ
 pointOf m = min (m - 1) lastMeasure

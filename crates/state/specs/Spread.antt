@@ -17,8 +17,8 @@ use Rattle.records.specs.declared.EditRecord.{EditRecord}
 use Rattle.records.specs.Records.{keptOf, noRecord, recordOf}
 use Rattle.state.specs.declared.State.{State}
 use Rattle.state.specs.declared.Answer.{Answer}
-use Rattle.state.specs.declared.Answer.the-variants.{Refused, Done, Number, Pair}
-use Rattle.state.specs.Meets.{answerOf}
+use Rattle.state.specs.declared.Answer.the-variants.{Refused, Given}
+use Rattle.state.specs.Meets.{answerOf, refusal}
 
 pub record Spread : Type 0 where
   pub head : Head
@@ -84,19 +84,15 @@ pub record SpreadAnswered : Type 0 where
   pub answer : Answer
 
 abbrev pub isAccepted : Answer → Bool
-isAccepted (Refused k) = false
-isAccepted Done = true
-isAccepted (Number n) = true
-isAccepted (Pair a b) = true
+isAccepted (Refused k r) = false
+isAccepted (Given count a b c) = true
 
 abbrev pub refusedAs : Spread → ℕ → SpreadAnswered
-refusedAs p k = record { state = p; answer = Refused k }
+refusedAs p k = record { state = p; answer = refusal k }
 
 abbrev pub SameIfRefused : Answer → Spread → Spread → Type 0
-SameIfRefused (Refused k) p q = q ≡ p
-SameIfRefused Done p q = Unit {0}
-SameIfRefused (Number n) p q = Unit {0}
-SameIfRefused (Pair a b) p q = Unit {0}
+SameIfRefused (Refused k r) p q = q ≡ p
+SameIfRefused (Given count a b c) p q = Unit {0}
 
 pub record MeetsSpread (c : Call) (p : Spread) (r : SpreadAnswered) : Type 0 where
   pub answer : answerOf (r .answer) ≡ step c (planOf p) .answer

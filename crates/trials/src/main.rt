@@ -28,9 +28,9 @@ fn show(p: State, s: i32, room: u32) {
     let mut refusal: u32 = 99;
     let part = plan::show(p, s, &mut buffer[0..n], &mut refusal);
     io::write_all(1, b"  refusal and part");
-    tell(Answer::Number(refusal), part, 2);
+    tell(Answer::Given(1, refusal, 0, 0), part, 2);
     io::write_all(1, b"  buffer");
-    tell(Answer::Done, buffer, 2);
+    tell(Answer::Given(0, 0, 0, 0), buffer, 2);
 }
 
 // Any call but show.

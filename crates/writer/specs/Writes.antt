@@ -2,16 +2,15 @@
 use Prim.Native.Nat.{ℕ}
 use mathlib.Core.Bool.{Bool, cond}
 use mathlib.Core.List.{List, [], _∷_, _++_}
-use lib.Dec.{leb}
+use lib.Dec.{leb, ltb}
 use lib.IntN.{ℤ}
 use lib.ListN.{length}
 use Rattle.protocol.specs.Calls as model
-use Rattle.format.specs.Numbers.{digits}
+use Rattle.format.specs.Numbers.{digits, written}
 use Rattle.format.specs.Lines.{space, lineFeed}
 use Rattle.format.specs.Sheets.{spaced, text, inFront}
 use Rattle.state.specs.declared.Answer.{Answer}
-use Rattle.state.specs.declared.Answer.the-variants.{Refused, Done, Number, Pair}
-use Rattle.state.specs.Meets.{answerOf}
+use Rattle.state.specs.Meets.{answerOf, firstOf}
 
 -- the numbers given, and those of a row behind them
 abbrev pub withRow : model.Answer → List ℤ → model.Answer
@@ -35,30 +34,22 @@ putLength line area = cond (fits line area) (length line) 0
 
 -- ---- the parts of a line
 
--- two letters and a number
-abbrev pub oneOf : ℕ → ℕ → ℕ → List ℕ
-oneOf first second n = first ∷ second ∷ space ∷ digits n
+-- the numbers given, the first `count` of three, each behind a space
+unfoldable pub numbersOf : ℕ → ℕ → ℕ → ℕ → List ℕ
+unfolding written
+numbersOf count a b c = spaced (firstOf count a b c)
 
--- `ok` and two numbers
-abbrev pub twoOf : ℕ → ℕ → List ℕ
-twoOf a b = 111 ∷ 107 ∷ space ∷ digits a ++ (space ∷ digits b)
+-- the number at place i, if it is given
+abbrev pub toldOf : ℕ → ℕ → ℕ → List ℕ
+toldOf i count n = cond (ltb i count) (space ∷ digits n) []
 
--- `no` or `ok`, and the answer's own numbers
-abbrev pub headOf : Answer → List ℕ
-headOf (Refused k) = oneOf 110 111 k
-headOf Done = 111 ∷ 107 ∷ []
-headOf (Number n) = oneOf 111 107 n
-headOf (Pair a b) = twoOf a b
+-- two letters, and the numbers given
+abbrev pub headOf : ℕ → ℕ → ℕ → ℕ → ℕ → ℕ → List ℕ
+headOf first second count a b c = first ∷ second ∷ numbersOf count a b c
 
 abbrev pub ended : List ℕ → List ℕ
 ended bs = bs ++ (lineFeed ∷ [])
 
-abbrev pub partsOf : Answer → List ℤ → List ℕ
-partsOf answer row = ended (headOf answer ++ spaced row)
-
--- how many of the values are told: none behind a refusal
-abbrev pub toldBehind : Answer → ℕ → ℕ
-toldBehind (Refused k) count = 0
-toldBehind Done count = count
-toldBehind (Number n) count = count
-toldBehind (Pair a b) count = count
+-- `ok`, the numbers given, and a row
+abbrev pub partsOf : ℕ → ℕ → ℕ → ℕ → List ℤ → List ℕ
+partsOf count a b c row = ended (headOf 111 107 count a b c ++ spaced row)

@@ -9,7 +9,8 @@ ghost use lib.Seq.{sets};
 ghost use Rattle.format.specs.Numbers.{digits, written};
 ghost use Rattle.format.specs.Lines.{space};
 ghost use Rattle.format.specs.Sheets.{spaced};
-ghost use Rattle.writer.specs.Writes.{lineOf, putIn, putLength, headOf, oneOf, twoOf, ended, partsOf, toldBehind};
+ghost use Rattle.state.specs.declared.Answer.the-variants as Answer;
+ghost use Rattle.writer.specs.Writes.{lineOf, putIn, putLength, toldOf, numbersOf, headOf, ended, partsOf};
 use state::Answer;
 
 // ---- a number
@@ -179,60 +180,62 @@ fn put_row<'a>(row: &'a [i32], at: usize, area: &mut [u8]) -> usize
     end
 }
 
-// ---- a line with a row behind
+// ---- two letters, and the numbers given: the first `count` of three, each behind a space
 
-fn head_width(answer: Answer) -> usize
-    ensures { λ r. ⌜ r ≡ length (headOf answer) ⌝ }
+// How many bytes the number at place i has with its space: none, if it is not given.
+fn told_width(i: u32, count: u32, n: u32) -> usize
+    ensures { λ r. ⌜ (r ≡ length (toldOf i count n)) × (r ≤ 11) ⌝ }
 {
-    match answer {
-        Answer::Refused(k) => 3 + width(k),
-        Answer::Done => 2,
-        Answer::Number(n) => 3 + width(n),
-        Answer::Pair(a, b) => 4 + width(a) + width(b),
+    if i < count {
+        return 1 + width(n);
     }
+    0
 }
 
-// Two letters and a number up to an end, which is known.
-fn put_one(first: u8, second: u8, n: u32, end: usize, area: &mut [u8])
-    requires { ⌜ (end ≡ length (oneOf first second n)) × (end ≤ length (now area)) ⌝ }
-    ensures { λ r. ⌜ now (area .exit) ≡ sets (now (area .entry)) 0 (oneOf first second n) ⌝ }
+// The number at place i up to a place, if it is given; the place where it begins.
+fn put_told(i: u32, count: u32, n: u32, end: usize, area: &mut [u8]) -> usize
+    requires { ⌜ (length (toldOf i count n) ≤ end) × (end ≤ length (now area)) ⌝ }
+    ensures { λ r. ⌜ (now (area .exit) ≡ sets (now (area .entry)) r (toldOf i count n)) × (r ≡ end - length (toldOf i count n)) ⌝ }
+{
+    if i < count {
+        return put_spaced(n, end, area);
+    }
+    end
+}
+
+fn numbers_width(count: u32, a: u32, b: u32, c: u32) -> usize
+    ensures { λ r. ⌜ (r ≡ length (numbersOf count a b c)) × (r ≤ 33) ⌝ }
+{
+    told_width(0, count, a) + told_width(1, count, b) + told_width(2, count, c)
+}
+
+// The numbers up to a place, the last first; the place where they begin.
+fn put_numbers(count: u32, a: u32, b: u32, c: u32, end: usize, area: &mut [u8]) -> usize
+    requires { ⌜ (length (numbersOf count a b c) ≤ end) × (end ≤ length (now area)) ⌝ }
+    ensures { λ r. ⌜ (now (area .exit) ≡ sets (now (area .entry)) r (numbersOf count a b c)) × (r ≡ end - length (numbersOf count a b c)) ⌝ }
+{
+    let third = put_told(2, count, c, end, area);
+    let second = put_told(1, count, b, third, area);
+    put_told(0, count, a, second, area)
+}
+
+// Two letters and the numbers up to an end, which is known.
+fn put_head(first: u8, second: u8, count: u32, a: u32, b: u32, c: u32, end: usize, area: &mut [u8])
+    requires { ⌜ (end ≡ length (headOf first second count a b c)) × (end ≤ length (now area)) ⌝ }
+    ensures { λ r. ⌜ now (area .exit) ≡ sets (now (area .entry)) 0 (headOf first second count a b c) ⌝ }
 {
     area[0] = first;
     area[1] = second;
-    put_spaced(n, end, area);
+    put_numbers(count, a, b, c, end, area);
 }
 
-// `ok` and two numbers up to an end, which is known. The last is written first.
-fn put_two(a: u32, b: u32, end: usize, area: &mut [u8])
-    requires { ⌜ (end ≡ length (twoOf a b)) × (end ≤ length (now area)) ⌝ }
-    ensures { λ r. ⌜ now (area .exit) ≡ sets (now (area .entry)) 0 (twoOf a b) ⌝ }
-{
-    area[0] = 111;
-    area[1] = 107;
-    let at = put_spaced(b, end, area);
-    put_spaced(a, at, area);
-}
+// ---- a line
 
-fn put_head(answer: Answer, end: usize, area: &mut [u8])
-    requires { ⌜ (end ≡ length (headOf answer)) × (end ≤ length (now area)) ⌝ }
-    ensures { λ r. ⌜ now (area .exit) ≡ sets (now (area .entry)) 0 (headOf answer) ⌝ }
+// With a row behind. The parts of the line are measured before the first byte is written.
+fn put_parts(count: u32, a: u32, b: u32, c: u32, row: &[i32], area: &mut [u8]) -> usize
+    ensures { λ r. ⌜ (now (area .exit) ≡ putIn (partsOf count a b c (now (row .entry))) (now (area .entry))) × (r ≡ putLength (partsOf count a b c (now (row .entry))) (now (area .entry))) ⌝ }
 {
-    match answer {
-        Answer::Refused(k) => put_one(110, 111, k, end, area),
-        Answer::Done => {
-            area[0] = 111;
-            area[1] = 107;
-        }
-        Answer::Number(n) => put_one(111, 107, n, end, area),
-        Answer::Pair(a, b) => put_two(a, b, end, area),
-    }
-}
-
-// The parts of a line are measured before the first byte is written.
-fn put_parts(answer: Answer, row: &[i32], area: &mut [u8]) -> usize
-    ensures { λ r. ⌜ (now (area .exit) ≡ putIn (partsOf answer (now (row .entry))) (now (area .entry))) × (r ≡ putLength (partsOf answer (now (row .entry))) (now (area .entry))) ⌝ }
-{
-    let w = head_width(answer);
+    let w = 2 + numbers_width(count, a, b, c);
     let room = area.len();
     if room <= w {
         return 0;
@@ -240,41 +243,30 @@ fn put_parts(answer: Answer, row: &[i32], area: &mut [u8]) -> usize
     if !row_fits(row, room - w - 1) {
         return 0;
     }
-    put_head(answer, w, area);
+    put_head(111, 107, count, a, b, c, w, area);
     let end = put_row(row, w, area);
     area[end] = 10;
     end + 1
 }
 
-// ---- a line with no row behind, as nearly all are: straight, so that the answer's kind is looked at once
-
-fn put_number(first: u8, second: u8, n: u32, area: &mut [u8]) -> usize
-    ensures { λ r. ⌜ (now (area .exit) ≡ putIn (ended (oneOf first second n)) (now (area .entry))) × (r ≡ putLength (ended (oneOf first second n)) (now (area .entry))) ⌝ }
+// With no row behind, as nearly all are.
+fn put_line(first: u8, second: u8, count: u32, a: u32, b: u32, c: u32, area: &mut [u8]) -> usize
+    ensures { λ r. ⌜ (now (area .exit) ≡ putIn (ended (headOf first second count a b c)) (now (area .entry))) × (r ≡ putLength (ended (headOf first second count a b c)) (now (area .entry))) ⌝ }
 {
-    let w = 3 + width(n);
+    let w = 2 + numbers_width(count, a, b, c);
     if area.len() <= w {
         return 0;
     }
-    put_one(first, second, n, w, area);
+    put_head(first, second, count, a, b, c, w, area);
     area[w] = 10;
     w + 1
 }
 
-fn put_pair(a: u32, b: u32, area: &mut [u8]) -> usize
-    ensures { λ r. ⌜ (now (area .exit) ≡ putIn (ended (twoOf a b)) (now (area .entry))) × (r ≡ putLength (ended (twoOf a b)) (now (area .entry))) ⌝ }
-{
-    let w = 4 + width(a) + width(b);
-    if area.len() <= w {
-        return 0;
-    }
-    put_two(a, b, w, area);
-    area[w] = 10;
-    w + 1
-}
+// ---- a refusal
 
 // `no 51`, the answer to every line that cannot be read, as it stands.
 fn put_unreadable(area: &mut [u8]) -> usize
-    ensures { λ r. ⌜ (now (area .exit) ≡ putIn (ended (oneOf 110 111 51)) (now (area .entry))) × (r ≡ putLength (ended (oneOf 110 111 51)) (now (area .entry))) ⌝ }
+    ensures { λ r. ⌜ (now (area .exit) ≡ putIn (ended (headOf 110 111 1 51 0 0)) (now (area .entry))) × (r ≡ putLength (ended (headOf 110 111 1 51 0 0)) (now (area .entry))) ⌝ }
 {
     if area.len() < 6 {
         return 0;
@@ -289,47 +281,47 @@ fn put_unreadable(area: &mut [u8]) -> usize
 }
 
 fn put_refusal(k: u32, area: &mut [u8]) -> usize
-    ensures { λ r. ⌜ (now (area .exit) ≡ putIn (ended (oneOf 110 111 k)) (now (area .entry))) × (r ≡ putLength (ended (oneOf 110 111 k)) (now (area .entry))) ⌝ }
+    ensures { λ r. ⌜ (now (area .exit) ≡ putIn (ended (headOf 110 111 1 k 0 0)) (now (area .entry))) × (r ≡ putLength (ended (headOf 110 111 1 k 0 0)) (now (area .entry))) ⌝ }
 {
     if k == 51 {
         return put_unreadable(area);
     }
-    put_number(110, 111, k, area)
+    put_line(110, 111, 1, k, 0, 0, area)
 }
 
-// An answer that gives no number is told as 0.
-fn put_alone(answer: Answer, area: &mut [u8]) -> usize
-    ensures { λ r. ⌜ (now (area .exit) ≡ putIn (lineOf answer []) (now (area .entry))) × (r ≡ putLength (lineOf answer []) (now (area .entry))) ⌝ }
+// ---- numbers given
+
+// No number is told as 0. One number, as nearly all have, has a call of its own for speed alone: in it the count is known when the code is compiled.
+fn put_alone(count: u32, a: u32, b: u32, c: u32, area: &mut [u8]) -> usize
+    ensures { λ r. ⌜ (now (area .exit) ≡ putIn (lineOf (Answer.Given count a b c) []) (now (area .entry))) × (r ≡ putLength (lineOf (Answer.Given count a b c) []) (now (area .entry))) ⌝ }
 {
-    match answer {
-        Answer::Refused(k) => put_refusal(k, area),
-        Answer::Done => put_number(111, 107, 0, area),
-        Answer::Number(n) => put_number(111, 107, n, area),
-        Answer::Pair(a, b) => put_pair(a, b, area),
+    if 1 < count {
+        return put_line(111, 107, count, a, b, c, area);
     }
+    if count == 0 {
+        return put_line(111, 107, 1, 0, 0, 0, area);
+    }
+    put_line(111, 107, 1, a, 0, 0, area)
+}
+
+fn put_given(count: u32, a: u32, b: u32, c: u32, row: &[i32], area: &mut [u8]) -> usize
+    ensures { λ r. ⌜ (now (area .exit) ≡ putIn (lineOf (Answer.Given count a b c) (now (row .entry))) (now (area .entry))) × (r ≡ putLength (lineOf (Answer.Given count a b c) (now (row .entry))) (now (area .entry))) ⌝ }
+{
+    if row.len() == 0 {
+        return put_alone(count, a, b, c, area);
+    }
+    put_parts(count, a, b, c, row, area)
 }
 
 // ---- any line
 
-// How many of the values behind an answer are told: none behind a refusal.
-fn told_behind(answer: Answer, count: usize) -> usize
-    ensures { λ r. ⌜ r ≡ toldBehind answer count ⌝ }
-{
-    match answer {
-        Answer::Refused(_) => 0,
-        Answer::Done => count,
-        Answer::Number(_) => count,
-        Answer::Pair(_, _) => count,
-    }
-}
-
 // The line of an answer whose numbers are its own and those of a row behind them, put into the front of an area that has room for it.
-// Gives the line's length, or 0 where it does not fit and the area is left as it was.
+// Gives the line's length, or 0 where it does not fit and the area is left as it was. A refusal has one number, and no row behind.
 pub fn put(answer: Answer, row: &[i32], area: &mut [u8]) -> usize
     ensures { λ r. ⌜ (now (area .exit) ≡ putIn (lineOf answer (now (row .entry))) (now (area .entry))) × (r ≡ putLength (lineOf answer (now (row .entry))) (now (area .entry))) ⌝ }
 {
-    if told_behind(answer, row.len()) == 0 {
-        return put_alone(answer, area);
+    match answer {
+        Answer::Refused(k, _) => put_refusal(k, area),
+        Answer::Given(count, a, b, c) => put_given(count, a, b, c, row, area),
     }
-    put_parts(answer, row, area)
 }

@@ -130,7 +130,7 @@ returns-3 c =
     λ base draft confirmed. lent (c .before .before .before .before .before .before .before .before .before .before .before .before .before .before .before .before .before .before .before .before .before .before .from-numbers .ensures) refl refl
     (edit-making l h base draft (a .values .now) (a .arrived .now) confirmed (a .table .now) (a .index .now) (a .look) (a .counts .now) (a .sound) (s .pre) (c .before .before .before .before .before .before .before .before .before .before .before .before .before .before .before .before .before .before .before .decide-edit .result) (c .before .before .before .before .before .before .before .before .before .before .before .before .before .before .before .before .before .before .before .decide-edit .ensures)
     (edit-kept l h base draft (a .values .now) (a .arrived .now) confirmed (a .table .now) (a .index .now) (a .look) (a .counts .now) (a .sound) (c .before .before .before .before .before .before .before .before .before .before .before .before .before .before .before .before .before .ruling2 .given .0 .0) x (c .before .before .before .before .before .before .before .before .before .before .before .before .before .before .before .before .before .ruling2 .given .1)
-    (sym (c .before .before .before .before .before .before .before .before .before .before .is-whole .ensures) ∙ (c .before .before .before .before .before .before .before .before .before .if1 .left)) ((c .keeping .ensures) ∙ (λ j. stored (Answer.Number (h .next)) ((c .before .before .capped .ensures) j) ((c .before .edit-record .ensures) j))) (ap headFrom (c .before .before .before .before .before .before .before .before .before .before .before .numbers .ensures) ∙ head-numbers (c .before .before .before .before .before .before .before .before .before .before .before .before .edit-head .result) ∙ (c .before .before .before .before .before .before .before .before .before .before .before .before .edit-head .ensures))
+    (sym (c .before .before .before .before .before .before .before .before .before .before .is-whole .ensures) ∙ (c .before .before .before .before .before .before .before .before .before .if1 .left)) ((c .keeping .ensures) ∙ (λ j. stored (Answer.Given 1 (h .next) 0 0) ((c .before .before .capped .ensures) j) ((c .before .edit-record .ensures) j))) (ap headFrom (c .before .before .before .before .before .before .before .before .before .before .before .numbers .ensures) ∙ head-numbers (c .before .before .before .before .before .before .before .before .before .before .before .before .edit-head .result) ∙ (c .before .before .before .before .before .before .before .before .before .before .before .before .edit-head .ensures))
     (λ j. set (a .values .now) (((c .before .before .before .before .before .before .before .before .before .before .before .before .before .spot .ensures .0) ∙ (λ k. spotOf (natural (to-a k)) (natural (to-d k)))) j) (to-x j))
     ((c .before .before .before .note-kept .ensures) ∙ (λ j. oneUnsent (side j) (getD (a .arrived .now) (place j) false) (a .counts .now)))))
 

@@ -99,7 +99,7 @@ returns-2 c =
     λ base values arrived confirmed. lent (c .before .before .before .before .before .before .before .before .before .before .before .before .before .before .before .before .before .from-numbers .ensures) refl (sym (c .before .before .before .before .before .before .before .before .before .before .before .before .before .before .before .before .before .from-numbers .ensures))
     (replay-making l h base (a .draft .now) values arrived confirmed (a .table .now) (a .index .now) (a .look) (a .counts .now) (a .sound) (s .pre) (c .before .before .before .before .before .before .before .before .before .before .before .before .decide-replay .result) (c .before .before .before .before .before .before .before .before .before .before .before .before .decide-replay .ensures)
     (replay-settled l h base (a .draft .now) values arrived confirmed (a .table .now) (a .index .now) (a .look) (a .counts .now) (a .sound) b x (c .before .before .before .before .before .before .before .before .before .before .outcome2 .given .1)
-    ((c .keeping .ensures) ∙ (λ j. stored (Answer.Number ((c .before .before .before .fate-number .ensures) j)) (c .before .before .slot .result) (((c .before .settled-record .ensures) ∙ (λ k. settledRecord (a .look .standing) b ((c .before .before .before .before .before .before .capped .ensures) k + 1))) j))) (c .before .before .slot .ensures .0) (c .before .before .slot .ensures .1)
+    ((c .keeping .ensures) ∙ (λ j. stored (Answer.Given 1 ((c .before .before .before .fate-number .ensures) j) 0 0) (c .before .before .slot .result) (((c .before .settled-record .ensures) ∙ (λ k. settledRecord (a .look .standing) b ((c .before .before .before .before .before .before .capped .ensures) k + 1))) j))) (c .before .before .slot .ensures .0) (c .before .before .slot .ensures .1)
     (λ j. set (a .draft .now) ((c .before .before .before .before .before .before .before .before .point-of .ensures .0) j) (to-x j)) (c .before .before .before .before .note-settled .ensures)))
 
 pub replay-in-spec : {M : Type 1} → statement M

@@ -1,7 +1,7 @@
 use mathlib.Core.Path.{_≡_, sym, ap, _∙_}
 use mathlib.Core.Bool.{true}
 use Rattle.protocol.specs.Calls.{first}
-use Rattle.state.specs.declared.Answer.the-variants.{Number}
+use Rattle.state.specs.Meets.{number}
 use Rattle.state.proofs.Meeting.{verdict-refused, verdict-fine}
 use Rattle.moves.specs.declared.Sending.{Sending}
 use Rattle.moves.specs.Moves.{sendChecks, sendBy}
@@ -27,7 +27,7 @@ capped-requires c κs = search needs
 returns-2 : tie.Need-returns-2
 returns-2 c =
     let a = (c .before .before .before .args) in
-    ap {B = Sending} (λ n. record { marked = n; arrived = true; answer = Number (a .unsent) }) (c .capped .ensures)
+    ap {B = Sending} (λ n. record { marked = n; arrived = true; answer = number (a .unsent) }) (c .capped .ensures)
     ∙ sym (ap (λ v. sendBy v (a .h) (a .arrived) (a .unsent)) (verdict-fine (sendChecks (a .h) (a .s) (a .arrived) (a .unsent)) _ tt (c .before .before .send-refusal .ensures) (c .before .if1 .left)))
 
 pub decide-send-spec : {M : Type 1} → statement M

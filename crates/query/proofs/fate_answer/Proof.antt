@@ -1,7 +1,7 @@
 use mathlib.Core.Path.{ap}
 use borrow.Author.Tests.{eq-eqb, ne-eqb}
 use Rattle.state.specs.declared.Answer.{Answer}
-use Rattle.state.specs.declared.Answer.the-variants.{Pair}
+use Rattle.state.specs.Meets.{pair}
 use borrow.Author.Needs.{needs}
 use Rattle.query.proofs.fate_answer.Statement.{statement}
 use Rattle.query.proofs.fate_answer.Tie as tie
@@ -17,7 +17,7 @@ fate-number-requires c κs = search needs
 
 returns-2 : tie.Need-returns-2
 returns-2 c =
-    rw (ne-eqb _ 0 ((c .before .if1 .left))) (ap {B = Answer} (λ n. Pair n ((c .before .before .args .e .place))) ((c .fate-number .ensures)))
+    rw (ne-eqb _ 0 ((c .before .if1 .left))) (ap {B = Answer} (λ n. pair n ((c .before .before .args .e .place))) ((c .fate-number .ensures)))
 
 pub fate-answer-spec : {M : Type 1} → statement M
 fate-answer-spec = tie.close (tie.spec returns fate-number-requires returns-2)

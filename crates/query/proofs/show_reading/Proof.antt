@@ -1,7 +1,7 @@
 use mathlib.Core.Path.{ap, sym, _∙_}
 use Rattle.protocol.specs.Calls.{first}
 use Rattle.query.specs.Reads.{showChecks}
-use Rattle.state.specs.declared.Answer.the-variants.{Done}
+use Rattle.state.specs.Meets.{done}
 use Rattle.state.proofs.Meeting.{verdict-refused, verdict-fine}
 use Rattle.query.specs.Readings.{showBy}
 use borrow.Author.Needs.{needs}
@@ -30,7 +30,7 @@ capped-requires c κs = search needs
 returns-2 : tie.Need-returns-2
 returns-2 c =
     let a = (c .before .before .before .before .args) in
-    (λ i. record { answer = Done; from = (c .before .offset .ensures .0) i; width = (c .capped .ensures) i })
+    (λ i. record { answer = done; from = (c .before .offset .ensures .0) i; width = (c .capped .ensures) i })
     ∙ sym (ap (λ v. showBy v (a .h) (a .s)) (verdict-fine (showChecks (a .h) (a .s) 32) _ tt ((c .before .before .before .show-refusal .ensures)) ((c .before .before .if1 .left))))
 
 pub show-reading-spec : {M : Type 1} → statement M

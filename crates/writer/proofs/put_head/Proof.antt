@@ -1,104 +1,39 @@
 use native.Mathlib.Omega.{arith}
-use Prim.Native.Nat.{ℕ}
-use mathlib.Core.List.{List}
-use mathlib.Core.Path.{_≡_, sym, ap, _∙_}
+use mathlib.Core.Path.{_≡_}
 use lib.Seq.{sets}
-use lib.ListN.{length, length-set}
-use Rattle.state.specs.declared.Answer.{Answer}
-use Rattle.writer.specs.Writes.{headOf}
+use lib.ListN.{set, length-set}
+use Rattle.writer.specs.Writes.{numbersOf, headOf}
+use Rattle.writer.proofs.Puts.{put-length}
+use Rattle.writer.proofs.Parts.{put-up-to}
 use borrow.Author.Needs.{needs}
 use Rattle.writer.proofs.put_head.Statement.{statement}
 use Rattle.writer.proofs.put_head.Tie as tie
 use Rattle.writer.proofs.put_head.Reads as reads
 use Rattle.writer.proofs.put_head.Lts as lts
-use Rattle.writer.proofs.put_one.Reads as put-one-reads
-use Rattle.writer.proofs.put_two.Reads as put-two-reads
+use Rattle.writer.proofs.put_numbers.Reads as put-numbers-reads
 
--- how long the head is, and what is put, by the answer's kind
-wide : (answer kind : Answer) (end : ℕ) → answer ≡ kind → end ≡ length (headOf answer) → end ≡ length (headOf kind)
-wide answer kind end e h = h ∙ ap (λ a. length (headOf a)) e
-
-put : (answer kind : Answer) (area after : List ℕ) → answer ≡ kind → after ≡ sets area 0 (headOf kind) → after ≡ sets area 0 (headOf answer)
-put answer kind area after e h = h ∙ ap (λ a. sets area 0 (headOf a)) (sym e)
-
-enum-known-answer : tie.Need-enum-known-answer
-enum-known-answer c = search needs
-
-put-one-requires : tie.Need-put-one-requires
-put-one-requires c κs =
-    (wide _ _ _ ((c .before .before .answer .given .1)) ((c .before .before .before .before .before .pre .0)), (c .before .before .before .before .before .pre .1))
-
-enum-told : tie.Need-enum-told
-enum-told c = search needs
+put : (c : tie.After-put-numbers) → let s = c .before .before .before .args in c .put-numbers .last .1 .1 .1 .1 .1 .0 ≡ sets (s .area .now) 0 (headOf (s .first) (s .second) (s .count) (s .a) (s .b) (s .c))
+put c =
+    let s = c .before .before .before in
+    put-up-to (set (set (s .args .area .now) 0 (s .args .first)) 1 (s .args .second)) _ (s .args .end) _ (numbersOf (s .args .count) (s .args .a) (s .args .b) (s .args .c)) (c .put-numbers .ensures .0) (c .put-numbers .ensures .1) (s .pre .0)
 
 slice-write-area : tie.Need-slice-write-area
-slice-write-area c =
-    omega (arith, wide _ _ _ ((c .enum-told .given .1)) ((c .before .before .before .pre .0)), (c .before .before .before .pre .1))
+slice-write-area c = search needs
 
 slice-write-area-2 : tie.Need-slice-write-area-2
-slice-write-area-2 c =
-    omega (arith, wide _ _ _ ((c .enum-told .given .1)) ((c .before .before .before .pre .0)), (c .before .before .before .pre .1), length-set ((c .before .before .before .args .area .now)) 0 111)
+slice-write-area-2 c = omega (arith, (c .before .pre), length-set ((c .before .args .area .now)) 0 ((c .before .args .first)))
 
-enum-known-answer-2 : tie.Need-enum-known-answer-2
-enum-known-answer-2 c = search needs
-
-put-one-requires-2 : tie.Need-put-one-requires-2
-put-one-requires-2 c κs =
-    (wide _ _ _ ((c .before .before .answer2 .given .1)) ((c .before .before .before .before .before .pre .0)), (c .before .before .before .before .before .pre .1))
-
-enum-known-answer-3 : tie.Need-enum-known-answer-3
-enum-known-answer-3 c = search needs
-
-put-two-requires : tie.Need-put-two-requires
-put-two-requires c κs =
-    (wide _ _ _ ((c .before .before .answer3 .given .1)) ((c .before .before .before .before .before .pre .0)), (c .before .before .before .before .before .pre .1))
+put-numbers-requires : tie.Need-put-numbers-requires
+put-numbers-requires c κs = search needs
 
 same-length : tie.Need-same-length
-same-length c = search needs
+same-length c =
+    let s = (c .before .before .before .before .before .args) in put-length _ (s .area .now) 0 (headOf (s .first) (s .second) (s .count) (s .a) (s .b) (s .c)) (put (c .before .before))
 
 returns : tie.Need-returns
-returns c =
-    put _ _ ((c .before .before .before .before .before .before .before .before .args .area .now)) _ ((c .before .before .before .before .before .answer .given .1)) ((c .before .before .put-one .ensures))
-
-same-length-2 : tie.Need-same-length-2
-same-length-2 c = search needs
-
-returns-2 : tie.Need-returns-2
-returns-2 c =
-    ap (λ a. sets ((c .before .before .before .args .area .now)) 0 (headOf a)) (sym ((c .enum-told .given .1)))
-
-same-length-3 : tie.Need-same-length-3
-same-length-3 c = search needs
-
-returns-3 : tie.Need-returns-3
-returns-3 c =
-    put _ _ ((c .before .before .before .before .before .before .before .before .args .area .now)) _ ((c .before .before .before .before .before .answer2 .given .1)) ((c .before .before .put-one2 .ensures))
-
-same-length-4 : tie.Need-same-length-4
-same-length-4 c = search needs
-
-returns-4 : tie.Need-returns-4
-returns-4 c =
-    put _ _ ((c .before .before .before .before .before .before .before .before .args .area .now)) _ ((c .before .before .before .before .before .answer3 .given .1)) ((c .before .before .put-two .ensures))
+returns c = put (c .before .before)
 
 pub put-head-spec : {M : Type 1} → statement M
 put-head-spec =
     tie.close
-    (tie.spec
-    enum-known-answer
-    put-one-requires
-    enum-told
-    slice-write-area
-    slice-write-area-2
-    enum-known-answer-2
-    put-one-requires-2
-    enum-known-answer-3
-    put-two-requires
-    same-length
-    returns
-    same-length-2
-    returns-2
-    same-length-3
-    returns-3
-    same-length-4
-    returns-4)
+    (tie.spec slice-write-area slice-write-area-2 put-numbers-requires same-length returns)

@@ -4,7 +4,7 @@ use Rattle.writer.proofs.put_refusal.Statement.{statement}
 use Rattle.writer.proofs.put_refusal.Tie as tie
 use Rattle.writer.proofs.put_refusal.Reads as reads
 use Rattle.writer.proofs.put_refusal.Lts as lts
-use Rattle.writer.proofs.put_number.Reads as put-number-reads
+use Rattle.writer.proofs.put_line.Reads as put-line-reads
 use Rattle.writer.proofs.put_unreadable.Reads as put-unreadable-reads
 
 put-unreadable-requires : tie.Need-put-unreadable-requires
@@ -16,8 +16,8 @@ same-length c = search needs
 returns : tie.Need-returns
 returns c = unread-is _ (c .before .before .before .before .before .before .args .area .now) _ _ (c .before .before .before .before .if1 .taken) (c .before .before .put-unreadable .ensures)
 
-put-number-requires : tie.Need-put-number-requires
-put-number-requires c κs = search needs
+put-line-requires : tie.Need-put-line-requires
+put-line-requires c κs = search needs
 
 same-length-2 : tie.Need-same-length-2
 same-length-2 c = search needs
@@ -32,6 +32,6 @@ put-refusal-spec =
     put-unreadable-requires
     same-length
     returns
-    put-number-requires
+    put-line-requires
     same-length-2
     returns-2)
