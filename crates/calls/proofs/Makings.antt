@@ -20,7 +20,7 @@ use Rattle.rules.specs.Index.{Indexed, testedBy, firmBy}
 use Rattle.rules.specs.Table.{lowers, gaps, uppers, firms, withRule}
 use Rattle.rules.proofs.Tables.{rule-length, rule-lower, rule-gap, rule-upper, rule-firm}
 use Rattle.heads.specs.declared.Head.{Head}
-use Rattle.heads.specs.Heads.{modeOf, sidesIn, indexOf, namedAt, slotAt, seatOf}
+use Rattle.heads.specs.Heads.{modeOf, sidesIn, indexOf, namedAt, slotAt, namedSlot}
 use Rattle.records.specs.declared.EditRecord.{EditRecord}
 use Rattle.records.specs.Records.{keptOf, noRecord, recordOf}
 use Rattle.state.specs.Spread.{Spread}
@@ -118,7 +118,8 @@ joined closing t = tt
 -- ---- from a call's contract on states
 
 module _ {l : Line} {p : State} {index : List ℤ} {look : Look} {t : List ℕ} {sound : Bool} (k : Known l p index look t sound) where
-  pub met : (c : Call) (q : State) (e : Effect) (t′ : List ℕ) → lineIn l ≡ some c → belongs c blank ≡ false → MeetsSpread c (spread p) (record { state = spread q; answer = e .answer }) → q .table ≡ p .table → e .from ≡ 0 → e .width ≡ 0
+  pub met : (c : Call) (q : State) (e : Effect) (t′ : List ℕ) → lineIn l ≡ some c → belongs c blank ≡ false → MeetsSpread c (spread p) (record { state = spread q; answer = e .answer })
+      → q .table ≡ p .table → e .from ≡ 0 → e .width ≡ 0
       → t′ ≡ cond (isAccepted (e .answer)) (tallyAfter c (view p) t) t → Sized (spread q) → min (q .head .rules) 64 ≡ min (p .head .rules) 64 → Makes l p q t t′ index index e
   met c q e t′ line u m b f w counts z n =
       let made = meets-made c (spread p) (record { state = spread q; answer = e .answer }) m in
@@ -136,7 +137,8 @@ module _ {l : Line} {p : State} {index : List ℤ} {look : Look} {t : List ℕ} 
       }
 
 -- a call that gives no row answers alone
-pub bare-answer : {l : Line} {p q : State} {t t′ : List ℕ} {index index′ : List ℤ} {e : Effect} → Makes l p q t t′ index index′ e → eqb (l .op) 12 ≡ false → answerOf (e .answer) ≡ stepOf (lineIn l) (view p) .answer
+pub bare-answer : {l : Line} {p q : State} {t t′ : List ℕ} {index index′ : List ℤ} {e : Effect} → Makes l p q t t′ index index′ e → eqb (l .op) 12 ≡ false → answerOf (e .answer) ≡ stepOf (lineIn l)
+    (view p) .answer
 bare-answer {q = q} {e = e} m x = sym (alone-row (e .answer)) ∙ sym (ap (λ n. withRow (answerOf (e .answer)) (row (q .values) (e .from) n)) (m .bare x)) ∙ m .answer
 
 -- ---- heads and the effect in other words
@@ -145,7 +147,8 @@ pub lent : {l : Line} {h h₁ : Head} {base draft values : List ℤ} {arrived co
     {h′ h₂ : Head} {base′ draft′ values′ : List ℤ} {arrived′ confirmed′ : List Bool} {table′ index′ : List ℤ} {t′ : List ℕ} → h ≡ h₁ → e₁ ≡ e → h₂ ≡ h′
     → Making l h base draft values arrived confirmed table index look t sound e h′ base′ draft′ values′ arrived′ confirmed′ table′ index′ t′
     → Making l h₁ base draft values arrived confirmed table index look t sound e₁ h₂ base′ draft′ values′ arrived′ confirmed′ table′ index′ t′
-lent {l} {h} {h₁} {base} {draft} {values} {arrived} {confirmed} {table} {index} {look} {t} {sound} {e} {e₁} {h′} {h₂} {base′} {draft′} {values′} {arrived′} {confirmed′} {table′} {index′} {t′} before effect after m =
+lent {l} {h} {h₁} {base} {draft} {values} {arrived} {confirmed} {table} {index} {look} {t} {sound} {e} {e₁} {h′} {h₂} {base′} {draft′} {values′} {arrived′} {confirmed′} {table′} {index′} {t′} before
+    effect after m =
     subst (λ x. Making l x base draft values arrived confirmed table index look t sound e₁ h₂ base′ draft′ values′ arrived′ confirmed′ table′ index′ t′) before
     (subst (λ x. Making l h base draft values arrived confirmed table index look t sound x h₂ base′ draft′ values′ arrived′ confirmed′ table′ index′ t′) (sym effect)
     (subst (λ x. Making l h base draft values arrived confirmed table index look t sound e x base′ draft′ values′ arrived′ confirmed′ table′ index′ t′) (sym after) m))
@@ -206,20 +209,36 @@ module _ (l : Line) (h : Head) (base draft values : List ℤ) (arrived confirmed
         let stood = k .stood (ap looksAt op) in
         let dec : d ≡ editIn false p (l .a) (l .b) (l .c) (l .d) (l .e) (l .f) =
         edit-decided sound p (l .a) (l .b) (l .c) (l .d) (l .e) (l .f) {i = i} {seat = slotAt i} {index = index} i-is refl
-        (ap ruledAs r-is ∙ ap (λ s. editFrom (testedBy sound index) (firmBy sound index) h (lowers table) (gaps table) (uppers table) (firms table) values i s (l .a) (l .b) (l .c) (l .d) (l .e) (l .f)) stood) (λ drawn sure. k .indexed sure drawn)
+        (ap ruledAs r-is ∙ ap (λ s. editFrom (testedBy sound index) (firmBy sound index) h (lowers table) (gaps table) (uppers table) (firms table) values i s (l .a) (l .b) (l .c) (l .d) (l .e)
+        (l .f)) stood) (λ drawn sure. k .indexed sure drawn)
         ∙ edit-held p sound (k .held) (l .a) (l .b) (l .c) (l .d) (l .e) (l .f) in
         let meets : MeetsSpread (edit (l .a) (l .b) (l .c) (l .d) (l .e) (l .f)) p (record { state = editing.stored p spot (slotOf h) d; answer = d .answer }) =
-        subst (λ x. MeetsSpread (edit (l .a) (l .b) (l .c) (l .d) (l .e) (l .f)) p (record { state = editing.stored p spot (slotOf h) x; answer = x .answer })) (sym dec) (edit-meets p (k .sized) (l .a) (l .b) (l .c) (l .d) (l .e) (l .f)) in
+        subst (λ x. MeetsSpread (edit (l .a) (l .b) (l .c) (l .d) (l .e) (l .f)) p (record { state = editing.stored p spot (slotOf h) x; answer = x .answer })) (sym dec)
+        (edit-meets p (k .sized) (l .a) (l .b) (l .c) (l .d) (l .e) (l .f)) in
         let q = stateOf h′ base draft values′ arrived confirmed table after in
         let after-is : after ≡ cond (d .kept) (set edits (slotOf h) (d .entry)) edits = m .none (s .bare .2) ∙ s .keeps edits in
-        let stored-is : _≡_ {A = Spread} (editing.stored p spot (slotOf h) d) (spread q) = sym {A = Spread} (λ j. spread (stateOf (s .head j) base draft (s .written j) arrived confirmed table (after-is j))) in
+        let stored-is : _≡_ {A = Spread} (editing.stored p spot (slotOf h) d) (spread q) = sym {A = Spread}
+        (λ j. spread (stateOf (s .head j) base draft (s .written j) arrived confirmed table (after-is j))) in
         let here : MeetsSpread (edit (l .a) (l .b) (l .c) (l .d) (l .e) (l .f)) p (record { state = spread q; answer = e .answer }) =
         subst (λ a. MeetsSpread (edit (l .a) (l .b) (l .c) (l .d) (l .e) (l .f)) p (record { state = spread q; answer = a })) (sym (s .answer))
         (subst (λ x. MeetsSpread (edit (l .a) (l .b) (l .c) (l .d) (l .e) (l .f)) p (record { state = x; answer = d .answer })) stored-is meets) in
         let made = subst (λ a. Made (some (edit (l .a) (l .b) (l .c) (l .d) (l .e) (l .f))) p (spread q) a []) (s .answer) (meets-made _ p (record { state = spread q; answer = e .answer }) here) in
         met k (edit (l .a) (l .b) (l .c) (l .d) (l .e) (l .f)) q e t′ (line-edit l op) refl here refl (s .bare .0) (s .bare .1)
-        (s .counts ∙ edit-counts p (l .a) (l .b) (l .c) (l .d) (l .e) (l .f) d dec made t ∙ ap (λ a. cond (isAccepted a) (tallyAfter (edit (l .a) (l .b) (l .c) (l .d) (l .e) (l .f)) (view (before edits)) t) t) (sym (s .answer)))
-        (record { base = k .sized .base; draft = k .sized .draft; values = ap length (s .written) ∙ length-set values spot (d .value) ∙ k .sized .values; arrived = k .sized .arrived; confirmed = k .sized .confirmed; lower = k .sized .lower; gap = k .sized .gap; upper = k .sized .upper; firm = k .sized .firm; edits = m .size })
+        (s .counts ∙ edit-counts p (l .a) (l .b) (l .c) (l .d) (l .e) (l .f) d dec made t
+        ∙ ap (λ a. cond (isAccepted a) (tallyAfter (edit (l .a) (l .b) (l .c) (l .d) (l .e) (l .f)) (view (before edits)) t) t) (sym (s .answer)))
+        (record {
+          base = k .sized .base;
+          draft = k .sized .draft;
+          values = ap length (s .written) ∙ length-set values spot (d .value) ∙ k .sized .values;
+          arrived = k .sized .arrived;
+          confirmed = k
+              .sized .confirmed;
+          lower = k .sized .lower;
+          gap = k .sized .gap;
+          upper = k .sized .upper;
+          firm = k .sized .firm;
+          edits = m .size;
+        })
         (ap (λ x. min (x .rules) 64) (s .head) ∙ edit-rules p false (l .a) (l .b) (l .c) (l .d) (l .e) (l .f) d (ap (λ x. x .head) dec));
   }
 
@@ -241,14 +260,28 @@ module _ (l : Line) (h : Head) (base draft values : List ℤ) (arrived confirmed
   pub replay-refused : (k : ℕ) {r : Outcome} {e : Effect} → r ≡ Barred k → e ≡ plain (refusal k) → Settles (settledAs r) e draft t
   replay-refused k {r = r} {e = e} r-is e-is =
       subst (λ x. Settles (settledAs x) e draft t) (sym r-is) (subst (λ x. Settles (settledAs (Barred k)) x draft t) (sym e-is)
-      (record { bare = (refl, refl, refl, omega arith); answer = refl; written = sym (set-getD draft point (pos 0)); keeps = λ es stood. sym (ap (set es (slotAt (look .named))) stood ∙ set-getD es (slotAt (look .named)) noRecord); counts = refl }))
+      (record {
+        bare = (refl, refl, refl, omega arith);
+        answer = refl;
+        written = sym (set-getD draft point (pos 0));
+        keeps = λ es stood. sym
+            (ap (set es (slotAt (look .named))) stood ∙ set-getD es (slotAt (look .named)) noRecord);
+        counts = refl;
+      }))
 
   pub replay-settled : (b : Bool) (x : ℤ) {r : Outcome} {e : Effect} {slot : ℕ} {draft′ : List ℤ} {t′ : List ℕ} → r ≡ Settled b x
       → e ≡ stored (number (cond b 3 4)) slot (replays.settledRecord (look .standing) b (min (settledIn t) 256 + 1)) → slot ≡ slotAt (look .named) → slot < 256
       → draft′ ≡ set draft point x → t′ ≡ oneSettled t → Settles (settledAs r) e draft′ t′
   replay-settled b x {r = r} {e = e} {draft′ = draft′} {t′ = t′} r-is e-is slot-is few draft-is counts-is =
       subst (λ y. Settles (settledAs y) e draft′ t′) (sym r-is) (subst (λ y. Settles (settledAs (Settled b x)) y draft′ t′) (sym e-is)
-      (record { bare = (refl, refl, refl, few); answer = refl; written = draft-is; keeps = λ es stood. ap (λ i. set es i (replays.settledRecord (look .standing) b (min (settledIn t) 256 + 1))) slot-is; counts = counts-is }))
+      (record {
+        bare = (refl, refl, refl, few);
+        answer = refl;
+        written = draft-is;
+        keeps = λ es stood. ap (λ i. set es i (replays.settledRecord (look .standing) b (min (settledIn t) 256 + 1)))
+            slot-is;
+        counts = counts-is;
+      }))
 
   pub replay-making : l .op ≡ 8 → (r : Outcome) {e : Effect} {draft′ : List ℤ} {t′ : List ℕ}
       → r ≡ outcomeFrom (testedBy sound index) h (lowers table) (gaps table) (uppers table) draft (missingIn t) (look .named) (look .standing) (look .next) (look .seen)
@@ -269,28 +302,45 @@ module _ (l : Line) (h : Head) (base draft values : List ℤ) (arrived confirmed
         let j-is = k .next (ap (λ o. eqb o 8) op) in
         let saw = k .saw (ap (λ o. eqb o 8) op) in
         let dec : d ≡ replays.replayIn false p (l .a) =
-        replay-decided sound p (l .a) {i = i} {slot = slot} {j = j} {seat = slotAt j} {index = index} i-is refl (j-is ∙ ap (earlierAt h i) stood) refl (ap (λ n. n + 1) (settled-few p t counted)) (missing-unset p t counted)
-        (ap settledAs r-is ∙ (λ x. replayFrom (testedBy sound index) h (lowers table) (gaps table) (uppers table) draft (missingIn t) i (stood x) j (saw x) (min (settledIn t) 256 + 1))) (λ active sure. k .indexed sure (joined (modeOf (h .mode)) active))
+        replay-decided sound p (l .a) {i = i} {slot = slot} {j = j} {seat = slotAt j} {index = index} i-is refl (j-is ∙ ap (earlierAt h i) stood) refl (ap (λ n. n + 1) (settled-few p t counted))
+        (missing-unset p t counted)
+        (ap settledAs r-is ∙ (λ x. replayFrom (testedBy sound index) h (lowers table) (gaps table) (uppers table) draft (missingIn t) i (stood x) j (saw x) (min (settledIn t) 256 + 1)))
+        (λ active sure. k .indexed sure (joined (modeOf (h .mode)) active))
         ∙ replay-held p sound (k .held) (l .a) in
         let there : point ≡ pointOf (namedIn p (natural (l .a)) .measure) = point-decided p (l .a) {i = i} {slot = slot} i-is refl (ap (λ s. pointOf (recordOf i s .measure)) stood) in
-        let seat : slot ≡ seatOf h (l .a) = ap slotAt i-is in
+        let seat : slot ≡ namedSlot h (l .a) = ap slotAt i-is in
         let meets : MeetsSpread (replay (l .a)) p (record { state = replays.stored p point slot d; answer = d .answer }) =
         subst (λ x. MeetsSpread (replay (l .a)) p (record { state = replays.stored p point slot x; answer = x .answer })) (sym dec)
         (subst (λ x. MeetsSpread (replay (l .a)) p (record { state = replays.stored p point x (replays.replayIn false p (l .a)); answer = replays.replayIn false p (l .a) .answer })) (sym seat)
-        (subst (λ x. MeetsSpread (replay (l .a)) p (record { state = replays.stored p x (seatOf h (l .a)) (replays.replayIn false p (l .a)); answer = replays.replayIn false p (l .a) .answer })) (sym there)
+        (subst (λ x. MeetsSpread (replay (l .a)) p (record { state = replays.stored p x (namedSlot h (l .a)) (replays.replayIn false p (l .a)); answer = replays.replayIn false p (l .a) .answer }))
+        (sym there)
         (replay-meets p (k .sized) (l .a)))) in
         let q = stateOf h base draft′ values arrived confirmed table after in
         let after-is : after ≡ set edits slot (d .entry) = m .none (s .bare .2) ∙ s .keeps edits stood in
         let stored-is : _≡_ {A = Spread} (replays.stored p point slot d) (spread q) = sym {A = Spread} (λ x. spread (stateOf h base (s .written x) values arrived confirmed table (after-is x))) in
         let here : MeetsSpread (replay (l .a)) p (record { state = spread q; answer = e .answer }) =
-        subst (λ a. MeetsSpread (replay (l .a)) p (record { state = spread q; answer = a })) (sym (s .answer)) (subst (λ x. MeetsSpread (replay (l .a)) p (record { state = x; answer = d .answer })) stored-is meets) in
+        subst (λ a. MeetsSpread (replay (l .a)) p (record { state = spread q; answer = a })) (sym (s .answer))
+        (subst (λ x. MeetsSpread (replay (l .a)) p (record { state = x; answer = d .answer })) stored-is meets) in
         met k (replay (l .a)) q e t′ (line-replay l op) refl here refl (s .bare .0) (s .bare .1) (s .counts ∙ ap (λ a. cond (isAccepted a) (oneSettled t) t) (sym (s .answer)))
-        (record { base = k .sized .base; draft = ap length (s .written) ∙ length-set draft point (d .amount) ∙ k .sized .draft; values = k .sized .values; arrived = k .sized .arrived; confirmed = k .sized .confirmed; lower = k .sized .lower; gap = k .sized .gap; upper = k .sized .upper; firm = k .sized .firm; edits = m .size })
+        (record {
+          base = k .sized .base;
+          draft = ap length (s .written) ∙ length-set draft point (d .amount) ∙ k .sized .draft;
+          values = k .sized .values;
+          arrived = k .sized .arrived;
+          confirmed = k
+              .sized .confirmed;
+          lower = k .sized .lower;
+          gap = k .sized .gap;
+          upper = k .sized .upper;
+          firm = k .sized .firm;
+          edits = m .size;
+        })
         refl;
   }
 
   -- the edits that a side has unsent, as they are counted
-  unsent-is : (edits : List EditRecord) → Tallied t (view (before edits)) → {i : ℕ} → i ≡ indexOf (natural (l .a)) → T (oneTo (sidesIn h) (natural (l .a))) → getD t i 0 ≡ unsentOf (natural (l .a)) (keptOf h edits)
+  unsent-is : (edits : List EditRecord) → Tallied t (view (before edits)) → {i : ℕ} → i ≡ indexOf (natural (l .a)) → T (oneTo (sidesIn h) (natural (l .a))) → getD t i 0 ≡ unsentOf (natural (l .a))
+      (keptOf h edits)
   unsent-is edits k e o = let r = range (sidesIn h) (natural (l .a)) o in ap (λ j. getD t j 0) e ∙ k .counted .unsent (natural (l .a)) (r .0) (let m = sides-most h in omega (arith, m, r .1))
 
   pub send-making : l .op ≡ 7 → {side i : ℕ} {t′ : List ℕ} (d : Sending)
@@ -307,14 +357,28 @@ module _ (l : Line) (h : Head) (base draft values : List ℤ) (arrived confirmed
         let w : Named p (l .a) side i (getD t i 0) = record { number = side-is; place = i-is; unsent = unsent-is edits (k .tallied (ap (λ o. eqb o 5) op)) (i-is ∙ ap indexOf side-is) } in
         let here = send-decided p (l .a) d after w (k .sized .arrived) d-is (subst (λ s. Marked s edits after (d .marked)) (sym side-is) m) refl in
         met k (send (l .a)) q e t′ (line-send l op) refl here refl refl refl
-        (counts-is ∙ (λ j. cond (isAccepted (d .answer)) (allSent (side-is j) (getD arrived ((i-is ∙ ap indexOf side-is) j) false) t) t) ∙ send-counts p (l .a) (meets-made _ p (record { state = spread q; answer = d .answer }) here) t)
-        (record { base = k .sized .base; draft = k .sized .draft; values = k .sized .values; arrived = length-set arrived i (d .arrived) ∙ k .sized .arrived; confirmed = k .sized .confirmed; lower = k .sized .lower; gap = k .sized .gap; upper = k .sized .upper; firm = k .sized .firm; edits = m .size })
+        (counts-is ∙ (λ j. cond (isAccepted (d .answer)) (allSent (side-is j) (getD arrived ((i-is ∙ ap indexOf side-is) j) false) t) t)
+        ∙ send-counts p (l .a) (meets-made _ p (record { state = spread q; answer = d .answer }) here) t)
+        (record {
+          base = k .sized .base;
+          draft = k .sized .draft;
+          values = k .sized .values;
+          arrived = length-set arrived i (d .arrived) ∙ k .sized .arrived;
+          confirmed = k .sized .confirmed;
+          lower =
+              k .sized .lower;
+          gap = k .sized .gap;
+          upper = k .sized .upper;
+          firm = k .sized .firm;
+          edits = m .size;
+        })
         refl;
   }
 
   pub move-making : isMove (l .op) ≡ true → {i : ℕ} (r : Told) {t′ : List ℕ} {base′ draft′ values′ : List ℤ} {arrived′ confirmed′ : List Bool}
       → i ≡ indexOf (natural (l .a)) → t′ ≡ cond (isAccepted (r .answer)) (moveTally (l .op) h t) t
-      → (let f = frameFrom h base draft values arrived confirmed in Moves (moveCall (l .op) (l .a)) f (Counts f (natural (l .a)) (getD t i 0) (waitingIn t)) (movedTo r base′ draft′ values′ arrived′ confirmed′))
+      → (let f = frameFrom h base draft values arrived confirmed in Moves (moveCall (l .op) (l .a)) f (Counts f (natural (l .a)) (getD t i 0) (waitingIn t))
+      (movedTo r base′ draft′ values′ arrived′ confirmed′))
       → (length base′ ≡ 32) × (length draft′ ≡ 32) × (length values′ ≡ 256) × (length arrived′ ≡ 8) × (length confirmed′ ≡ 8)
       → Making l h base draft values arrived confirmed table index look t sound (plain (r .answer)) (r .head) base′ draft′ values′ arrived′ confirmed′ table index t′
   move-making op {i = i} r {t′ = t′} {base′ = base′} {draft′ = draft′} {values′ = values′} {arrived′ = arrived′} {confirmed′ = confirmed′} i-is counts-is moves n = record {
@@ -326,10 +390,23 @@ module _ (l : Line) (h : Head) (base draft values : List ℤ) (arrived confirmed
         let c = moveCall (l .op) (l .a) in
         let counted = k .tallied (move-counted (l .op) op) in
         let meets = moves (lowers table) (gaps table) (uppers table) (firms table) edits (unsent-is edits counted i-is, counted .counted .waiting) in
-        let here : MeetsSpread c p (record { state = spread q; answer = r .answer }) = subst (λ es. MeetsSpread c p (record { state = spread (stateOf (r .head) base′ draft′ values′ arrived′ confirmed′ table es); answer = r .answer })) (sym (m .none refl)) meets in
+        let here : MeetsSpread c p (record { state = spread q; answer = r .answer }) = subst
+        (λ es. MeetsSpread c p (record { state = spread (stateOf (r .head) base′ draft′ values′ arrived′ confirmed′ table es); answer = r .answer })) (sym (m .none refl)) meets in
         met k c q (plain (r .answer)) t′ (line-moves l op) (undrawn (l .op) (l .a)) here refl refl refl
         (counts-is ∙ ap (λ x. cond (isAccepted (r .answer)) x t) (move-counts (l .op) (l .a) p t op))
-        (record { base = n .0; draft = n .1; values = n .2; arrived = n .3; confirmed = n .4; lower = k .sized .lower; gap = k .sized .gap; upper = k .sized .upper; firm = k .sized .firm; edits = m .size })
+        (record {
+          base = n .0;
+          draft = n .1;
+          values = n .2;
+          arrived = n .3;
+          confirmed = n .4;
+          lower = k .sized .lower;
+          gap = k .sized .gap;
+          upper = k .sized .upper;
+          firm = k .sized .firm;
+          edits = m
+              .size;
+        })
         (move-rules (l .op) (l .a) p (spread q) {a = r .answer} {vs = []} refl (meets-made c p (record { state = spread q; answer = r .answer }) here));
   }
 
@@ -343,9 +420,10 @@ module _ (l : Line) (h : Head) (base draft values : List ℤ) (arrived confirmed
         let p = spread (before edits) in
         let a = m .none refl in
         let at : askedAt h l ≡ namedAt h (l .a) = ap (λ o. namedAt h (cond o (l .c) (l .a))) op in
-        let stood : readingOf (l .op) (l .a) h (look .named) (look .standing) (leftIn t) ≡ readingOf (l .op) (l .a) h (namedAt h (l .a)) (getD edits (seatOf h (l .a)) noRecord) (leftIn t) =
+        let stood : readingOf (l .op) (l .a) h (look .named) (look .standing) (leftIn t) ≡ readingOf (l .op) (l .a) h (namedAt h (l .a)) (getD edits (namedSlot h (l .a)) noRecord) (leftIn t) =
         cases (eqb (l .op) 13)
-        (λ e. let y = ap looksAt (eqb-true (l .op) 13 e) in let n = k .named y ∙ at in let s = k .stood y ∙ ap (λ n. getD edits (slotAt n) noRecord) n in λ j. readingOf (l .op) (l .a) h (n j) (s j) (leftIn t))
+        (λ e. let y = ap looksAt (eqb-true (l .op) 13 e) in let n = k .named y ∙ at in let s = k .stood y ∙ ap (λ n. getD edits (slotAt n) noRecord) n in λ j. readingOf (l .op) (l .a) h (n j) (s j)
+        (leftIn t))
         (λ e. rw e) in
         let g = reading-right p t (k .tallied op) (l .op) (l .a) in
         let b = reading-bounds p t (k .tallied op) (l .op) (l .a) in
@@ -400,15 +478,31 @@ module _ (l : Line) (h : Head) (base draft values : List ℤ) (arrived confirmed
         let p = spread x in
         let n = min (h .rules) 63 in
         let drawn = eqb (l .op) 2 && isAccepted (d .answer) in
-        let b : Booked drawn table table′ n (l .a) (l .b) (l .c) (l .d) = subst (λ y. Booked drawn table y n (l .a) (l .b) (l .c) (l .d)) (sym table-is) (booked drawn table n (l .a) (l .b) (l .c) (l .d) (omega arith) (k .long)) in
+        let b : Booked drawn table table′ n (l .a) (l .b) (l .c) (l .d) = subst (λ y. Booked drawn table y n (l .a) (l .b) (l .c) (l .d)) (sym table-is)
+        (booked drawn table n (l .a) (l .b) (l .c) (l .d) (omega arith) (k .long)) in
         let q = stateOf (d .head) base draft (set values spot v) arrived confirmed table′ after in
         let q′ = drawnIn p d drawn (l .a) (l .b) (l .c) (l .d) in
         let c = drawCall (l .op) (l .a) (l .b) (l .c) (l .d) in
         let meets : MeetsSpread c p (record { state = q′; answer = d .answer }) = rw d-is (draw-decided (l .op) (l .a) (l .b) (l .c) (l .d) p (k .sized)) in
-        let drawn-state : spread q ≡ q′ = (let a = m .none refl in λ j. record { head = d .head; base = base; draft = draft; values = set values (spot-is j) (v-is j); arrived = arrived; confirmed = confirmed; lower = b .lower j; gap = b .gap j; upper = b .upper j; firm = b .firm j; edits = a j }) in
+        let drawn-state : spread q ≡ q′ =
+        (let a = m .none refl in λ j. record {
+          head = d .head;
+          base = base;
+          draft = draft;
+          values = set values (spot-is j) (v-is j);
+          arrived = arrived;
+          confirmed = confirmed;
+          lower = b .lower j;
+          gap = b .gap j;
+          upper = b .upper
+              j;
+          firm = b .firm j;
+          edits = a j;
+        }) in
         let here : MeetsSpread c p (record { state = spread q; answer = d .answer }) = subst (λ s. MeetsSpread c p (record { state = s; answer = d .answer })) (sym {A = Spread} drawn-state) meets in
         let made = meets-made c p (record { state = spread q; answer = d .answer }) here in
-        let same : SameIf (d .answer) (q ≡ x) = same-if (d .answer) x q (λ y. table-is ∙ ap (λ w. cond w (withRule table n (l .a) (l .b) (l .c) (l .d)) table) (ap (λ w. eqb (l .op) 2 && w) y ∙ and-false (eqb (l .op) 2))) (here .same) in
+        let same : SameIf (d .answer) (q ≡ x) = same-if (d .answer) x q
+        (λ y. table-is ∙ ap (λ w. cond w (withRule table n (l .a) (l .b) (l .c) (l .d)) table) (ap (λ w. eqb (l .op) 2 && w) y ∙ and-false (eqb (l .op) 2))) (here .same) in
         record {
           answer = made .answer ∙ ap (λ o. stepOf o (view x) .answer) (sym (line-draws l op));
           plan = made .plan ∙ ap (λ o. stepOf o (view x) .plan) (sym (line-draws l op));

@@ -105,7 +105,20 @@ module _ (l : Line) where
   pub line-reads : 11 < l .op → lineIn l ≡ readCall (l .op) (l .a)
   line-reads h =
       let off : (k : ℕ) → k ≤ 11 → eqb (l .op) k ≡ false = λ k a. ne-eqb (l .op) k (λ e. omega arith) in
-      rw (off 1 (omega arith), off 2 (omega arith), off 3 (omega arith), off 4 (omega arith), off 5 (omega arith), off 6 (omega arith), off 7 (omega arith), off 8 (omega arith), off 9 (omega arith), off 10 (omega arith), off 11 (omega arith))
+      rw (
+        off 1 (omega arith),
+        off 2 (omega arith),
+        off 3 (omega arith),
+        off 4 (omega arith),
+        off 5 (omega arith),
+        off 6 (omega arith),
+        off 7 (omega arith),
+        off 8 (omega arith),
+        off 9
+            (omega arith),
+        off 10 (omega arith),
+        off 11 (omega arith),
+      )
 
   pub line-send : l .op ≡ 7 → lineIn l ≡ some (send (l .a))
   line-send e = rw e
@@ -138,7 +151,9 @@ none-made p = record { answer = refl; plan = refl }
 -- as many count after an edit
 pub edit-rules : (p : Spread) (sound : Bool) (s client n m kind k : ℤ) (d : Decision) → d .head ≡ editIn sound p s client n m kind k .head → min (d .head .rules) 64 ≡ min (p .head .rules) 64
 edit-rules p sound s client n m kind k d e =
-    ap (λ h. min (h .rules) 64) e ∙ ap (λ n. min n 64) (by (editRuling (testedIn sound) firmIn (p .head) (p .lower) (p .gap) (p .upper) (p .firm) (p .values) (namedIn p (natural n)) (natural s) client n (natural m) (natural kind) k))
+    ap (λ h. min (h .rules) 64) e
+    ∙ ap (λ n. min n 64) (by
+    (editRuling (testedIn sound) firmIn (p .head) (p .lower) (p .gap) (p .upper) (p .firm) (p .values) (namedIn p (natural n)) (natural s) client n (natural m) (natural kind) k))
   where
     by : (r : Ruling) → editDecision (p .head) r (getD (p .values) (spotOf (natural s) (natural m)) (pos 0)) (natural s) (natural client) (natural n) (natural m) .head .rules ≡ p .head .rules
     by (Denied j) = refl
@@ -147,7 +162,8 @@ edit-rules p sound s client n m kind k d e =
 -- a move on the frame makes no rule
 pub move-rules : (op : ℕ) (x : ℤ) {l : Option Call} (p q : Spread) {a : Answer} {vs : List ℤ} → l ≡ some (moveCall op x) → Made l p q a vs → min (q .head .rules) 64 ≡ min (p .head .rules) 64
 unfolding step after
-move-rules op x p q e m = sym (rules-length q) ∙ ap (λ y. length (y .content .rules)) (m .plan ∙ ap (λ o. stepOf o (planOf p) .plan) e) ∙ judged (first (checks (moveCall op x) (planOf p))) ∙ rules-length p
+move-rules op x p q e m = sym (rules-length q) ∙ ap (λ y. length (y .content .rules)) (m .plan ∙ ap (λ o. stepOf o (planOf p) .plan) e) ∙ judged (first (checks (moveCall op x) (planOf p)))
+    ∙ rules-length p
   where
     parted : (w : Bool) → cond w (withBase (firstValues (planOf p .content)) (onKept (λ ks. []) (planOf p .content))) (planOf p .content) .rules ≡ planOf p .content .rules
     parted true = refl
@@ -163,7 +179,8 @@ move-rules op x p q e m = sym (rules-length q) ∙ ap (λ y. length (y .content 
     judged fine = ap length kept
 
 -- a call that is not for a blank plan leaves it blank
-pub drawn-before : (c : Call) (p q : Spread) {a : Answer} {vs : List ℤ} → Made (some c) p q a vs → belongs c blank ≡ false → T (not (is blank (modeOf (q .head .mode)))) → T (not (is blank (modeOf (p .head .mode))))
+pub drawn-before : (c : Call) (p q : Spread) {a : Answer} {vs : List ℤ} → Made (some c) p q a vs → belongs c blank ≡ false → T (not (is blank (modeOf (q .head .mode))))
+    → T (not (is blank (modeOf (p .head .mode))))
 unfolding step checks
 drawn-before c p q m b t = cases (is blank (modeOf (p .head .mode)))
     (λ e.
@@ -187,11 +204,13 @@ indexed-still p q same n before w t = rw (same, n) (w (before t))
 -- ---- where every rule holds, testing those that name the measure is enough
 
 module _ (p : Spread) where
-  side-holds : Holding (planOf p .mode) (planOf p .content) → (s : ℕ) → T (not (is blank (modeOf (p .head .mode)))) → T (oneTo (sidesIn (p .head)) s) → holds (rulesOf p) (row (p .values) (offsetOf s) (measuresIn (p .head))) ≡ true
+  side-holds : Holding (planOf p .mode) (planOf p .content) → (s : ℕ) → T (not (is blank (modeOf (p .head .mode)))) → T (oneTo (sidesIn (p .head)) s)
+      → holds (rulesOf p) (row (p .values) (offsetOf s) (measuresIn (p .head))) ≡ true
   side-holds h s drawn o =
       let r = range (sidesIn (p .head)) s o in
       let n = sides-length p in
-      yes-is _ (subst (λ x. T (holds (rulesOf p) (x .values))) (side-at p s (r .0) (r .1)) (all-nth (λ x. holds (rulesOf p) (x .values)) absentSide (planOf p .content .sides) s (h .sides drawn) (r .0) (omega (arith, r .1, n))))
+      yes-is _ (subst (λ x. T (holds (rulesOf p) (x .values))) (side-at p s (r .0) (r .1))
+      (all-nth (λ x. holds (rulesOf p) (x .values)) absentSide (planOf p .content .sides) s (h .sides drawn) (r .0) (omega (arith, r .1, n))))
 
   pub edit-held : (sound : Bool) → SoundIn sound p → (s client n m kind k : ℤ) → editIn sound p s client n m kind k ≡ editIn false p s client n m kind k
   edit-held true h s client n m kind k = edit-sound p s client n m kind k (side-holds (h refl) (natural s))
@@ -238,7 +257,8 @@ module _ (c : Call) {p q : Spread} {a : Answer} {vs : List ℤ} (m : Made (some 
   unfolding step
   if-accepted y = by (first (checks c (planOf p))) refl (m .answer) (m .plan)
     where
-      by : (w : Verdict) → first (checks c (planOf p)) ≡ w → withRow (answerOf a) vs ≡ stepBy w c (planOf p) .answer → planOf q ≡ stepBy w c (planOf p) .plan → Pass (checks c (planOf p)) × (planOf q ≡ after c (planOf p .mode) (planOf p .content))
+      by : (w : Verdict) → first (checks c (planOf p)) ≡ w → withRow (answerOf a) vs ≡ stepBy w c (planOf p) .answer → planOf q ≡ stepBy w c (planOf p) .plan
+          → Pass (checks c (planOf p)) × (planOf q ≡ after c (planOf p .mode) (planOf p .content))
       by fine f e v = (passed (checks c (planOf p)) (rw f tt), v)
       by (refused k) f e v = absurd (is-yes (sym (refused-answer a vs k e) ∙ y))
 
@@ -253,11 +273,13 @@ module _ (c : Call) {p q : Spread} {a : Answer} {vs : List ℤ} (m : Made (some 
   -- the counts of an accepted call, else those of before
   pub tallied-made : (t : List ℕ) → Tallied t (planOf p) → Tallied (cond (isAccepted a) (tallyAfter c (planOf p) t) t) (planOf q)
   tallied-made t h = cases (isAccepted a)
-      (λ y. let s = if-accepted y in rw y (subst (Tallied (tallyAfter c (planOf p) t)) (sym (s .1)) (tallied-after t (planOf p) (kept-most p) (let l = sides-length p in let n = sides-most (p .head) in omega arith) h c (s .0))))
+      (λ y. let s = if-accepted y in rw y
+      (subst (Tallied (tallyAfter c (planOf p) t)) (sym (s .1)) (tallied-after t (planOf p) (kept-most p) (let l = sides-length p in let n = sides-most (p .head) in omega arith) h c (s .0))))
       (λ n. rw n (subst (Tallied t) (sym (if-refused n)) h))
 
 -- and a draft of a plan stays blank until it is opened
-pub drawn-blank : (op : ℕ) (a b c d : ℤ) {p q : Spread} {answer : Answer} {vs : List ℤ} → isDraw op ≡ true → eqb op 3 ≡ false → Made (some (drawCall op a b c d)) p q answer vs → isAccepted answer ≡ true → is blank (modeOf (q .head .mode)) ≡ true
+pub drawn-blank : (op : ℕ) (a b c d : ℤ) {p q : Spread} {answer : Answer} {vs : List ℤ} → isDraw op ≡ true → eqb op 3 ≡ false → Made (some (drawCall op a b c d)) p q answer vs
+    → isAccepted answer ≡ true → is blank (modeOf (q .head .mode)) ≡ true
 unfolding after checks
 drawn-blank op a b c d {p = p} {q = q} {answer = answer} {vs = vs} dr n m y = by-draw op dr
     (λ e. let s = if-accepted (measure a) (subst (λ o. Made (some (drawCall o a b c d)) p q answer vs) e m) y in ap (λ x. is blank (x .mode)) (s .1) ∙ yes-is _ (s .0 .0))
@@ -273,14 +295,17 @@ module _ (p : Spread) (s client n m kind k : ℤ) {q : Spread} (d : Decision) (e
       let l = sides-length p in
       sym (ap (λ x. x .arrived) (side-at p (natural s) (r .0) (omega (arith, l, r .1))))
 
-  pub edit-counts : (t : List ℕ) → cond (d .kept) (oneUnsent (natural s) (getD (p .arrived) (indexOf (natural s)) false) t) t ≡ cond (isAccepted (d .answer)) (tallyAfter (edit s client n m kind k) (planOf p) t) t
+  pub edit-counts : (t : List ℕ) → cond (d .kept) (oneUnsent (natural s) (getD (p .arrived) (indexOf (natural s)) false) t) t ≡ cond (isAccepted (d .answer))
+      (tallyAfter (edit s client n m kind k) (planOf p) t) t
   edit-counts t = cases (isAccepted (d .answer)) (λ y. cases (is whole (modeOf (p .head .mode))) (λ v. rw (y, yes y, v)) (λ v. rw (y, flag-is y, yes y, v))) (λ x. rw (x, not-so x))
     where
-      yes-by : (r : Ruling) → let f = editDecision (p .head) r (getD (p .values) (spotOf (natural s) (natural m)) (pos 0)) (natural s) (natural client) (natural n) (natural m) in isAccepted (f .answer) ≡ true → f .kept ≡ not (is whole (modeOf (p .head .mode)))
+      yes-by : (r : Ruling) → let f = editDecision (p .head) r (getD (p .values) (spotOf (natural s) (natural m)) (pos 0)) (natural s) (natural client) (natural n) (natural m) in isAccepted
+          (f .answer) ≡ true → f .kept ≡ not (is whole (modeOf (p .head .mode)))
       yes-by (Denied j) y = absurd (is-yes y)
       yes-by (Granted c x) y = refl
 
-      no-by : (r : Ruling) → let f = editDecision (p .head) r (getD (p .values) (spotOf (natural s) (natural m)) (pos 0)) (natural s) (natural client) (natural n) (natural m) in isAccepted (f .answer) ≡ false → f .kept ≡ false
+      no-by : (r : Ruling) → let f = editDecision (p .head) r (getD (p .values) (spotOf (natural s) (natural m)) (pos 0)) (natural s) (natural client) (natural n) (natural m) in isAccepted
+          (f .answer) ≡ false → f .kept ≡ false
       no-by (Denied j) y = refl
       no-by (Granted c x) y = absurd (is-yes (sym y))
 
@@ -294,7 +319,8 @@ module _ (p : Spread) (s client n m kind k : ℤ) {q : Spread} (d : Decision) (e
       not-so y = ap (λ f. f .kept) e ∙ no-by ruled (ap (λ f. isAccepted (f .answer)) (sym e) ∙ y)
 
 -- a send that was accepted is of a side of the plan
-pub send-counts : (p : Spread) (s : ℤ) {q : Spread} {a : Answer} (made : Made (some (send s)) p q a []) (t : List ℕ) → cond (isAccepted a) (allSent (natural s) (getD (p .arrived) (indexOf (natural s)) false) t) t ≡ cond (isAccepted a) (tallyAfter (send s) (planOf p) t) t
+pub send-counts : (p : Spread) (s : ℤ) {q : Spread} {a : Answer} (made : Made (some (send s)) p q a []) (t : List ℕ)
+    → cond (isAccepted a) (allSent (natural s) (getD (p .arrived) (indexOf (natural s)) false) t) t ≡ cond (isAccepted a) (tallyAfter (send s) (planOf p) t) t
 unfolding checks further
 send-counts p s {a = a} made t = cases (isAccepted a)
     (λ y.
@@ -311,7 +337,8 @@ move-counts op x p t m =
     (λ e. rw e) (λ e. rw e) (λ e. rw e)
 
 -- one that draws up the plan moves none
-pub draw-counts : (op : ℕ) (a b c d : ℤ) {l : Option Call} {p q : Spread} {r : Answer} {vs : List ℤ} (t : List ℕ) → isDraw op ≡ true → l ≡ some (drawCall op a b c d) → Made l p q r vs → Tallied t (planOf p) → Tallied t (planOf q)
+pub draw-counts : (op : ℕ) (a b c d : ℤ) {l : Option Call} {p q : Spread} {r : Answer} {vs : List ℤ} (t : List ℕ) → isDraw op ≡ true → l ≡ some (drawCall op a b c d) → Made l p q r vs
+    → Tallied t (planOf p) → Tallied t (planOf q)
 draw-counts op a b c d {l = l} {p = p} {q = q} {r = r} {vs = vs} t y e m h =
     by-draw op y
     (λ z. by (measure a) (e ∙ rw z) (λ x. refl))

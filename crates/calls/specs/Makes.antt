@@ -46,7 +46,7 @@ asked l = cond (eqb (l .op) editOp) (l .c) (l .a)
 abbrev pub looksAt : ℕ → Bool
 looksAt op = eqb op editOp || (eqb op replayOp || eqb op fateOp)
 
--- the places, from 1, of the edit that it names and of the one that this names in turn
+-- the positions, from 1, of the edit that it names and of the one that this names in turn
 abbrev pub askedAt : Head → Line → ℕ
 askedAt h l = namedAt h (asked l)
 

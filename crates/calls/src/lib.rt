@@ -41,7 +41,7 @@ pub struct Effect {
     pub marked: usize,
 }
 
-// The kept edits that a call looks at, each with its place from 1: the one that it names, and the one that this names in turn.
+// The kept edits that a call looks at, each with its position from 1: the one that it names, and the one that this names in turn.
 pub struct Look {
     pub named: usize,
     pub standing: EditRecord,
@@ -60,7 +60,7 @@ pub fn looking(named: usize, standing: EditRecord, next: usize, seen: EditRecord
     }
 }
 
-// The place, from 1, of the kept edit that a call names; 0 for a call that looks at none.
+// The position, from 1, of the kept edit that a call names; 0 for a call that looks at none.
 pub fn first_look(l: Line, h: Head) -> usize
     ensures { λ r. ⌜ (looksAt (l .op) ≡ true → r ≡ askedAt h l) ⌝ }
 {
@@ -157,8 +157,8 @@ fn edit_in<'a>(
                 return plain_effect(answer);
             }
             let side = exact::number(l.a);
-            let place = heads::index(side);
-            counts::note_kept(counts, side, arrived[place]);
+            let i = heads::index(side);
+            counts::note_kept(counts, side, arrived[i]);
             keeping(
                 answer,
                 rows::capped(h.kept, limit::LAST_EDIT),
@@ -237,10 +237,10 @@ fn send_in(
 {
     let h = heads::from_numbers(head);
     let side = exact::number(l.a);
-    let place = heads::index(side);
-    let was = arrived[place];
-    let d = moves::decide_send(h, side, was, counts[place]);
-    arrived[place] = d.arrived;
+    let i = heads::index(side);
+    let was = arrived[i];
+    let d = moves::decide_send(h, side, was, counts[i]);
+    arrived[i] = d.arrived;
     let answer = d.answer;
     note_sent(counts, counts::accepted(answer), side, was);
     let mut e = plain_effect(answer);
@@ -285,8 +285,8 @@ fn move_in(
 {
     let h = heads::from_numbers(head);
     let side = exact::number(l.a);
-    let place = heads::index(side);
-    let unsent = counts[place];
+    let i = heads::index(side);
+    let unsent = counts[i];
     let waiting = counts[counts::WAITING];
     let r = moves::make_move(
         h,

@@ -61,7 +61,8 @@ module _ (t : List ℕ) (ks : List Kept) (k : Kept) (long : length t ≡ 12) (ro
   counted-snoc f = record {
     unsent = λ x a b. cases (eqb x s) (λ e. rw (eqb-true x s e) here) (λ e. there x a b (eqb-false x s e));
     waiting = elsewhere t (indexOf s) 8 n (behind s 8 (omega arith)) ∙ h .waiting ∙ sym (count-snoc isWaiting ks k ∙ (let z = ap (λ y. bit (fateIs waiting y)) f in omega arith));
-    settled = elsewhere t (indexOf s) 9 n (behind s 9 (omega arith)) ∙ h .settled ∙ sym (count-snoc isSettled ks k ∙ (let z = ap (λ y. bit (not (fateIs unsent y || fateIs waiting y))) f in omega arith));
+    settled = elsewhere t (indexOf s) 9 n (behind s 9 (omega arith)) ∙ h .settled
+        ∙ sym (count-snoc isSettled ks k ∙ (let z = ap (λ y. bit (not (fateIs unsent y || fateIs waiting y))) f in omega arith));
   }
     where
       s : ℕ
@@ -210,7 +211,8 @@ tallyAfter (fate-of n) p t = t
 tallyAfter left p t = t
 
 -- an edit in a plan that is split or joining
-tallied-edit : (t : List ℕ) (m : Mode) (d : Content) (e : Edit) (r : Bool) → length (d .kept) < 256 → length (d .sides) ≤ 8 → T (oneTo (length (d .sides)) (e .side)) → Tallied t (plan m d) → Tallied (oneUnsent (e .side) (sideAt d (e .side) .arrived) t) (plan m (editTo d e r))
+tallied-edit : (t : List ℕ) (m : Mode) (d : Content) (e : Edit) (r : Bool) → length (d .kept) < 256 → length (d .sides) ≤ 8 → T (oneTo (length (d .sides)) (e .side)) → Tallied t (plan m d)
+    → Tallied (oneUnsent (e .side) (sideAt d (e .side) .arrived) t) (plan m (editTo d e r))
 tallied-edit t m d e r room few has h =
     let n = length (d .sides) in
     let s = e .side in
@@ -231,7 +233,8 @@ tallied-edit t m d e r room few has h =
     }
 
 -- a call that takes one off the number left and leaves the kept edits and the logs
-tallied-less : (t : List ℕ) (k : Mode) (e : Content) → length t ≡ 12 → Counted t (e .kept) → (T (active k) → leftIn t - 1 ≡ leftOf k e) → (T (active k) → missingIn t ≡ missingOf e) → Tallied (oneLess t) (plan k e)
+tallied-less : (t : List ℕ) (k : Mode) (e : Content) → length t ≡ 12 → Counted t (e .kept) → (T (active k) → leftIn t - 1 ≡ leftOf k e) → (T (active k) → missingIn t ≡ missingOf e)
+    → Tallied (oneLess t) (plan k e)
 tallied-less t k e long same fewer there = record {
   long = length-set t 10 _ ∙ long;
   counted = counted-past t (e .kept) 10 _ (omega arith) same;
@@ -316,5 +319,6 @@ module _ (t : List ℕ) (m : Mode) (d : Content) (room : length (d .kept) ≤ 25
   by-call (fate-of n) g = h
   by-call left g = h
 
-pub tallied-after : (t : List ℕ) (p : Plan) → length (p .content .kept) ≤ 256 → length (p .content .sides) ≤ 8 → Tallied t p → (c : Call) → Pass (checks c p) → Tallied (tallyAfter c p t) (after c (p .mode) (p .content))
+pub tallied-after : (t : List ℕ) (p : Plan) → length (p .content .kept) ≤ 256 → length (p .content .sides) ≤ 8 → Tallied t p → (c : Call) → Pass (checks c p) → Tallied (tallyAfter c p t)
+    (after c (p .mode) (p .content))
 tallied-after t p room few h c g = by-call t (p .mode) (p .content) room few h c g

@@ -21,7 +21,8 @@ use Rattle.draw.specs.Draw.{refusedDrawing, drawBy}
 pub decided-refused : (cs : List Check) (d : Drawing) (h : Head) (old : ℤ) {k : ℕ} {r : Drawing} → r ≡ refusedDrawing h old k → k ≡ refusalOf (first cs) → k ≢ 0 → r ≡ drawBy (first cs) d h old
 decided-refused cs d h old {k = k} e f ne = e ∙ sym (ap (λ v. drawBy v d h old) (verdict-refused (first cs) k f ne))
 
-pub decided-fine : (cs : List Check) (d : Drawing) (h : Head) (old : ℤ) {k : ℕ} {r : Drawing} → r ≡ d → T (all (λ c. ltb 0 (c .number)) cs) → k ≡ refusalOf (first cs) → k ≡ 0 → r ≡ drawBy (first cs) d h old
+pub decided-fine : (cs : List Check) (d : Drawing) (h : Head) (old : ℤ) {k : ℕ} {r : Drawing} → r ≡ d → T (all (λ c. ltb 0 (c .number)) cs) → k ≡ refusalOf (first cs) → k ≡ 0
+    → r ≡ drawBy (first cs) d h old
 decided-fine cs d h old {k = k} e t f z = e ∙ sym (ap (λ v. drawBy v d h old) (verdict-fine cs k t f z))
 
 -- a count that is not 0 is not 0 when it is capped

@@ -55,7 +55,8 @@ value-same p h = rw (set-getD (p .values) (min (p .head .measures) 31) (pos 0))
 
 -- by the verdict on the checks
 decided : (c : Call) (p : Spread) (cs : List Check) (d : Drawing) (to : Drawing → Spread) → ((k : ℕ) → to (refusedDrawing (p .head) (old p) k) ≡ p) → first (checks c (planOf p)) ≡ first cs
-    → (Pass cs → answerOf (d .answer) ≡ ok (gives c (planOf p .mode) (planOf p .content))) → (Pass cs → planOf (to d) ≡ after c (planOf p .mode) (planOf p .content)) → SameIfRefused (d .answer) p (to d)
+    → (Pass cs → answerOf (d .answer) ≡ ok (gives c (planOf p .mode) (planOf p .content))) → (Pass cs → planOf (to d) ≡ after c (planOf p .mode) (planOf p .content)) → SameIfRefused (d .answer) p
+    (to d)
     → let x = drawBy (first cs) d (p .head) (old p) in MeetsSpread c p (record { state = to x; answer = x .answer })
 decided c p cs d to none same given next s = by (first cs) refl
   where
@@ -73,13 +74,15 @@ measure-checks p v = rw (drawn-length p)
 abbrev measureTo : Spread → ℤ → Spread
 measureTo p v = valueIn p (measureDrawing (p .head) v)
 
-longer : (p : Spread) → Sized p → (v : ℤ) → p .head .measures < 32 → let n = min (p .head .measures) 31 in row (set (p .values) n v) 0 (min (n + 1) 32) ≡ snoc (row (p .values) 0 (measuresIn (p .head))) v
+longer : (p : Spread) → Sized p → (v : ℤ) → p .head .measures < 32 → let n = min (p .head .measures) 31 in row (set (p .values) n v) 0 (min (n + 1) 32) ≡ snoc
+    (row (p .values) 0 (measuresIn (p .head))) v
 longer p z v h =
     let n = min (p .head .measures) 31 in
     let m : min (n + 1) 32 ≡ suc n = omega arith in
     let o : n ≡ measuresIn (p .head) = omega arith in
     let f : 0 + n ≡ n = omega arith in
-    ap (row (set (p .values) n v) 0) m ∙ ap (λ k. row (set (p .values) k v) 0 (suc n)) (sym f) ∙ row-snoc (p .values) 0 n v (let l = z .values in omega arith) ∙ ap (λ k. snoc (row (p .values) 0 k) v) o
+    ap (row (set (p .values) n v) 0) m ∙ ap (λ k. row (set (p .values) k v) 0 (suc n)) (sym f) ∙ row-snoc (p .values) 0 n v (let l = z .values in omega arith)
+    ∙ ap (λ k. snoc (row (p .values) 0 k) v) o
 
 measure-next : (p : Spread) → Sized p → (v : ℤ) → is blank (modeOf (p .head .mode)) ≡ true → p .head .measures < 32 → planOf (measureTo p v) ≡ after (measure v) (planOf p .mode) (planOf p .content)
 unfolding after
@@ -173,7 +176,8 @@ rule-next p z a c b f h =
     let o : n ≡ min (p .head .rules) 64 = omega arith in
     let r = ruleOf a c b f in
     plan-same refl
-    (ap (rulesIn (set (p .lower) n (r .lower)) (set (p .gap) n (r .gap)) (set (p .upper) n (r .upper)) (set (p .firm) n (r .firm))) m ∙ rules-snoc p z n r (omega arith) ∙ ap (λ k. snoc (rulesIn (p .lower) (p .gap) (p .upper) (p .firm) k) r) o)
+    (ap (rulesIn (set (p .lower) n (r .lower)) (set (p .gap) n (r .gap)) (set (p .upper) n (r .upper)) (set (p .firm) n (r .firm))) m ∙ rules-snoc p z n r (omega arith)
+    ∙ ap (λ k. snoc (rulesIn (p .lower) (p .gap) (p .upper) (p .firm) k) r) o)
     refl refl refl refl refl
 
 rule-given : (p : Spread) (a c b f : ℤ) → p .head .rules < 64 → _≡_ {A = List ℤ} (pos (min (p .head .rules) 63 + 1) ∷ []) (gives (rule a c b f) (planOf p .mode) (planOf p .content))
@@ -183,9 +187,11 @@ rule-given p a c b f h = let e = rules-length p in let n : min (p .head .rules) 
 rule-drawn : (p : Spread) (a c b f : ℤ) → drawnIn p (ruleDrawing (p .head) (old p)) true a c b f ≡ ruleTo p (min (p .head .rules) 63) (ruleOf a c b f)
 rule-drawn p a c b f = rw (set-getD (p .values) (min (p .head .measures) 31) (pos 0))
 
-rule-decided : (p : Spread) → Sized p → (a c b f : ℤ) → let d = ruleDecision (p .head) a c b f (old p) in MeetsSpread (rule a c b f) p (record { state = drawnIn p d (isAccepted (d .answer)) a c b f; answer = d .answer })
+rule-decided : (p : Spread) → Sized p → (a c b f : ℤ) → let d = ruleDecision (p .head) a c b f (old p) in MeetsSpread (rule a c b f) p
+    (record { state = drawnIn p d (isAccepted (d .answer)) a c b f; answer = d .answer })
 rule-decided p z a c b f =
-    decided (rule a c b f) p (ruleChecks (p .head) (natural a) c (natural b) f) (ruleDrawing (p .head) (old p)) (λ d. drawnIn p d (isAccepted (d .answer)) a c b f) (λ k. value-same p (p .head)) (rule-checks p a c b f)
+    decided (rule a c b f) p (ruleChecks (p .head) (natural a) c (natural b) f) (ruleDrawing (p .head) (old p)) (λ d. drawnIn p d (isAccepted (d .answer)) a c b f) (λ k. value-same p (p .head))
+    (rule-checks p a c b f)
     (λ t. ap ok (rule-given p a c b f (room (t .1 .0))))
     (λ t. ap planOf (rule-drawn p a c b f) ∙ rule-next p z a c b f (room (t .1 .0)))
     tt

@@ -42,7 +42,8 @@ use Rattle.edit.proofs.Rulings.{made-change}
 
 -- a line's ruling is that of its numbers
 pub ruling-from : (test : RuleTest) (firmly : FirmTest) (h : Head) (lower : List ℕ) (gap : List ℤ) (upper : List ℕ) (firm : List Bool) (values : List ℤ) (i : ℕ) (seen : EditRecord) (l : Line)
-    → editDecision h (rulingFrom test firmly h lower gap upper firm values i seen l) (getD values (spotOf (natural (l .a)) (natural (l .d))) (pos 0)) (natural (l .a)) (natural (l .b)) (natural (l .c)) (natural (l .d))
+    → editDecision h (rulingFrom test firmly h lower gap upper firm values i seen l) (getD values (spotOf (natural (l .a)) (natural (l .d))) (pos 0)) (natural (l .a)) (natural (l .b))
+    (natural (l .c)) (natural (l .d))
     ≡ editFrom test firmly h lower gap upper firm values i seen (l .a) (l .b) (l .c) (l .d) (l .e) (l .f)
 ruling-from test firmly h lower gap upper firm values i seen l = refl
 
@@ -86,8 +87,10 @@ row-length p s = let l = length-span (offsetOf (natural s)) (measuresIn (p .head
 -- so tests of the rules that then find the same make the same decision
 decision-same : (test test′ : RuleTest) (firmly firmly′ : FirmTest) (p : Spread) (s client n m kind k : ℤ)
     → (let vs = row (p .values) (offsetOf (natural s)) (measuresIn (p .head)) in let x = applied (changeOf (natural kind) k) (value vs (natural m)) in
-    T (not (is blank (modeOf (p .head .mode)))) → T (oneTo (sidesIn (p .head)) (natural s)) → test (natural m) (p .lower) (p .gap) (p .upper) (min (p .head .rules) 64) x vs ≡ test′ (natural m) (p .lower) (p .gap) (p .upper) (min (p .head .rules) 64) x vs)
-    → (T (not (is blank (modeOf (p .head .mode)))) → 0 < natural m → natural m ≤ 32 → firmly (p .lower) (p .upper) (p .firm) (min (p .head .rules) 64) (natural m) ≡ firmly′ (p .lower) (p .upper) (p .firm) (min (p .head .rules) 64) (natural m))
+    T (not (is blank (modeOf (p .head .mode)))) → T (oneTo (sidesIn (p .head)) (natural s)) → test (natural m) (p .lower) (p .gap) (p .upper) (min (p .head .rules) 64) x vs ≡ test′ (natural m)
+    (p .lower) (p .gap) (p .upper) (min (p .head .rules) 64) x vs)
+    → (T (not (is blank (modeOf (p .head .mode)))) → 0 < natural m → natural m ≤ 32 → firmly (p .lower) (p .upper) (p .firm) (min (p .head .rules) 64) (natural m) ≡ firmly′ (p .lower) (p .upper)
+    (p .firm) (min (p .head .rules) 64) (natural m))
     → editBy test firmly p s client n m kind k ≡ editBy test′ firmly′ p s client n m kind k
 unfolding editRuling
 decision-same test test′ firmly firmly′ p s client n m kind k h f =
@@ -140,7 +143,8 @@ module _ (p : Spread) (z : Sized p) (s client n m kind k : ℤ) where
   held = testedIn false (natural m) (p .lower) (p .gap) (p .upper) (min (h .rules) 64) (applied ch (value vs (natural m))) vs
 
   abbrev Checks : List Check
-  Checks = editChecks held mode (sidesIn h) (firmIn (p .lower) (p .upper) (p .firm) (min (h .rules) 64) (natural m)) (keptAt 0 (namedIn p (natural n))) (keptIn h) (h .next) vs (natural s) client n (natural m) ch
+  Checks = editChecks held mode (sidesIn h) (firmIn (p .lower) (p .upper) (p .firm) (min (h .rules) 64) (natural m)) (keptAt 0 (namedIn p (natural n))) (keptIn h) (h .next) vs (natural s) client n
+      (natural m) ch
 
   kept-length : length (keptOf h (p .edits)) ≡ keptIn h
   kept-length = length-span 0 (keptIn h) (λ i. keptAt (endIn h - (keptIn h - i)) (getD (p .edits) i noRecord))
@@ -155,8 +159,10 @@ module _ (p : Spread) (z : Sized p) (s client n m kind k : ℤ) where
       rw (sides-length p, kept-length, lookup-named p (natural n))
       (cases (oneTo (sidesIn h) (natural s))
       (λ t.
-      ap (λ ws. first (editChecks (holds (rulesOf p) (made (natural m) ch ws)) mode (sidesIn h) (firmlyNamed (rulesOf p) (natural m)) (keptAt 0 (namedIn p (natural n))) (keptIn h) (h .next) ws (natural s) client n (natural m) ch)) (ap (λ x. x .values) (side-is (is-yes t)))
-      ∙ ap₂ (λ b f. first (editChecks b mode (sidesIn h) f (keptAt 0 (namedIn p (natural n))) (keptIn h) (h .next) vs (natural s) client n (natural m) ch)) (tested-all (p .lower) (p .gap) (p .upper) (p .firm) (min (h .rules) 64) (natural m) ch vs) (firm-is (p .lower) (p .gap) (p .upper) (p .firm) (min (h .rules) 64) (natural m)))
+      ap (λ ws. first (editChecks (holds (rulesOf p) (made (natural m) ch ws)) mode (sidesIn h) (firmlyNamed (rulesOf p) (natural m)) (keptAt 0 (namedIn p (natural n))) (keptIn h) (h .next) ws
+      (natural s) client n (natural m) ch)) (ap (λ x. x .values) (side-is (is-yes t)))
+      ∙ ap₂ (λ b f. first (editChecks b mode (sidesIn h) f (keptAt 0 (namedIn p (natural n))) (keptIn h) (h .next) vs (natural s) client n (natural m) ch))
+      (tested-all (p .lower) (p .gap) (p .upper) (p .firm) (min (h .rules) 64) (natural m) ch vs) (firm-is (p .lower) (p .gap) (p .upper) (p .firm) (min (h .rules) 64) (natural m)))
       (λ t. rw t))
 
   abbrev change : Change
@@ -183,7 +189,8 @@ module _ (p : Spread) (z : Sized p) (s client n m kind k : ℤ) where
       sides-modify (natural s) (sidesIn h) (onValues (made (natural m) ch)) (sideOf p) (sideOf (next fine)) (r .0) (r .1)
       (λ j. record { values = same j; arrived = sideOf p (natural s) .arrived; confirmed = sideOf p (natural s) .confirmed })
       (λ t a b ne. λ j. record {
-        values = row-apart (p .values) (offsetOf t) (measuresIn h) (spotOf (natural s) (natural m)) x (λ y u w. rows-apart (natural s) t y (min (natural m - 1) 31) (r .0) (omega (arith, r .1)) a (omega arith) ne (omega arith) u (omega arith)) j;
+        values = row-apart (p .values) (offsetOf t) (measuresIn h) (spotOf (natural s) (natural m)) x
+            (λ y u w. rows-apart (natural s) t y (min (natural m - 1) 31) (r .0) (omega (arith, r .1)) a (omega arith) ne (omega arith) u (omega arith)) j;
         arrived = sideOf p t .arrived;
         confirmed = sideOf p t .confirmed;
       })
@@ -240,7 +247,17 @@ module _ (p : Spread) (z : Sized p) (s client n m kind k : ℤ) where
       let c : keptIn (editHead h) ≡ suc (slotOf h) = rw w (omega arith) in
       let e′ : h .next ≡ endIn h = rw one in
       let c′ : slotOf h ≡ keptIn h = omega arith in
-      let r : EditRecord = record { change = change; fate = Unsent; side = natural s % 256; client = natural client; earlier = natural n; measure = natural m % 256; place = 0; replied = is split mode } in
+      let r : EditRecord = record {
+        change = change;
+        fate = Unsent;
+        side = natural s % 256;
+        client = natural client;
+        earlier = natural n;
+        measure = natural m % 256;
+        place = 0;
+        replied = is split
+            mode;
+      } in
       let es : next fine .edits ≡ set (p .edits) (slotOf h) r = rw w in
       (λ i. logOf (e i) (c i) (es i))
       ∙ log-snoc (h .next) (slotOf h) (p .edits) r (let l = z .edits in omega arith)
@@ -251,7 +268,8 @@ module _ (p : Spread) (z : Sized p) (s client n m kind k : ℤ) where
   kept-next f = cases (is whole mode) (λ w. kept-whole w ∙ rw w) (λ w. kept-apart f w ∙ rw w)
 
   -- by the verdict on the checks
-  by : (v : Verdict) → (Fine v → Pass Checks) → (answerOf (decided v .answer) ≡ stepBy v call (planOf p) .answer) × (planOf (next v) ≡ stepBy v call (planOf p) .plan) × SameIfRefused (decided v .answer) p (next v)
+  by : (v : Verdict) → (Fine v → Pass Checks) → (answerOf (decided v .answer) ≡ stepBy v call (planOf p) .answer) × (planOf (next v) ≡ stepBy v call (planOf p) .plan) × SameIfRefused
+      (decided v .answer) p (next v)
   unfolding gives after
   by (refused j) f =
       let same : next (refused j) ≡ p = rw (set-getD (p .values) (spotOf (natural s) (natural m)) (pos 0)) in

@@ -25,7 +25,7 @@ use Rattle.state.specs.Spread.{Spread}
 use Rattle.state.specs.declared.Answer.{Answer}
 use Rattle.state.specs.Meets.{refusal, number}
 use Rattle.reader.specs.declared.Line.{Line}
-use Rattle.heads.specs.Heads.{modeOf, sidesIn, measuresIn, offsetOf, keptIn, namedAt, seatOf}
+use Rattle.heads.specs.Heads.{modeOf, sidesIn, measuresIn, offsetOf, keptIn, namedAt, namedSlot}
 use Rattle.records.specs.Records.{keptAt, noRecord, recordOf}
 use Rattle.edit.specs.declared.Ruling.{Ruling}
 use Rattle.edit.specs.declared.Ruling.the-variants.{Refused as Denied, Granted}
@@ -50,7 +50,8 @@ ruled (refused k) c x = Denied k
 unfoldable pub changeRuling : RuleTest → FirmTest → Head → List ℕ → List ℤ → List ℕ → List Bool → List ℤ → ℕ → ℕ → Change → Ruling
 changeRuling test firmly h lower gap upper firm values at m c =
     let vs = row values at (measuresIn h) in
-    ruled (first (changeChecks (test m lower gap upper (min (h .rules) ruleLimit) (applied (viewChange c) (value vs m)) vs) (modeOf (h .mode)) (firmly lower upper firm (min (h .rules) ruleLimit) m) (keptIn h) (h .next) vs m (viewChange c))) c (applied (viewChange c) (value vs m))
+    ruled (first (changeChecks (test m lower gap upper (min (h .rules) ruleLimit) (applied (viewChange c) (value vs m)) vs) (modeOf (h .mode)) (firmly lower upper firm (min (h .rules) ruleLimit) m)
+    (keptIn h) (h .next) vs m (viewChange c))) c (applied (viewChange c) (value vs m))
 
 -- the change of a kind number and a constant
 abbrev pub changeOf : ℕ → ℤ → model.Change
@@ -63,10 +64,11 @@ changeIn NotMade = Set (pos 0)
 unfoldable pub editRuling : RuleTest → FirmTest → Head → List ℕ → List ℤ → List ℕ → List Bool → List ℤ → EditRecord → ℕ → ℤ → ℤ → ℕ → ℕ → ℤ → Ruling
 editRuling test firmly h lower gap upper firm values named s client n m kind k =
     let vs = row values (offsetOf s) (measuresIn h) in
-    ruled (first (editChecks (test m lower gap upper (min (h .rules) ruleLimit) (applied (changeOf kind k) (value vs m)) vs) (modeOf (h .mode)) (sidesIn h) (firmly lower upper firm (min (h .rules) ruleLimit) m) (keptAt 0 named) (keptIn h) (h .next) vs s client n m (changeOf kind k)))
+    ruled (first (editChecks (test m lower gap upper (min (h .rules) ruleLimit) (applied (changeOf kind k) (value vs m)) vs) (modeOf (h .mode)) (sidesIn h)
+    (firmly lower upper firm (min (h .rules) ruleLimit) m) (keptAt 0 named) (keptIn h) (h .next) vs s client n m (changeOf kind k)))
     (changeIn (madeOf kind k)) (applied (changeOf kind k) (value vs m))
 
--- from the numbers of a line, with the edit that it names, seen at a place from 1
+-- from the numbers of a line, with the edit that it names, seen at a position from 1
 abbrev pub rulingFrom : RuleTest → FirmTest → Head → List ℕ → List ℤ → List ℕ → List Bool → List ℤ → ℕ → EditRecord → Line → Ruling
 rulingFrom test firmly h lower gap upper firm values i seen l =
     editRuling test firmly h lower gap upper firm values (recordOf i seen) (natural (l .a)) (l .b) (l .c) (natural (l .d)) (natural (l .e)) (l .f)
@@ -119,7 +121,7 @@ spotOf s m = offsetOf s + min (m - 1) lastMeasure
 abbrev pub slotOf : Head → ℕ
 slotOf h = min (h .kept) lastEdit
 
--- the decision from a call's numbers, by tests of the rules, with the edit that it names, seen at a place from 1
+-- the decision from a call's numbers, by tests of the rules, with the edit that it names, seen at a position from 1
 abbrev pub editFrom : RuleTest → FirmTest → Head → List ℕ → List ℤ → List ℕ → List Bool → List ℤ → ℕ → EditRecord → (s client n m kind k : ℤ) → Decision
 editFrom test firmly h lower gap upper firm values i seen s client n m kind k =
     editDecision h (editRuling test firmly h lower gap upper firm values (recordOf i seen) (natural s) client n (natural m) (natural kind) k)
@@ -128,7 +130,7 @@ editFrom test firmly h lower gap upper firm values i seen s client n m kind k =
 -- the decision in a state; and by the tests that need no index, where `sound` says that all rules held before
 abbrev pub editBy : RuleTest → FirmTest → Spread → (s client n m kind k : ℤ) → Decision
 editBy test firmly p s client n m kind k =
-    editFrom test firmly (p .head) (p .lower) (p .gap) (p .upper) (p .firm) (p .values) (namedAt (p .head) n) (getD (p .edits) (seatOf (p .head) n) noRecord) s client n m kind k
+    editFrom test firmly (p .head) (p .lower) (p .gap) (p .upper) (p .firm) (p .values) (namedAt (p .head) n) (getD (p .edits) (namedSlot (p .head) n) noRecord) s client n m kind k
 
 abbrev pub editIn : Bool → Spread → (s client n m kind k : ℤ) → Decision
 editIn sound = editBy (testedIn sound) firmIn

@@ -64,7 +64,7 @@ fn is_client(client: i32) -> bool
     }
 }
 
-// The earlier edit, seen at a place from 1, is 0, or replied and of the same client.
+// The earlier edit, seen at a position from 1, is 0, or replied and of the same client.
 fn may_follow(i: usize, seen: EditRecord, client: i32, after: i32) -> bool
     ensures { λ t. ⌜ t ≡ no25 (keptAt 0 (recordOf i seen)) client after .passes ⌝ }
 {
@@ -149,7 +149,7 @@ pub fn spot(s: i32, m: i32) -> usize
     at + rows::capped(measure - 1, limit::LAST_MEASURE)
 }
 
-// The checks of an edit, from the line, and the edit that it names, seen at a place from 1: 31, 21, 22, 23, 24, 25, then those on the change.
+// The checks of an edit, from the line, and the edit that it names, seen at a position from 1: 31, 21, 22, 23, 24, 25, then those on the change.
 pub fn decide_edit<'a>(
     l: Line,
     h: Head,

@@ -135,7 +135,8 @@ narrow-after (measure v) m d g k = record {
   base = g .base;
   draft = g .draft;
   sides = rw (length-modify 1 (onValues (λ vs. snoc vs v)) (d .sides)) (g .sides);
-  values = all-modify isSideRow absentSide 1 (onValues (λ vs. snoc vs v)) (d .sides) (g .values) (row-snoc (firstValues d) v (ltb→lt (length (firstValues d)) measureLimit (k .1 .0)) (side-row d 1 g) (k .1 .1 .0));
+  values = all-modify isSideRow absentSide 1 (onValues (λ vs. snoc vs v)) (d .sides) (g .values)
+      (row-snoc (firstValues d) v (ltb→lt (length (firstValues d)) measureLimit (k .1 .0)) (side-row d 1 g) (k .1 .1 .0));
   kept = g .kept;
   places = g .places;
 }
@@ -149,7 +150,8 @@ narrow-after (rule a c b f) m d g k = record {
   kept = g .kept;
   places = g .places;
 }
-narrow-after open-plan m d g k = record { rules = g .rules; next = short-count 1 (omega arith); base = g .base; draft = g .draft; sides = g .sides; values = g .values; kept = g .kept; places = g .places }
+narrow-after open-plan m d g k = record
+    { rules = g .rules; next = short-count 1 (omega arith); base = g .base; draft = g .draft; sides = g .sides; values = g .values; kept = g .kept; places = g .places }
 narrow-after (split-side s) m d g k = cases (is whole m)
     (λ e. rw e (record { rules = g .rules; next = g .next; base = side-row d 1 g; draft = g .draft; sides = sides; values = values; kept = omega arith; places = tt }))
     (λ e. rw e (record { rules = g .rules; next = g .next; base = g .base; draft = g .draft; sides = sides; values = values; kept = g .kept; places = g .places }))

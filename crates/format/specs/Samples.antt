@@ -9,7 +9,9 @@ use Rattle.format.specs.Numbers.{number, written}
 use Rattle.format.specs.Lines.{lines, lineCall}
 
 -- 0, -0, 00, 07, -7, 999999999, ten digits, nothing, a minus, 1 and a carriage return
-pub numbers-read : map number ((48 ∷ []) ∷ (45 ∷ 48 ∷ []) ∷ (48 ∷ 48 ∷ []) ∷ (48 ∷ 55 ∷ []) ∷ (45 ∷ 55 ∷ []) ∷ (57 ∷ 57 ∷ 57 ∷ 57 ∷ 57 ∷ 57 ∷ 57 ∷ 57 ∷ 57 ∷ []) ∷ (49 ∷ 48 ∷ 48 ∷ 48 ∷ 48 ∷ 48 ∷ 48 ∷ 48 ∷ 48 ∷ 48 ∷ []) ∷ [] ∷ (45 ∷ []) ∷ (49 ∷ 13 ∷ []) ∷ [])
+pub numbers-read : map number
+    ((48 ∷ []) ∷ (45 ∷ 48 ∷ []) ∷ (48 ∷ 48 ∷ []) ∷ (48 ∷ 55 ∷ []) ∷ (45 ∷ 55 ∷ []) ∷ (57 ∷ 57 ∷ 57 ∷ 57 ∷ 57 ∷ 57 ∷ 57 ∷ 57 ∷ 57 ∷ []) ∷ (49 ∷ 48 ∷ 48 ∷ 48 ∷ 48 ∷ 48 ∷ 48 ∷ 48 ∷ 48 ∷ 48 ∷ []) ∷ [] ∷
+    (45 ∷ []) ∷ (49 ∷ 13 ∷ []) ∷ [])
     ≡ (some (pos 0) ∷ none ∷ none ∷ none ∷ some (neg 7) ∷ some (pos 999999999) ∷ none ∷ none ∷ none ∷ none ∷ [])
 unfolding number
 numbers-read = refl
@@ -24,7 +26,8 @@ unfolding lines
 lines-cut = refl
 
 -- left; left and a space; left 1; rule 1 0 2 0; an empty line
-pub lines-read : map lineCall ((108 ∷ 101 ∷ 102 ∷ 116 ∷ []) ∷ (108 ∷ 101 ∷ 102 ∷ 116 ∷ 32 ∷ []) ∷ (108 ∷ 101 ∷ 102 ∷ 116 ∷ 32 ∷ 49 ∷ []) ∷ (114 ∷ 117 ∷ 108 ∷ 101 ∷ 32 ∷ 49 ∷ 32 ∷ 48 ∷ 32 ∷ 50 ∷ 32 ∷ 48 ∷ []) ∷ [] ∷ [])
+pub lines-read : map lineCall
+    ((108 ∷ 101 ∷ 102 ∷ 116 ∷ []) ∷ (108 ∷ 101 ∷ 102 ∷ 116 ∷ 32 ∷ []) ∷ (108 ∷ 101 ∷ 102 ∷ 116 ∷ 32 ∷ 49 ∷ []) ∷ (114 ∷ 117 ∷ 108 ∷ 101 ∷ 32 ∷ 49 ∷ 32 ∷ 48 ∷ 32 ∷ 50 ∷ 32 ∷ 48 ∷ []) ∷ [] ∷ [])
     ≡ (some left ∷ none ∷ none ∷ some (rule (pos 1) (pos 0) (pos 2) (pos 0)) ∷ none ∷ [])
 unfolding lineCall
 lines-read = refl

@@ -99,7 +99,8 @@ sent-ok joining x u h = h
 sent-ok closing x u h = (tt, or-right (not (x .confirmed)) true tt)
 
 module _ (m : Mode) (d : Content) (h : History) (t : Parted d h) (a : Active m d h) where
-  pub send-active : (z : ℤ) (xs : List ℤ) → T (oneTo (length (d .sides)) (natural z)) → T (pending d (natural z)) → Parted (sendTo d (natural z)) (entered (send z) xs h) × Active m (sendTo d (natural z)) (entered (send z) xs h)
+  pub send-active : (z : ℤ) (xs : List ℤ) → T (oneTo (length (d .sides)) (natural z)) → T (pending d (natural z)) → Parted (sendTo d (natural z)) (entered (send z) xs h) × Active m
+      (sendTo d (natural z)) (entered (send z) xs h)
   unfolding entered
   send-active z xs has owes =
       let s = natural z in
@@ -116,7 +117,9 @@ module _ (m : Mode) (d : Content) (h : History) (t : Parted d h) (a : Active m d
           left = omega (arith, a .left);
           late = λ x. cases (eqb x s) (λ e. rw (e, eqb-true x s e) (rw gone)) (λ e. rw (e, pending-others d s x (eqb-false x s e)) (a .late x));
           sides = λ x p q. decide (eqb x s)
-              (λ e. rw (eqb→eq x s e) (rw (nth-same absentSide hasArrived s (d .sides) (i .0) (i .1), unsent-sent s (d .kept)) (sent-ok m (sideAt d s) (unsentOf s (d .kept)) (a .sides s (i .0) (omega (arith, t .sides))))))
+              (λ e. rw (eqb→eq x s e)
+              (rw (nth-same absentSide hasArrived s (d .sides) (i .0) (i .1), unsent-sent s (d .kept))
+              (sent-ok m (sideAt d s) (unsentOf s (d .kept)) (a .sides s (i .0) (omega (arith, t .sides))))))
               (λ e. rw (nth-other absentSide hasArrived s (d .sides) x (same-no x s e), unsent-other s x (d .kept) (same-no x s e)) (a .sides x p q));
           logged = logged-sent d s (i .0) (a .logged);
           progress = record {
@@ -134,7 +137,8 @@ outcome-number true = refl
 outcome-number false = refl
 
 -- an edit that waits while all logs have arrived names 0 or a settled edit
-earlier-settled : (m : Mode) (d : Content) (h : History) → Parted d h → Active m d h → Reported (d .kept) (h .settlings) → (n : ℕ) → sidesThat (unarrived d) d ≡ 0 → T (not (isWaiting (lookup (lookup n (d .kept) .edit .earlier) (d .kept))))
+earlier-settled : (m : Mode) (d : Content) (h : History) → Parted d h → Active m d h → Reported (d .kept) (h .settlings) → (n : ℕ) → sidesThat (unarrived d) d ≡ 0
+    → T (not (isWaiting (lookup (lookup n (d .kept) .edit .earlier) (d .kept))))
     → (lookup n (d .kept) .edit .earlier ≡ 0) ⊎ (0 < times (lookup n (d .kept) .edit .earlier) (h .settlings))
 earlier-settled m d h t a told n logs still =
     let e = lookup n (d .kept) .edit .earlier in
@@ -327,7 +331,8 @@ module _ (d : Content) (h : History) (e : Edit) (f : Fitting d e) (t : Parted d 
 
 -- ---- join
 
-pub join-active : (d : Content) (h : History) (xs : List ℤ) → Parted d h → T (all isUnsent (d .kept)) → h .settlings ≡ [] → count (λ e. e .late) (h .kept) ≡ 0 → Parted (joinTo d) (entered join xs h) × Active joining (joinTo d) (entered join xs h)
+pub join-active : (d : Content) (h : History) (xs : List ℤ) → Parted d h → T (all isUnsent (d .kept)) → h .settlings ≡ [] → count (λ e. e .late) (h .kept) ≡ 0
+    → Parted (joinTo d) (entered join xs h) × Active joining (joinTo d) (entered join xs h)
 unfolding entered
 join-active d h xs t f z early =
     let side = side-joined d in
@@ -555,11 +560,27 @@ consistent-after (replay n) m d h g t k =
 consistent-after stop m d h g t k =
     let e = only joining m (k .0) in
     let t′ : Consistent joining d h = rw e at t in
-    record { mode = refl; rules = t .rules; next = t .next; reported = t .reported; ordered = t .ordered; stage = (t′ .stage .0, stop-active d h (t′ .stage .0) (t′ .stage .1) [] (eqb→eq _ 0 (k .1 .0))) }
+    record {
+      mode = refl;
+      rules = t .rules;
+      next = t .next;
+      reported = t .reported;
+      ordered = t .ordered;
+      stage =
+          (t′ .stage .0, stop-active d h (t′ .stage .0) (t′ .stage .1) [] (eqb→eq _ 0 (k .1 .0)));
+    }
 consistent-after (confirm s) m d h g t k =
     let e = only closing m (k .0) in
     let t′ : Consistent closing d h = rw e at t in
-    record { mode = t .mode; rules = t .rules; next = t .next; reported = t .reported; ordered = t .ordered; stage = rw e (confirm-active d h (t′ .stage .0) (t′ .stage .1) s [] (k .1 .0) (k .1 .1 .0) (k .1 .1 .1 .0)) }
+    record {
+      mode = t .mode;
+      rules = t .rules;
+      next = t .next;
+      reported = t .reported;
+      ordered = t .ordered;
+      stage = rw e
+          (confirm-active d h (t′ .stage .0) (t′ .stage .1) s [] (k .1 .0) (k .1 .1 .0) (k .1 .1 .1 .0));
+    }
 consistent-after install m d h g t k =
     let e = only closing m (k .0) in
     let t′ : Consistent closing d h = rw e at t in

@@ -137,7 +137,12 @@ module _ (m : Mode) (d : Content) (h : History) (t : Parted d h) (a : Active m d
       (λ j. (stop, tt, taken-if stop (plan m d) (j, (is-none-yes _ (logs-in z), (is-none-yes _ w, tt)))))
       (λ k. on (count-to-some (unconfirmed d) (h .sides))
       (λ e. (install, tt, taken-if install (plan m d) (k, (is-none-yes _ (rw (← (t .sides)) at e), (is-none-yes _ w, tt)))))
-      (λ q. (confirm (pos (q .0)), tt, taken-if (confirm (pos (q .0))) (plan m d) (k, (in-range _ (q .0) (q .1) (omega (arith, q .2, t .sides)), (q .3, (is-none-yes _ (nothing-unsent z (q .0) (q .1) (q .2)), tt)))))))
+      (λ q. (
+        confirm (pos (q .0)),
+        tt,
+        taken-if (confirm (pos (q .0))) (plan m d)
+            (k, (in-range _ (q .0) (q .1) (omega (arith, q .2, t .sides)), (q .3, (is-none-yes _ (nothing-unsent z (q .0) (q .1) (q .2)), tt)))),
+      )))
 
   pub able : T (active m) → Able (plan m d)
   unfolding checks further
@@ -201,7 +206,8 @@ raised s client n x kind y m d h g t k c =
     let late = lastSent (natural s) (h .moves) in
     let mode = t .mode ∙ only joining m w in
     let i = number m d h t k in
-    let j = rw mode at (number m (after (edit s client n x kind y) m d .content) (entered (edit s client n x kind y) (gives (edit s client n x kind y) m d) h) (consistent-after (edit s client n x kind y) m d h g t c) k) in
+    let j = rw mode at (number m (after (edit s client n x kind y) m d .content) (entered (edit s client n x kind y) (gives (edit s client n x kind y) m d) h)
+    (consistent-after (edit s client n x kind y) m d h g t c) k) in
     let l = length-snoc (h .kept) (record { edit = editOf (d .next) s client n x kind y; late = late }) in
     let o = count-snoc (λ e. e .late) (h .kept) (record { edit = editOf (d .next) s client n x kind y; late = late }) in
     rw mode (omega arith)))

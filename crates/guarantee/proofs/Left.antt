@@ -129,7 +129,8 @@ module _ (d : Content) where
   confirm-sum m s has not-yet =
       let n = length (d .sides) in
       let i = range n s has in
-      let less = count-to-less (unconfirmed d) (unconfirmed (confirmTo s)) n s (i .0) (i .1) not-yet (rw (nth-same absentSide hasConfirmed s (d .sides) (i .0) (i .1)) tt) (λ x k. rw (nth-other absentSide hasConfirmed s (d .sides) x k)) in
+      let less = count-to-less (unconfirmed d) (unconfirmed (confirmTo s)) n s (i .0) (i .1) not-yet (rw (nth-same absentSide hasConfirmed s (d .sides) (i .0) (i .1)) tt)
+      (λ x k. rw (nth-other absentSide hasConfirmed s (d .sides) x k)) in
       let same = count-to-same (pending (confirmTo s)) (pending d) n (λ x p q. rw (arrived-confirmed s x)) in
       omega arith
 

@@ -50,20 +50,20 @@ endIn h = cond (single h) (h .mark) (h .next)
 abbrev pub keptIn : Head → ℕ
 keptIn h = min (h .kept) keptLimit
 
--- the place, from 1, of number n among k consecutive numbers that end below e; 0: none
+-- the position, from 1, of number n among k consecutive numbers that end below e; 0: none
 unfoldable pub positionOf : ℕ → ℕ → ℕ → ℕ
 positionOf e k n = cond (eqb n 0) (cond (ltb 0 k && leb e k) 1 0) (cond (ltb n e && leb (e - n) k) (suc (k - (e - n))) 0)
 
--- the slot in which the edit at a place from 1 stands; place 0, which is none, has the last
+-- the slot in which the edit at a position from 1 stands; position 0, which is none, has the last
 abbrev pub slotAt : ℕ → ℕ
 slotAt i = (i + lastEdit) % keptLimit
 
--- the place, from 1, of the kept edit that a call's number names, and where it stands
+-- the position, from 1, of the kept edit that a call's number names, and where it stands
 abbrev pub namedAt : Head → ℤ → ℕ
 namedAt h n = positionOf (endIn h) (keptIn h) (natural n)
 
-abbrev pub seatOf : Head → ℤ → ℕ
-seatOf h n = slotAt (namedAt h n)
+abbrev pub namedSlot : Head → ℤ → ℕ
+namedSlot h n = slotAt (namedAt h n)
 
 -- ---- flags
 

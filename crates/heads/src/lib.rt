@@ -165,7 +165,7 @@ fn end(h: Head) -> u32
     h.next
 }
 
-// The place, from 1, of the kept edit numbered n; 0 if it is not kept.
+// The position, from 1, of the kept edit numbered n; 0 if it is not kept.
 pub fn position(h: Head, n: u32) -> usize
     ensures { λ r. ⌜ (r ≡ positionOf (endIn h) (keptIn h) n) × (r ≤ 256) ⌝ }
 {
@@ -188,7 +188,7 @@ pub fn position(h: Head, n: u32) -> usize
     0
 }
 
-// The slot in which the edit at a place from 1 stands. Place 0 has the last, so that a compiler needs no test.
+// The slot in which the edit at a position from 1 stands. Position 0 has the last, so that a compiler needs no test.
 pub fn slot(i: usize) -> usize
     ensures { λ r. ⌜ (r ≡ slotAt i) × (r < 256) ⌝ }
 {
@@ -198,7 +198,7 @@ pub fn slot(i: usize) -> usize
     (i - 1) % limit::EDITS
 }
 
-// The place, from 1, of the kept edit that a call's number names.
+// The position, from 1, of the kept edit that a call's number names.
 pub fn named(h: Head, n: i32) -> usize
     ensures { λ r. ⌜ (r ≡ namedAt h n) × (r ≤ 256) ⌝ }
 {

@@ -91,7 +91,8 @@ module _ (c : Call) (p : Spread) (s : ℤ) (b : Bool) (flag : Side → Bool) (fl
         (λ t. let r = range (sidesIn (p .head)) (natural s) (is-yes t) in ap (λ x. first (f x (unsentBy p s))) (ap flag (side-at p (natural s) (r .0) (r .1)) ∙ h (natural s))));
     found =
         e ∙ ap₂ (λ x y. refusalOf (first (named b (sidesIn (p .head)) x (f (getD flags y false) n)))) (w .number) (w .place ∙ ap indexOf (w .number))
-        ∙ ap (λ v. refusalOf (cond b v (refused 31))) (if-true (oneTo (sidesIn (p .head)) (natural s)) _ _ (refused 21) (λ t. ap (λ y. first (f (getD flags (indexOf (natural s)) false) y)) (w .unsent (is-yes t))));
+        ∙ ap (λ v. refusalOf (cond b v (refused 31)))
+        (if-true (oneTo (sidesIn (p .head)) (natural s)) _ _ (refused 21) (λ t. ap (λ y. first (f (getD flags (indexOf (natural s)) false) y)) (w .unsent (is-yes t))));
   }
 
 abbrev pub confirming : Spread → ℤ → List Check
@@ -123,12 +124,19 @@ stop-accepts p w z = accepts _ w tt z (λ t. refl) (λ t. rw (eqb→eq (modeNumb
 abbrev pub installTo : Spread → Spread
 installTo p = stored p (installHead (p .head)) (p .base) (p .draft) (copiedIn (p .values) (p .draft) 0 0 32) (set (p .arrived) 0 false) (set (p .confirmed) 0 false) (p .edits)
 
-pub install-accepts : (p : Spread) {k : ℕ} → Checked install p (installing p) k → length (p .draft) ≡ 32 → length (p .values) ≡ 256 → length (p .arrived) ≡ 8 → length (p .confirmed) ≡ 8 → k ≡ 0 → MeetsSpread install p (record { state = installTo p; answer = done })
+pub install-accepts : (p : Spread) {k : ℕ} → Checked install p (installing p) k → length (p .draft) ≡ 32 → length (p .values) ≡ 256 → length (p .arrived) ≡ 8 → length (p .confirmed) ≡ 8 → k ≡ 0
+    → MeetsSpread install p (record { state = installTo p; answer = done })
 unfolding after gives
 install-accepts p w d v a c z =
     accepts _ w tt z (λ t. refl)
     (λ t. rw (eqb→eq (modeNumber (modeOf (p .head .mode))) 4 (t .0))
-    (plan-same refl refl refl refl refl (λ i. record { values = row-copied (p .values) (p .draft) 0 0 (min (p .head .drafted) 32) (omega arith) (omega arith) (omega arith) i; arrived = getD-set (p .arrived) 0 false false (omega arith) i; confirmed = getD-set (p .confirmed) 0 false false (omega arith) i } ∷ []) refl))
+    (plan-same refl refl refl refl refl
+    (λ i. record {
+      values = row-copied (p .values) (p .draft) 0 0 (min (p .head .drafted) 32) (omega arith) (omega arith) (omega arith) i;
+      arrived = getD-set (p .arrived) 0 false false
+          (omega arith) i;
+      confirmed = getD-set (p .confirmed) 0 false false (omega arith) i;
+    } ∷ []) refl))
     tt
 
 -- a side's flag set, whatever else a side is made of
@@ -154,7 +162,8 @@ confirm-accepts p s w e l z =
     refl)
     tt)
 
-pub send-accepts : (p : Spread) (s : ℤ) {side i n k : ℕ} → Named p s side i n → Checked (send s) p (sending p s) k → (es : List EditRecord) → keptOf (p .head) es ≡ map (markSent side) (keptOf (p .head) (p .edits)) → length (p .arrived) ≡ 8 → k ≡ 0
+pub send-accepts : (p : Spread) (s : ℤ) {side i n k : ℕ} → Named p s side i n → Checked (send s) p (sending p s) k → (es : List EditRecord) → keptOf (p .head) es ≡ map (markSent side)
+    (keptOf (p .head) (p .edits)) → length (p .arrived) ≡ 8 → k ≡ 0
     → MeetsSpread (send s) p (record { state = stored p (p .head) (p .base) (p .draft) (p .values) (set (p .arrived) i true) (p .confirmed) es; answer = number n })
 unfolding after gives
 send-accepts p s w e es f l z =
@@ -166,7 +175,8 @@ send-accepts p s w e es f l z =
     tt)
 
 -- from what was decided, and the edits that were marked
-pub send-decided : (p : Spread) (z : ℤ) {side i n j : ℕ} (d : Sending) (es : List EditRecord) → Named p z side i n → length (p .arrived) ≡ 8 → d ≡ sendDecision (p .head) side (getD (p .arrived) i false) n → Marked side (p .edits) es j → j ≡ d .marked
+pub send-decided : (p : Spread) (z : ℤ) {side i n j : ℕ} (d : Sending) (es : List EditRecord) → Named p z side i n → length (p .arrived) ≡ 8 → d ≡ sendDecision (p .head) side
+    (getD (p .arrived) i false) n → Marked side (p .edits) es j → j ≡ d .marked
     → MeetsSpread (send z) p (record { state = stored p (p .head) (p .base) (p .draft) (p .values) (set (p .arrived) i (d .arrived)) (p .confirmed) es; answer = d .answer })
 send-decided p z {side = side} {i = i} {n = n} {j = j} d es w long e m f = by (first (sendChecks (p .head) side (getD (p .arrived) i false) n)) refl e
   where

@@ -65,7 +65,8 @@ split-checked p s w e = record { same = rw (sides-length p); found = e ∙ ap (�
 
 abbrev pub splitTo : Spread → ℕ → ℕ → ℕ → Spread
 splitTo p from to i =
-    stored p (splitHead (p .head)) (splitBase (p .head) (p .base) (p .values)) (p .draft) (copiedIn (p .values) (p .values) from to 32) (set (p .arrived) i false) (set (p .confirmed) i false) (p .edits)
+    stored p (splitHead (p .head)) (splitBase (p .head) (p .base) (p .values)) (p .draft) (copiedIn (p .values) (p .values) from to 32) (set (p .arrived) i false) (set (p .confirmed) i false)
+    (p .edits)
 
 split-sides : (p : Spread) (s : ℕ) → T (oneTo (sidesIn (p .head)) s) → sidesIn (p .head) < 8 → length (p .values) ≡ 256 → length (p .arrived) ≡ 8 → length (p .confirmed) ≡ 8
     → let n = suc (sidesIn (p .head)) in
@@ -84,13 +85,15 @@ split-sides p s t h v a c =
       confirmed = flag-other (p .confirmed) false (suc k) j (omega arith) (omega arith) (omega arith) (omega arith) (λ z. omega arith) i;
     }))
     (ap (sideOf q) y ∙ (λ i. record {
-      values = (row-copied (p .values) (p .values) (offsetOf s) (offsetOf (suc k)) (measuresIn (p .head)) (omega arith) (omega arith) (omega (arith, r .1)) ∙ sym (ap (λ z. z .values) (side-at p s (r .0) (r .1)))) i;
+      values = (row-copied (p .values) (p .values) (offsetOf s) (offsetOf (suc k)) (measuresIn (p .head)) (omega arith) (omega arith) (omega (arith, r .1))
+          ∙ sym (ap (λ z. z .values) (side-at p s (r .0) (r .1)))) i;
       arrived = flag-set (p .arrived) false (suc k) a i;
       confirmed = flag-set (p .confirmed) false (suc k) c i;
     }))
 
 -- the first split of a whole plan, b, or another
-split-plan : (p : Spread) (b : Bool) (x : Side) (xs : List Side) → xs ≡ snoc (planOf p .content .sides) x → (T (not b) → endIn (p .head) ≡ p .head .next) → (T b → length (p .base) ≡ 32) → length (p .values) ≡ 256
+split-plan : (p : Spread) (b : Bool) (x : Side) (xs : List Side) → xs ≡ snoc (planOf p .content .sides) x → (T (not b) → endIn (p .head) ≡ p .head .next) → (T b → length (p .base) ≡ 32)
+    → length (p .values) ≡ 256
     → _≡_ {A = Plan}
     (record {
       mode = split;
@@ -113,8 +116,10 @@ split-plan p false x xs e h u v = plan-same refl refl refl refl refl e (ap (λ n
 split-end : (h : Head) → T (is whole (modeOf (h .mode)) || is split (modeOf (h .mode))) → T (not (is whole (modeOf (h .mode)))) → endIn h ≡ h .next
 split-end h t f = which (is whole (modeOf (h .mode))) (is split (modeOf (h .mode))) t (λ y. absurd (T-not (is whole (modeOf (h .mode))) f y)) (λ y. rw (eqb→eq (modeNumber (modeOf (h .mode))) 2 y))
 
-pub split-accepts : (p : Spread) (s : ℤ) {side k n from to i : ℕ} → side ≡ natural s → Checked (split-side s) p (splitChecks (p .head) (natural s)) k → n ≡ suc (sidesIn (p .head)) → from ≡ offsetOf side → to ≡ offsetOf n → i ≡ indexOf n
-    → (T (is whole (modeOf (p .head .mode))) → length (p .base) ≡ 32) → length (p .values) ≡ 256 → length (p .arrived) ≡ 8 → length (p .confirmed) ≡ 8 → k ≡ 0 → MeetsSpread (split-side s) p (record { state = splitTo p from to i; answer = number n })
+pub split-accepts : (p : Spread) (s : ℤ) {side k n from to i : ℕ} → side ≡ natural s → Checked (split-side s) p (splitChecks (p .head) (natural s)) k → n ≡ suc (sidesIn (p .head))
+    → from ≡ offsetOf side → to ≡ offsetOf n → i ≡ indexOf n
+    → (T (is whole (modeOf (p .head .mode))) → length (p .base) ≡ 32) → length (p .values) ≡ 256 → length (p .arrived) ≡ 8 → length (p .confirmed) ≡ 8 → k ≡ 0 → MeetsSpread (split-side s) p
+    (record { state = splitTo p from to i; answer = number n })
 unfolding after gives
 split-accepts p s w e a b c d u v f g z =
     rw (b, c, d, a, w) (accepts _ e tt z

@@ -28,8 +28,15 @@ bit-some false h = absurd (h refl)
 pub marked-begin : (s : ℕ) (es : List EditRecord) → length es ≡ 256 → Marked s es es 0
 marked-begin s es e = record { size = e; done = λ j a. absurd (omega arith); rest = λ j a. refl; none = λ z. refl }
 
-pub marked-next : (s : ℕ) (before next : List EditRecord) (i : ℕ) (r : EditRecord) → i < 256 → Marked s before next i → ((n : ℕ) → keptAt n r ≡ markSent s (keptAt n (getD next i noRecord))) → Marked s before (set next i r) (i + 1)
-marked-next s before next i r h w e = record { size = length-set next i r ∙ w .size; done = done; rest = λ j a. getD-other next i j r noRecord (λ z. omega arith) ∙ w .rest j (omega arith); none = λ z. absurd (omega arith) }
+pub marked-next : (s : ℕ) (before next : List EditRecord) (i : ℕ) (r : EditRecord) → i < 256 → Marked s before next i → ((n : ℕ) → keptAt n r ≡ markSent s (keptAt n (getD next i noRecord)))
+    → Marked s before (set next i r) (i + 1)
+marked-next s before next i r h w e = record {
+  size = length-set next i r ∙ w .size;
+  done = done;
+  rest = λ j a. getD-other next i j r noRecord (λ z. omega arith)
+      ∙ w .rest j (omega arith);
+  none = λ z. absurd (omega arith);
+}
   where
     done : (j : ℕ) → j < i + 1 → (n : ℕ) → keptAt n (getD (set next i r) j noRecord) ≡ markSent s (keptAt n (getD before j noRecord))
     done j a n =
@@ -41,7 +48,8 @@ marked-next s before next i r h w e = record { size = length-set next i r ∙ w 
 pub mark-sent-other : (s : ℕ) (e : EditRecord) → bit (testOf (UnsentOf s) (keptAt 0 e)) ≡ 0 → (n : ℕ) → keptAt n e ≡ markSent s (keptAt n e)
 mark-sent-other s e z n = rw (no-is (testOf (UnsentOf s) (keptAt n e)) (bit-zero (testOf (UnsentOf s) (keptAt n e)) z))
 
-pub marked-passed : (s : ℕ) (before next : List EditRecord) (i : ℕ) → i < 256 → Marked s before next i → ((n : ℕ) → keptAt n (getD next i noRecord) ≡ markSent s (keptAt n (getD next i noRecord))) → Marked s before next (i + 1)
+pub marked-passed : (s : ℕ) (before next : List EditRecord) (i : ℕ) → i < 256 → Marked s before next i → ((n : ℕ) → keptAt n (getD next i noRecord) ≡ markSent s (keptAt n (getD next i noRecord)))
+    → Marked s before next (i + 1)
 marked-passed s before next i h w e = subst (λ es. Marked s before es (i + 1)) (set-getD next i noRecord) (marked-next s before next i (getD next i noRecord) h w e)
 
 pub marked-over : (s : ℕ) (h : Head) (before next : List EditRecord) (i : ℕ) → keptIn h ≤ i → Marked s before next i → keptOf h next ≡ map (markSent s) (keptOf h before)

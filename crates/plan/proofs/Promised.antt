@@ -21,7 +21,8 @@ blank-view : view blankState ≡ start
 blank-view = refl
 
 -- the refusal number and the part handed back tell show's answer
-told : (v : Verdict) (c : Call) (p : Plan) (buffer : List ℤ) → (refusalOf v ≡ 0 → v ≡ fine) → shownAnswer (shownBy (stepBy v c p .answer) buffer .refusal) (shownBy (stepBy v c p .answer) buffer .front) ≡ stepBy v c p .answer
+told : (v : Verdict) (c : Call) (p : Plan) (buffer : List ℤ) → (refusalOf v ≡ 0 → v ≡ fine) → shownAnswer (shownBy (stepBy v c p .answer) buffer .refusal)
+    (shownBy (stepBy v c p .answer) buffer .front) ≡ stepBy v c p .answer
 told fine c p buffer h = refl
 told (refused k) c p buffer h = cases (eqb k 0) (λ e. absurd (subst Fine (sym (h (eqb-true k 0 e))) tt)) (λ e. rw e)
 

@@ -40,11 +40,11 @@ fn turn(p: State, l: Line) -> Answered
         counts = t;
     }
     let named = calls::first_look(l, h);
-    let slot = heads::slot(named);
-    let standing = edits[slot];
+    let first_slot = heads::slot(named);
+    let standing = edits[first_slot];
     let next = calls::second_look(l, h, named, standing);
-    let seat = heads::slot(next);
-    let seen = edits[seat];
+    let second_slot = heads::slot(next);
+    let seen = edits[second_slot];
     let look = calls::looking(named, standing, next, seen);
     let e = calls::make(
         l,
@@ -61,9 +61,9 @@ fn turn(p: State, l: Line) -> Answered
         false,
     );
     if e.kept {
-        let place = e.slot;
+        let slot = e.slot;
         let entry = e.entry;
-        edits[place] = entry;
+        edits[slot] = entry;
     }
     let side = exact::number(l.a);
     let marked = e.marked;

@@ -64,7 +64,8 @@ unplaced e k (suc n) j z h w =
 fate-none : (e k n : ℕ) (es : List EditRecord) → positionOf e k n ≡ 0 → fateIn n (logOf e k es) ≡ pos 0 ∷ pos 0 ∷ []
 fate-none e k n es z = fate-unlisted n 0 k _ (λ j a b. unplaced e k n j z (omega arith))
 
-fate-some : (e k n : ℕ) (es : List EditRecord) → k ≤ 256 → positionOf e k n ≢ 0 → let r = getD es (slotAt (positionOf e k n)) noRecord in fateIn n (logOf e k es) ≡ pos (fateNumber (fateOf (r .fate))) ∷ pos (r .place) ∷ []
+fate-some : (e k n : ℕ) (es : List EditRecord) → k ≤ 256 → positionOf e k n ≢ 0 → let r = getD es (slotAt (positionOf e k n)) noRecord in fateIn n (logOf e k es) ≡ pos
+    (fateNumber (fateOf (r .fate))) ∷ pos (r .place) ∷ []
 fate-some e k n es most h = by (placed e k n es)
   where
     by : Placed e k n es → let r = getD es (slotAt (positionOf e k n)) noRecord in fateIn n (logOf e k es) ≡ pos (fateNumber (fateOf (r .fate))) ∷ pos (r .place) ∷ []
@@ -76,7 +77,8 @@ fate-some e k n es most h = by (placed e k n es)
         ∙ ap fateAndPlace (q .4 ∙ ap (λ i. keptAt n (getD es i noRecord)) (sym p ∙ ap slotAt (sym (q .2))))
 
 -- the answer from the record that is found
-pub fate-is : (p : Spread) (n : ℤ) → let i = positionOf (endIn (p .head)) (keptIn (p .head)) (natural n) in answerOf (fateAnswer i (getD (p .edits) (slotAt i) noRecord)) ≡ ok (fateIn (natural n) (planOf p .content .kept))
+pub fate-is : (p : Spread) (n : ℤ) → let i = positionOf (endIn (p .head)) (keptIn (p .head)) (natural n) in answerOf (fateAnswer i (getD (p .edits) (slotAt i) noRecord)) ≡ ok
+    (fateIn (natural n) (planOf p .content .kept))
 fate-is p n =
     let e = endIn (p .head) in
     let k = keptIn (p .head) in
@@ -124,7 +126,8 @@ pub left-is : (p : Spread) → leftNumber (p .head) (p .arrived) (p .confirmed) 
 left-is p = left-by p (unsentCounts (p .head) (p .edits) 8) (counts-side (p .head) (p .edits))
 
 -- the number left from counts that agree on the sides
-pub left-same : (h : Head) (arrived confirmed : List Bool) (t u : List ℕ) (k : ℕ) → ((s : ℕ) → getD t (indexOf s) 0 ≡ getD u (indexOf s) 0) → leftNumber h arrived confirmed t k ≡ leftNumber h arrived confirmed u k
+pub left-same : (h : Head) (arrived confirmed : List Bool) (t u : List ℕ) (k : ℕ) → ((s : ℕ) → getD t (indexOf s) 0 ≡ getD u (indexOf s) 0)
+    → leftNumber h arrived confirmed t k ≡ leftNumber h arrived confirmed u k
 left-same h arrived confirmed t u k e =
     let same : pendingIn arrived t (sidesIn h) ≡ pendingIn arrived u (sidesIn h) = count-to-same _ _ (sidesIn h) (λ s a b. ap (λ n. not (getD arrived (indexOf s) false) || ltb 0 n) (e s)) in
     rw same
@@ -149,7 +152,8 @@ module _ (t : List ℕ) (w s l m : ℕ) where
       let a = length-set t 8 w ∙ n in
       let b = length-set (set t 8 w) 9 s ∙ a in
       let c = length-set (set (set t 8 w) 9 s) 10 l ∙ b in (
-        getD-other (set (set (set t 8 w) 9 s) 10 l) 11 8 m 0 (λ e. omega arith) ∙ getD-other (set (set t 8 w) 9 s) 10 8 l 0 (λ e. omega arith) ∙ getD-other (set t 8 w) 9 8 s 0 (λ e. omega arith) ∙ getD-set t 8 w 0 (omega arith),
+        getD-other (set (set (set t 8 w) 9 s) 10 l) 11 8 m 0 (λ e. omega arith) ∙ getD-other (set (set t 8 w) 9 s) 10 8 l 0 (λ e. omega arith) ∙ getD-other (set t 8 w) 9 8 s 0 (λ e. omega arith)
+            ∙ getD-set t 8 w 0 (omega arith),
         getD-other (set (set (set t 8 w) 9 s) 10 l) 11 9 m 0 (λ e. omega arith) ∙ getD-other (set (set t 8 w) 9 s) 10 9 l 0 (λ e. omega arith) ∙ getD-set (set t 8 w) 9 s 0 (omega arith),
         getD-other (set (set (set t 8 w) 9 s) 10 l) 11 10 m 0 (λ e. omega arith) ∙ getD-set (set (set t 8 w) 9 s) 10 l 0 (omega arith),
         getD-set (set (set (set t 8 w) 9 s) 10 l) 11 m 0 (omega arith),
@@ -169,7 +173,8 @@ show-checks p s room =
     (λ t. rw (t, ap length (shown-row p s t), row-length (p .values) (offsetOf (natural s)) (measuresIn (p .head))))
     (λ t. rw t))
 
-pub shown-refused : (p : Spread) (s : ℤ) (buffer : List ℤ) (k : ℕ) → first (showChecks (p .head) (natural s) (length buffer)) ≡ refused k → shown s (planOf p) buffer ≡ record { refusal = k; front = []; buffer = buffer }
+pub shown-refused : (p : Spread) (s : ℤ) (buffer : List ℤ) (k : ℕ) → first (showChecks (p .head) (natural s) (length buffer)) ≡ refused k
+    → shown s (planOf p) buffer ≡ record { refusal = k; front = []; buffer = buffer }
 unfolding shown step
 shown-refused p s buffer k e = rw (show-checks p s (length buffer) ∙ e)
 

@@ -19,7 +19,7 @@ use Rattle.state.specs.declared.Answer.{Answer}
 use Rattle.state.specs.declared.Answer.the-variants.{Refused, Given}
 use Rattle.state.specs.Spread.{planOf}
 use Rattle.records.specs.Records.{keptAt, keptOf, noRecord}
-use Rattle.heads.specs.Heads.{modeOf, sidesIn, endIn, keptIn, namedAt, seatOf, unsetIn}
+use Rattle.heads.specs.Heads.{modeOf, sidesIn, endIn, keptIn, namedAt, namedSlot, unsetIn}
 use Rattle.state.specs.Meets.{answerOf, firstOf}
 use Rattle.state.proofs.Views.{flags-unset}
 use Rattle.state.proofs.Meeting.{fine-pass}
@@ -36,7 +36,8 @@ alone-row (Refused k r) = refl
 alone-row (Given count a b c) = ap ok (append-nil (firstOf count a b c))
 
 -- counts made from the records, and the number left from them, are the plan's
-pub tallies-right : (p : Spread) (t : List ℕ) → Counted t (keptOf (p .head) (p .edits)) → length t ≡ 12 → leftIn t ≡ leftNumber (p .head) (p .arrived) (p .confirmed) t (min (keptIn (p .head) - settledIn t) 256)
+pub tallies-right : (p : Spread) (t : List ℕ) → Counted t (keptOf (p .head) (p .edits)) → length t ≡ 12 → leftIn t ≡ leftNumber (p .head) (p .arrived) (p .confirmed) t
+    (min (keptIn (p .head) - settledIn t) 256)
     → missingIn t ≡ unsetIn (p .arrived) (sidesIn (p .head)) → Tallied t (planOf p)
 tallies-right p t h l e m =
     let ks = planOf p .content .kept in
@@ -53,7 +54,7 @@ tallies-right p t h l e m =
 
 module _ (p : Spread) (t : List ℕ) (h : Tallied t (planOf p)) where
   abbrev pub readingIn : ℕ → ℤ → Reading
-  readingIn op a = readingOf op a (p .head) (namedAt (p .head) a) (getD (p .edits) (seatOf (p .head) a) noRecord) (leftIn t)
+  readingIn op a = readingOf op a (p .head) (namedAt (p .head) a) (getD (p .edits) (namedSlot (p .head) a) noRecord) (leftIn t)
 
   -- what is wanted of a reading
   Right : Reading → Stepped → Type 0
@@ -69,16 +70,17 @@ module _ (p : Spread) (t : List ℕ) (h : Tallied t (planOf p)) where
           rw (show-checks p a measureLimit ∙ e) (ap ok (sym (shown-row p a (yes-is _ (g .1 .0)))), refl)
       by (refused k) e = rw (show-checks p a measureLimit ∙ e) (refl, refl)
 
-  fate-right : (a : ℤ) → Right (alone (fateAnswer (namedAt (p .head) a) (getD (p .edits) (seatOf (p .head) a) noRecord))) (step (fate-of a) (planOf p))
+  fate-right : (a : ℤ) → Right (alone (fateAnswer (namedAt (p .head) a) (getD (p .edits) (namedSlot (p .head) a) noRecord))) (step (fate-of a) (planOf p))
   unfolding step checks further gives after Right
-  fate-right a = (alone-row (fateAnswer (namedAt (p .head) a) (getD (p .edits) (seatOf (p .head) a) noRecord)) ∙ fate-is p a, refl)
+  fate-right a = (alone-row (fateAnswer (namedAt (p .head) a) (getD (p .edits) (namedSlot (p .head) a) noRecord)) ∙ fate-is p a, refl)
 
   left-right : (a : ℤ) → Right (readingIn 14 a) (step left (planOf p))
   unfolding step checks further gives after Right
   left-right a =
       cases (active (modeOf (p .head .mode))) (λ e. rw (e, h .left (is-yes e)) (refl, refl)) (λ e. rw e (refl, refl))
 
-  pub reading-right : (op : ℕ) (a : ℤ) → (withRow (answerOf (readingIn op a .answer)) (row (p .values) (readingIn op a .from) (readingIn op a .width)) ≡ stepOf (readCall op a) (planOf p) .answer) × (stepOf (readCall op a) (planOf p) .plan ≡ planOf p)
+  pub reading-right : (op : ℕ) (a : ℤ) → (withRow (answerOf (readingIn op a .answer)) (row (p .values) (readingIn op a .from) (readingIn op a .width)) ≡ stepOf (readCall op a) (planOf p) .answer)
+      × (stepOf (readCall op a) (planOf p) .plan ≡ planOf p)
   unfolding Right step
   reading-right op a =
       cases (eqb op 12) (λ e. rw e (show-right a))

@@ -28,7 +28,7 @@ use state::State;
 
 // ---- fate
 
-// The fate and place of the edit found at a place from 1; place 0 is none.
+// The fate and place of the edit found at a position from 1; position 0 is none.
 fn fate_answer(i: usize, e: EditRecord) -> Answer
     ensures { λ r. ⌜ r ≡ fateAnswer i e ⌝ }
 {

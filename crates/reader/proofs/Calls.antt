@@ -61,8 +61,22 @@ EachFixed [] = Unit {0}
 EachFixed (f ∷ fs) = Fixed (f .shape) × EachFixed fs
 
 forms-fixed : EachFixed forms
-forms-fixed =
-    (λ x. (refl, tt), (λ x. (refl, λ y. (refl, λ z. (refl, λ u. (refl, tt)))), (tt, (λ x. (refl, tt), (λ x. (refl, λ y. (refl, λ z. (refl, λ u. (refl, λ v. (refl, λ w. (refl, tt)))))), (tt, (λ x. (refl, tt), (λ x. (refl, tt), (tt, (λ x. (refl, tt), (tt, (λ x. (refl, tt), (λ x. (refl, tt), (tt, tt))))))))))))))
+forms-fixed = (
+  λ x. (refl, tt),
+  (
+    λ x. (refl, λ y. (refl, λ z. (refl, λ u. (refl, tt)))),
+    (
+      tt,
+      (
+        λ x. (refl, tt),
+        (
+          λ x. (refl, λ y. (refl, λ z. (refl, λ u. (refl, λ v. (refl, λ w. (refl, tt)))))),
+          (tt, (λ x. (refl, tt), (λ x. (refl, tt), (tt, (λ x. (refl, tt), (tt, (λ x. (refl, tt), (λ x. (refl, tt), (tt, tt))))))))),
+        ),
+      ),
+    ),
+  ),
+)
 
 not-filled : (s : Shape) (zs : List ℤ) → Fixed s → (length zs ≡ arity s → ⊥) → filled s zs ≡ none
 not-filled (complete c) [] h ne = absurd (ne refl)
@@ -104,7 +118,8 @@ behind-next : (ys : List ℤ) (x : ℤ) (n : Option (List ℤ)) → behind ys (j
 behind-next ys x none = refl
 behind-next ys x (some zs) = ap some (sym (append-assoc ys (x ∷ []) zs))
 
-numbers-here : (line : List ℕ) (at : ℕ) → at < length line → numbers (more (drop at line)) ≡ joined (number (wordAt line (at + 1))) (numbers (more (drop (at + 1 + length (wordAt line (at + 1))) line)))
+numbers-here : (line : List ℕ) (at : ℕ) → at < length line → numbers (more (drop at line)) ≡ joined (number (wordAt line (at + 1)))
+    (numbers (more (drop (at + 1 + length (wordAt line (at + 1))) line)))
 numbers-here line at h =
     rw (drop-cons line at 0 h, ← add-one at, words-cut (drop (at + 1) line), drop-drop (length (wordAt line (at + 1))) (at + 1) line)
 
@@ -200,7 +215,18 @@ filled-with : (end op : ℕ) (a b c d e f : ℤ) → 0 < op → op ≤ 14 → Fi
 unfolding shapeAt takenBy
 filled-with end op a b c d e f p =
     let P : ℕ → Type 0 = λ k. Filled end k (a ∷ b ∷ c ∷ d ∷ e ∷ f ∷ []) in
-    λ q. pick P op 13 q (refl, refl) (λ q. pick P op 12 q (refl, refl) (λ q. pick P op 11 q (refl, refl) (λ q. pick P op 10 q (refl, refl) (λ q. pick P op 9 q (refl, refl) (λ q. pick P op 8 q (refl, refl) (λ q. pick P op 7 q (refl, refl) (λ q. pick P op 6 q (refl, refl) (λ q. pick P op 5 q (refl, refl) (λ q. pick P op 4 q (refl, refl) (λ q. pick P op 3 q (refl, refl) (λ q. pick P op 2 q (refl, refl) (λ q. pick P op 1 q (refl, refl) (λ q. pick P op 0 q (refl, refl) (λ z. absurd (omega arith)))))))))))))))
+    λ q. pick P op 13 q (refl, refl)
+    (λ q. pick P op 12 q (refl, refl)
+    (λ q. pick P op 11 q (refl, refl)
+    (λ q. pick P op 10 q (refl, refl)
+    (λ q. pick P op 9 q (refl, refl)
+    (λ q. pick P op 8 q (refl, refl)
+    (λ q. pick P op 7 q (refl, refl)
+    (λ q. pick P op 6 q (refl, refl)
+    (λ q. pick P op 5 q (refl, refl)
+    (λ q. pick P op 4 q (refl, refl)
+    (λ q. pick P op 3 q (refl, refl)
+    (λ q. pick P op 2 q (refl, refl) (λ q. pick P op 1 q (refl, refl) (λ q. pick P op 0 q (refl, refl) (λ z. absurd (omega arith)))))))))))))))
 
 six : (xs : List ℤ) → length xs ≡ 6 → xs ≡ getD xs 0 (pos 0) ∷ getD xs 1 (pos 0) ∷ getD xs 2 (pos 0) ∷ getD xs 3 (pos 0) ∷ getD xs 4 (pos 0) ∷ getD xs 5 (pos 0) ∷ []
 six [] l = absurd (omega arith)
@@ -224,7 +250,8 @@ getD-front k xs p j = cases (ltb j k)
     (λ t. sym (getD-take k xs j (pos 0) (ltb-true j k t)))
     (λ t. let h = ltb-false j k t in let l = length-take k xs in p j h ∙ sym (List·getD-eq-default (take k xs) (pos 0) {n = j} (omega arith)))
 
-pub line-from : (end op : ℕ) (xs : List ℤ) (a b c d e f : ℤ) → a ≡ getD xs 0 (pos 0) → b ≡ getD xs 1 (pos 0) → c ≡ getD xs 2 (pos 0) → d ≡ getD xs 3 (pos 0) → e ≡ getD xs 4 (pos 0) → f ≡ getD xs 5 (pos 0)
+pub line-from : (end op : ℕ) (xs : List ℤ) (a b c d e f : ℤ) → a ≡ getD xs 0 (pos 0) → b ≡ getD xs 1 (pos 0) → c ≡ getD xs 2 (pos 0) → d ≡ getD xs 3 (pos 0) → e ≡ getD xs 4 (pos 0)
+    → f ≡ getD xs 5 (pos 0)
     → _≡_ {A = Line} (record { op = op; a = a; b = b; c = c; d = d; e = e; f = f; end = end }) (lineFrom op xs end)
 line-from end op xs a b c d e f p q r s t u = rw (p, q, r, s, t, u)
 
@@ -238,7 +265,8 @@ module _ (line : List ℕ) (op k : ℕ) (xs : List ℤ) (at : ℕ) (r : Listing 
   pub listing-unread : at < length line → numberAt line (at + 1) ≡ Unreadable → none ≡ lineCall line
   listing-unread h e =
       sym (
-      r .2 ∙ ap (λ o. asked (shapeAt op) (behind (take k xs) o)) (numbers-here line at h ∙ ap (λ o. joined o (numbers (more (drop (at + 1 + length (wordAt line (at + 1))) line)))) (found-not line (at + 1) e))
+      r .2 ∙ ap (λ o. asked (shapeAt op) (behind (take k xs) o))
+      (numbers-here line at h ∙ ap (λ o. joined o (numbers (more (drop (at + 1 + length (wordAt line (at + 1))) line)))) (found-not line (at + 1) e))
       ∙ none-asked (shapeAt op)
       )
 
@@ -256,7 +284,8 @@ module _ (line : List ℕ) (op k : ℕ) (xs : List ℤ) (at : ℕ) (r : Listing 
       let l : k < takenBy op = omega (arith, r .1) in (
         length-set xs k x ∙ r .0,
         omega arith,
-        here x n h e ∙ ap (asked (shapeAt op)) (behind-next (take k xs) x (numbers (more (drop n line))) ∙ ap (λ ys. behind ys (numbers (more (drop n line)))) (sym (rw (add-one k) (take-suc-set xs k x (omega (arith, r .0)))))),
+        here x n h e ∙ ap (asked (shapeAt op))
+            (behind-next (take k xs) x (numbers (more (drop n line))) ∙ ap (λ ys. behind ys (numbers (more (drop n line)))) (sym (rw (add-one k) (take-suc-set xs k x (omega (arith, r .0)))))),
         padded-next k xs x (r .3),
       )
 

@@ -135,7 +135,8 @@ module _ (bs : List ℕ) (from first n i : ℕ) (r : Reading (firstLine bs) from
     stop-high q = reading-high (firstLine bs) from first n i r (goes .0) apart (omega (arith, goes .1))
 
     pub goes-on : getD bs i lineFeed ≤ 57 → i - from < 8 → Reading (firstLine bs) from first (10 * n + (getD bs i lineFeed - 48)) (i + 1)
-    goes-on q l = subst (λ b. Reading (firstLine bs) from first (10 * n + (b - 48)) (i + 1)) (goes .1) (reading-next (firstLine bs) from first n i r (goes .0) apart (omega (arith, goes .1)) (omega (arith, goes .1)) l)
+    goes-on q l = subst (λ b. Reading (firstLine bs) from first (10 * n + (b - 48)) (i + 1)) (goes .1)
+        (reading-next (firstLine bs) from first n i r (goes .0) apart (omega (arith, goes .1)) (omega (arith, goes .1)) l)
 
 -- ---- a magnitude
 
@@ -158,7 +159,8 @@ module _ (line : List ℕ) (at : ℕ) where
           above : (b : ℕ) → 48 ≤ b → (b ≡ 48 → ⊥) → 48 < b
           above b p q = omega arith
 
-      by : (wordAt line at ≡ []) ⊎ (wordAt line at ≡ getD line at 0 ∷ wordAt line (at + 1)) → cond (isMagnitude (wordAt line at)) (Of (decimal 0 (wordAt line at)) (at + length (wordAt line at))) Nothing ≡ Nothing
+      by : (wordAt line at ≡ []) ⊎ (wordAt line at ≡ getD line at 0 ∷ wordAt line (at + 1)) → cond (isMagnitude (wordAt line at)) (Of (decimal 0 (wordAt line at)) (at + length (wordAt line at)))
+          Nothing ≡ Nothing
       by (inl e) = rw e
       by (inr e) = rw e (cases (isMagnitude (getD line at 0 ∷ wordAt line (at + 1))) (λ t. absurd (bad (wordAt line (at + 1)) t)) (λ t. rw t))
 
@@ -220,7 +222,8 @@ module _ (line : List ℕ) (at : ℕ) where
   unfolding number
   plain h p q = by (word-first line at h)
     where
-      by : (wordAt line at ≡ []) ⊎ (wordAt line at ≡ getD line at 0 ∷ wordAt line (at + 1)) → number (wordAt line at) ≡ cond (isMagnitude (wordAt line at)) (some (pos (decimal 0 (wordAt line at)))) none
+      by : (wordAt line at ≡ []) ⊎ (wordAt line at ≡ getD line at 0 ∷ wordAt line (at + 1)) → number (wordAt line at) ≡ cond (isMagnitude (wordAt line at)) (some (pos (decimal 0 (wordAt line at))))
+          none
       by (inl e) = rw e
       by (inr e) = rw (e, ne-eqb (getD line at 0) nought p, ne-eqb (getD line at 0) minus q)
 
@@ -246,8 +249,11 @@ module _ (bs : List ℕ) (at : ℕ) (h : at ≤ length (firstLine bs)) where
 
   pub first-digit : 48 < b → b ≤ 57 → (at + 1 ≤ length (firstLine bs)) × (followed 0 (b - 48) (at + 1) (wordAt (firstLine bs) (at + 1)) ≡ magnitudeAt (firstLine bs) at)
   first-digit p q =
-      let l = line-here bs at h (λ e. omega arith) in
-      (omega (arith, l .0), ap (λ x. followed 0 (x - 48) (at + 1) (wordAt (firstLine bs) (at + 1))) (sym (l .1)) ∙ sym (magnitude-first (firstLine bs) at (l .0) (omega (arith, l .1)) (omega (arith, l .1))))
+      let l = line-here bs at h (λ e. omega arith) in (
+        omega (arith, l .0),
+        ap (λ x. followed 0 (x - 48) (at + 1) (wordAt (firstLine bs) (at + 1))) (sym (l .1))
+            ∙ sym (magnitude-first (firstLine bs) at (l .0) (omega (arith, l .1)) (omega (arith, l .1))),
+      )
 
   -- a nought
   module _ (e : b ≡ 48) where

@@ -43,7 +43,8 @@ strict i j a z = cases (ltb i j) (λ e. ltb-true i j e) (λ e. absurd (z (let w 
 abbrev Found : ℕ → (ℕ → ℕ) → (ℕ → Kept) → ℕ → ℕ → Type 0
 Found n ν f i m =
     (((j : ℕ) → i ≤ j → j < i + m → ν j ≢ n) × (lookup n (span i m f) ≡ absentEdit))
-    ⊎ ((j : ℕ) × (j < m) × (ν (i + j) ≡ n) × ((k : ℕ) → i ≤ k → k < i + j → ν k ≢ n) × (lookup n (span i m f) ≡ f (i + j)) × ((g : Kept → Kept) → update n g (span i m f) ≡ modify (suc j) g (span i m f)))
+    ⊎ ((j : ℕ) × (j < m) × (ν (i + j) ≡ n) × ((k : ℕ) → i ≤ k → k < i + j → ν k ≢ n) × (lookup n (span i m f) ≡ f (i + j))
+    × ((g : Kept → Kept) → update n g (span i m f) ≡ modify (suc j) g (span i m f)))
 
 found : (n : ℕ) (ν : ℕ → ℕ) (f : ℕ → Kept) (i m : ℕ) → ((k : ℕ) → f k .edit .number ≡ ν k) → Found n ν f i m
 found n ν f i zero h = inl (λ j a b. absurd (omega arith), refl)
@@ -112,7 +113,8 @@ position-some e k n j a b h =
 abbrev pub Placed : ℕ → ℕ → ℕ → List EditRecord → Type 0
 Placed e k n es =
     ((positionOf e k n ≡ 0) × (lookup n (logOf e k es) ≡ absentEdit))
-    ⊎ ((j : ℕ) × (j < k) × (positionOf e k n ≡ suc j) × (numberAt e k j ≡ n) × (lookup n (logOf e k es) ≡ keptAt n (getD es j noRecord)) × ((g : Kept → Kept) → update n g (logOf e k es) ≡ modify (suc j) g (logOf e k es)))
+    ⊎ ((j : ℕ) × (j < k) × (positionOf e k n ≡ suc j) × (numberAt e k j ≡ n) × (lookup n (logOf e k es) ≡ keptAt n (getD es j noRecord))
+    × ((g : Kept → Kept) → update n g (logOf e k es) ≡ modify (suc j) g (logOf e k es)))
 
 pub placed : (e k n : ℕ) (es : List EditRecord) → Placed e k n es
 placed e k n es = by (found n (numberAt e k) (λ i. keptAt (numberAt e k i) (getD es i noRecord)) 0 k (λ i. refl))
@@ -126,7 +128,8 @@ placed e k n es = by (found n (numberAt e k) (λ i. keptAt (numberAt e k i) (get
         inr (j, q .1, position-some e k n j (q .1) m (λ i a b. q .3 i a b), m, q .4 ∙ ap (λ x. keptAt (numberAt e k x) (getD es x noRecord)) z ∙ ap (λ x. keptAt x (getD es j noRecord)) m, q .5)
 
 -- the record at the place that was found; its number is n's, or nobody's
-pub lookup-record : (e k n : ℕ) (es : List EditRecord) → k ≤ 256 → lookup n (logOf e k es) ≡ keptAt (cond (eqb (positionOf e k n) 0) 0 n) (recordOf (positionOf e k n) (getD es (slotAt (positionOf e k n)) noRecord))
+pub lookup-record : (e k n : ℕ) (es : List EditRecord) → k ≤ 256 → lookup n (logOf e k es) ≡ keptAt (cond (eqb (positionOf e k n) 0) 0 n)
+    (recordOf (positionOf e k n) (getD es (slotAt (positionOf e k n)) noRecord))
 lookup-record e k n es most = by (placed e k n es)
   where
     by : Placed e k n es → lookup n (logOf e k es) ≡ keptAt (cond (eqb (positionOf e k n) 0) 0 n) (recordOf (positionOf e k n) (getD es (slotAt (positionOf e k n)) noRecord))

@@ -53,6 +53,6 @@ testOf Waiting k = model.isWaiting k
 testOf Open k = model.isOpen k
 testOf Settled k = model.isSettled k
 
--- the edit found at a place from 1; place 0 is none
+-- the edit found at a position from 1; position 0 is none
 abbrev pub recordOf : ℕ → EditRecord → EditRecord
 recordOf i e = cond (eqb i 0) noRecord e

@@ -48,7 +48,7 @@ pub fn fate_number(f: Fate) -> u32
     }
 }
 
-// The edit found at a place from 1.
+// The edit found at a position from 1.
 pub fn found(i: usize, e: EditRecord) -> EditRecord
     ensures { λ r. ⌜ r ≡ recordOf i e ⌝ }
 {

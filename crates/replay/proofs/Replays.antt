@@ -25,7 +25,7 @@ use Rattle.rules.proofs.Indexes.{tested-indexed}
 use Rattle.records.specs.declared.EditRecord.{EditRecord}
 use Rattle.heads.specs.declared.Head.{Head}
 use Rattle.state.specs.Spread.{Spread}
-use Rattle.heads.specs.Heads.{modeOf, sidesIn, keptIn, endIn, slotAt, namedAt, seatOf, unsetIn}
+use Rattle.heads.specs.Heads.{modeOf, sidesIn, keptIn, endIn, slotAt, namedAt, namedSlot, unsetIn}
 use Rattle.records.specs.Records.{keptAt, keptOf, noRecord, recordOf}
 use Rattle.state.specs.Spread.{planOf, rulesOf}
 use Rattle.state.specs.Spread.{namedIn}
@@ -40,7 +40,8 @@ use Rattle.replay.specs.Replays.{Decision, replayChecks, draftIn, effect
 -- what the test of the rules finds counts only where the plan is joining or closing: two tests that then find the same make the same decision
 decision-same : (test test′ : RuleTest) (p : Spread) (n : ℤ)
     → (let e = namedIn p (natural n) in let vs = draftIn (p .head) (p .draft) in let x = applied (viewChange (e .change)) (value vs (e .measure)) in
-    T (active (modeOf (p .head .mode))) → test (e .measure) (p .lower) (p .gap) (p .upper) (min (p .head .rules) 64) x vs ≡ test′ (e .measure) (p .lower) (p .gap) (p .upper) (min (p .head .rules) 64) x vs)
+    T (active (modeOf (p .head .mode))) → test (e .measure) (p .lower) (p .gap) (p .upper) (min (p .head .rules) 64) x vs ≡ test′ (e .measure) (p .lower) (p .gap) (p .upper)
+    (min (p .head .rules) 64) x vs)
     → replayBy test p n ≡ replayBy test′ p n
 unfolding replayOutcome draftOutcome effectiveIn
 decision-same test test′ p n h = cases (active (modeOf (p .head .mode)))
@@ -51,7 +52,8 @@ decision-same test test′ p n h = cases (active (modeOf (p .head .mode)))
     ap (λ y.
     let b = fits (e .measure) (viewChange (e .change)) vs && y in
     replayDecision
-    (settledBy (first (replayChecks (modeOf (p .head .mode)) (unsetIn (p .arrived) (sidesIn (p .head))) (keptAt 0 e) (keptAt 0 (namedIn p (e .earlier))))) (Settled b (cond (b && oneTo (min (p .head .drafted) 32) (e .measure)) (applied (viewChange (e .change)) (value vs (e .measure))) old)))
+    (settledBy (first (replayChecks (modeOf (p .head .mode)) (unsetIn (p .arrived) (sidesIn (p .head))) (keptAt 0 e) (keptAt 0 (namedIn p (e .earlier)))))
+    (Settled b (cond (b && oneTo (min (p .head .drafted) 32) (e .measure)) (applied (viewChange (e .change)) (value vs (e .measure))) old)))
     (standingIn p n) old (count isSettled (keptOf (p .head) (p .edits)) + 1))
     (h (is-yes t)))
     (λ t. rw t)
@@ -87,13 +89,15 @@ replay-decided sound p n {i = i} {slot = slot} {j = j} {seat = seat} {place = pl
     ∙ decision-same (testedBy sound index) (testedIn sound) p n (λ t. tested-indexed sound index _ (p .lower) (p .gap) (p .upper) (p .firm) _ _ _ (draft-length p) (indexed t))
 
 -- and its measure's place in the draft is the edit's
-pub point-decided : (p : Spread) (n : ℤ) {i slot point : ℕ} → i ≡ namedAt (p .head) n → slot ≡ slotAt i → point ≡ pointOf (recordOf i (getD (p .edits) slot noRecord) .measure) → point ≡ pointOf (namedIn p (natural n) .measure)
+pub point-decided : (p : Spread) (n : ℤ) {i slot point : ℕ} → i ≡ namedAt (p .head) n → slot ≡ slotAt i → point ≡ pointOf (recordOf i (getD (p .edits) slot noRecord) .measure)
+    → point ≡ pointOf (namedIn p (natural n) .measure)
 point-decided p n i-is slot-is point-is =
     let slot = slot-is ∙ ap slotAt i-is in point-is ∙ (λ x. pointOf (recordOf (i-is x) (getD (p .edits) (slot x) noRecord) .measure))
 
 -- where all rules held on the draft, it is enough to test those that name the measure
 pub replay-sound : (p : Spread) (n : ℤ) → (T (active (modeOf (p .head .mode))) → holds (rulesOf p) (draftIn (p .head) (p .draft)) ≡ true) → replayIn true p n ≡ replayIn false p n
-replay-sound p n h = decision-same (testedIn true) (testedIn false) p n (λ t. tested-sound (p .lower) (p .gap) (p .upper) (p .firm) (min (p .head .rules) 64) (namedIn p (natural n) .measure) _ _ (draft-length p) (h t))
+replay-sound p n h = decision-same (testedIn true) (testedIn false) p n
+    (λ t. tested-sound (p .lower) (p .gap) (p .upper) (p .firm) (min (p .head .rules) 64) (namedIn p (natural n) .measure) _ _ (draft-length p) (h t))
 
 module _ (p : Spread) (z : Sized p) (n : ℤ) where
   abbrev h : Head
@@ -159,7 +163,7 @@ module _ (p : Spread) (z : Sized p) (n : ℤ) where
       (λ u. rw u draft-kept)
 
   abbrev standing : EditRecord
-  standing = getD (p .edits) (seatOf h n) noRecord
+  standing = getD (p .edits) (namedSlot h n) noRecord
 
   abbrev place : ℕ
   place = count isSettled (keptOf h (p .edits)) + 1
@@ -169,35 +173,38 @@ module _ (p : Spread) (z : Sized p) (n : ℤ) where
   settled-as true j m r = refl
   settled-as false j m r = refl
 
-  kept-next : Pass Checks → keptOf h (set (p .edits) (seatOf h n) (settledRecord standing b place)) ≡ update (natural n) (settled b (nextPlace (keptOf h (p .edits)))) (keptOf h (p .edits))
+  kept-next : Pass Checks → keptOf h (set (p .edits) (namedSlot h n) (settledRecord standing b place)) ≡ update (natural n) (settled b (nextPlace (keptOf h (p .edits)))) (keptOf h (p .edits))
   kept-next f = by (placed (endIn h) (keptIn h) (natural n) (p .edits))
     where
-      by : Placed (endIn h) (keptIn h) (natural n) (p .edits) → keptOf h (set (p .edits) (seatOf h n) (settledRecord standing b place)) ≡ update (natural n) (settled b (nextPlace (keptOf h (p .edits)))) (keptOf h (p .edits))
+      by : Placed (endIn h) (keptIn h) (natural n) (p .edits) → keptOf h (set (p .edits) (namedSlot h n) (settledRecord standing b place)) ≡ update (natural n)
+          (settled b (nextPlace (keptOf h (p .edits)))) (keptOf h (p .edits))
       by (inl q) = absurd (rw (q .0) at (f .1 .1 .0))
       by (inr q) =
           let j = q .0 in
-          let at : seatOf h n ≡ j = ap slotAt (q .2) ∙ (let i = q .1 in omega arith) in
+          let at : namedSlot h n ≡ j = ap slotAt (q .2) ∙ (let i = q .1 in omega arith) in
           let l = z .edits in
           let i = q .1 in
           (λ t. keptOf h (set (p .edits) (at t) (settledRecord (getD (p .edits) (at t) noRecord) b (add-one (count isSettled (keptOf h (p .edits))) t))))
-          ∙ log-modify (endIn h) (keptIn h) j (p .edits) (settledRecord (getD (p .edits) j noRecord) b (nextPlace (keptOf h (p .edits)))) (settled b (nextPlace (keptOf h (p .edits)))) (q .1) (omega arith) (settled-as b (nextPlace (keptOf h (p .edits))) _ (getD (p .edits) j noRecord))
+          ∙ log-modify (endIn h) (keptIn h) j (p .edits) (settledRecord (getD (p .edits) j noRecord) b (nextPlace (keptOf h (p .edits)))) (settled b (nextPlace (keptOf h (p .edits)))) (q .1)
+          (omega arith) (settled-as b (nextPlace (keptOf h (p .edits))) _ (getD (p .edits) j noRecord))
           ∙ sym (q .5 (settled b (nextPlace (keptOf h (p .edits)))))
 
   abbrev decided : Verdict → Decision
   decided v = replayDecision (settledBy v (draftOutcome (testedIn false) h (p .lower) (p .gap) (p .upper) (p .draft) (e .measure) (e .change) old)) standing old place
 
   abbrev next : Verdict → Spread
-  next v = stored p (pointOf (e .measure)) (seatOf h n) (decided v)
+  next v = stored p (pointOf (e .measure)) (namedSlot h n) (decided v)
 
   given : (w : Bool) → _≡_ {A = List ℤ} (pos (cond w 3 4) ∷ []) (pos (model.fateNumber (outcome w)) ∷ [])
   given true = refl
   given false = refl
 
   -- by the verdict on the checks
-  by : (v : Verdict) → (Fine v → Pass Checks) → (answerOf (decided v .answer) ≡ stepBy v call (planOf p) .answer) × (planOf (next v) ≡ stepBy v call (planOf p) .plan) × SameIfRefused (decided v .answer) p (next v)
+  by : (v : Verdict) → (Fine v → Pass Checks) → (answerOf (decided v .answer) ≡ stepBy v call (planOf p) .answer) × (planOf (next v) ≡ stepBy v call (planOf p) .plan) × SameIfRefused
+      (decided v .answer) p (next v)
   unfolding gives after draftOutcome
   by (refused j) f =
-      let same : next (refused j) ≡ p = rw (set-getD (p .draft) (pointOf (e .measure)) (pos 0), set-getD (p .edits) (seatOf h n) noRecord) in
+      let same : next (refused j) ≡ p = rw (set-getD (p .draft) (pointOf (e .measure)) (pos 0), set-getD (p .edits) (namedSlot h n) noRecord) in
       (refl, ap planOf same, same)
   by fine f =
       let g = f tt in
@@ -210,6 +217,6 @@ module _ (p : Spread) (z : Sized p) (n : ℤ) where
         tt,
       )
 
-  pub replay-meets : MeetsSpread call p (record { state = stored p (pointOf (e .measure)) (seatOf h n) (replayIn false p n); answer = replayIn false p n .answer })
+  pub replay-meets : MeetsSpread call p (record { state = stored p (pointOf (e .measure)) (namedSlot h n) (replayIn false p n); answer = replayIn false p n .answer })
   unfolding step replayOutcome
   replay-meets = let r = by (first Checks) (passed Checks) in record { answer = rw checks-same (r .0); plan = rw checks-same (r .1); same = r .2 }

@@ -20,7 +20,7 @@ use Rattle.heads.specs.declared.Head.{Head}
 use Rattle.state.specs.Spread.{Spread}
 use Rattle.state.specs.declared.Answer.{Answer}
 use Rattle.state.specs.Meets.{refusal, number}
-use Rattle.heads.specs.Heads.{modeOf, sidesIn, endIn, keptIn, positionOf, slotAt, namedAt, seatOf, unsetIn}
+use Rattle.heads.specs.Heads.{modeOf, sidesIn, endIn, keptIn, positionOf, slotAt, namedAt, namedSlot, unsetIn}
 use Rattle.records.specs.Records.{keptAt, keptOf, noRecord, recordOf}
 use Rattle.replay.specs.declared.Outcome.{Outcome}
 use Rattle.replay.specs.declared.Outcome.the-variants.{Refused as Denied, Settled}
@@ -78,11 +78,11 @@ replayDecision (Settled b x) standing old place = record { amount = x; entry = s
 abbrev pub pointOf : ℕ → ℕ
 pointOf m = min (m - 1) lastMeasure
 
--- the place of the edit that one, seen at a place from 1, names as earlier
+-- the position of the edit that one, seen at a position from 1, names as earlier
 abbrev pub earlierAt : Head → ℕ → EditRecord → ℕ
 earlierAt h i standing = positionOf (endIn h) (keptIn h) (recordOf i standing .earlier)
 
--- the outcome by a test of the rules, from how many first logs are missing, and the edit and its earlier one, each seen at a place from 1; and the decision
+-- the outcome by a test of the rules, from how many first logs are missing, and the edit and its earlier one, each seen at a position from 1; and the decision
 abbrev pub outcomeFrom : RuleTest → Head → List ℕ → List ℤ → List ℕ → List ℤ → ℕ → ℕ → EditRecord → ℕ → EditRecord → Outcome
 outcomeFrom test h lower gap upper draft missing i standing j seen =
     let e = recordOf i standing in
@@ -94,7 +94,7 @@ replayFrom test h lower gap upper draft missing i standing j seen place =
 
 -- the record where the edit numbered n would stand in a state
 abbrev pub standingIn : Spread → ℤ → EditRecord
-standingIn p n = getD (p .edits) (seatOf (p .head) n) noRecord
+standingIn p n = getD (p .edits) (namedSlot (p .head) n) noRecord
 
 -- the decision in a state; and by the test that needs no index, where `sound` says that all rules held before
 abbrev pub replayBy : RuleTest → Spread → ℤ → Decision

@@ -36,7 +36,7 @@ fn point(m: u32) -> usize
     rows::capped(m - 1, limit::LAST_MEASURE)
 }
 
-// Where the measure of an edit, seen at a place from 1, stands in the draft.
+// Where the measure of an edit, seen at a position from 1, stands in the draft.
 pub fn point_of(i: usize, standing: EditRecord) -> usize
     ensures { λ r. ⌜ (r ≡ pointOf (recordOf i standing .measure)) × (r < 32) ⌝ }
 {
@@ -44,7 +44,7 @@ pub fn point_of(i: usize, standing: EditRecord) -> usize
     point(e.measure as u32)
 }
 
-// The place, from 1, of the edit that it names as earlier.
+// The position, from 1, of the edit that it names as earlier.
 pub fn earlier(h: Head, i: usize, standing: EditRecord) -> usize
     ensures { λ r. ⌜ (r ≡ earlierAt h i standing) × (r ≤ 256) ⌝ }
 {
@@ -54,7 +54,7 @@ pub fn earlier(h: Head, i: usize, standing: EditRecord) -> usize
 
 // ---- what it decides
 
-// Whether an edit, seen at a place from 1, is waiting.
+// Whether an edit, seen at a position from 1, is waiting.
 fn is_waiting(i: usize, e: EditRecord) -> bool
     ensures { λ t. ⌜ t ≡ isWaiting (keptAt 0 (recordOf i e)) ⌝ }
 {
@@ -105,7 +105,7 @@ fn try_draft<'a>(
     Outcome::Settled(false, old)
 }
 
-// What a replay decides, from how many first logs are missing, and the edit and the one that it names as earlier, each seen at a place from 1:
+// What a replay decides, from how many first logs are missing, and the edit and the one that it names as earlier, each seen at a position from 1:
 // the checks 31, 34, 35, 36, and the trial.
 pub fn decide_replay<'a>(
     h: Head,

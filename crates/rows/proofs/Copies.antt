@@ -14,7 +14,8 @@ use Rattle.rows.specs.Rows.{row, copied, copiedIn}
 use Rattle.rows.proofs.Spans.{span-same, span-moved, getD-set, getD-other}
 
 -- one value more, at places that need not be written as sums
-pub copied-next : (into values next : List ℤ) (from to i j k : ℕ) (v : ℤ) → next ≡ copied into values from to i → j ≡ from + i → k ≡ to + i → v ≡ getD values j (pos 0) → set next k v ≡ copied into values from to (i + 1)
+pub copied-next : (into values next : List ℤ) (from to i j k : ℕ) (v : ℤ) → next ≡ copied into values from to i → j ≡ from + i → k ≡ to + i → v ≡ getD values j (pos 0)
+    → set next k v ≡ copied into values from to (i + 1)
 unfolding copied
 copied-next into values next from to i j k v e f g h = rw (add-one i, h, f, g, e)
 
@@ -66,4 +67,5 @@ part-of n x = omega arith
 -- n values copied out into a row of n, and in again
 pub copied-through : (values room : List ℤ) (from to n : ℕ) → length room ≡ n → from + n ≤ length values → copiedIn values (copiedIn room values from 0 n) 0 to n ≡ copiedIn values values from to n
 copied-through values room from to n e h =
-    rw (out-all n (length room) (length values) from e h, in-all n (length values - to) _ (length values) from (length-copied room values from 0 n ∙ e) h) (through values room from to n _ (part-of n _) (omega arith))
+    rw (out-all n (length room) (length values) from e h, in-all n (length values - to) _ (length values) from (length-copied room values from 0 n ∙ e) h)
+    (through values room from to n _ (part-of n _) (omega arith))

@@ -107,7 +107,8 @@ module _ (m : ℕ) (x : ℤ) (vs : List ℤ) (l : length vs ≤ 32) where
   side-is : (a b : ℕ) (g : ℤ) → namesPair a b m ≡ true → sideHolds (value vs) own (otherOf m a b) g ≡ pairHolds (value (withValue m x vs)) a g b
   unfolding pairHolds
   side-is a b g h = cases (eqb a m)
-      (λ t. ap (λ c. sideHolds (value vs) own (cond c (pos (placeOf m b)) (negsuc (placeOf m a))) g) t ∙ ap₂ (λ u v. ltZ (u +ℤ g) v) (ap (value (withValue m x vs)) (sym (eqb-true a m t))) (other-is b))
+      (λ t. ap (λ c. sideHolds (value vs) own (cond c (pos (placeOf m b)) (negsuc (placeOf m a))) g) t ∙ ap₂ (λ u v. ltZ (u +ℤ g) v) (ap (value (withValue m x vs)) (sym (eqb-true a m t)))
+      (other-is b))
       (λ t. ap (λ c. sideHolds (value vs) own (cond c (pos (placeOf m b)) (negsuc (placeOf m a))) g) t
       ∙ ap₂ (λ u v. ltZ (u +ℤ g) v) (other-is a) (ap (value (withValue m x vs)) (sym (eqb-true b m (sym (names-upper a b m (eqb-false a m t)) ∙ h)))))
 
@@ -119,25 +120,30 @@ listed-is m q = rw (le-leb m 32 q)
 module _ (lower : List ℕ) (gap : List ℤ) (upper : List ℕ) (n : ℕ) where
   -- the namings of a measure, tested
   namings-hold : (m : ℕ) (x : ℤ) (vs : List ℤ) → length vs ≤ 32
-      → all (namingHolds (value vs) (value (withValue m x vs) m)) (namingsOf lower gap upper n m) ≡ all (λ i. not (dueAt lower upper m i) || holdsAt lower gap upper (value (withValue m x vs)) i) (span 0 n (λ i. i))
+      → all (namingHolds (value vs) (value (withValue m x vs) m)) (namingsOf lower gap upper n m) ≡ all (λ i. not (dueAt lower upper m i) || holdsAt lower gap upper (value (withValue m x vs)) i)
+      (span 0 n (λ i. i))
   unfolding namingsOf
   namings-hold m x vs l =
       all-of-map (namingOf lower gap upper m) (namingHolds (value vs) (value (withValue m x vs) m)) (passing (dueAt lower upper m) (span 0 n (λ i. i)))
       ∙ all-passing (dueAt lower upper m) (λ i. namingHolds (value vs) (value (withValue m x vs) m) (namingOf lower gap upper m i)) (span 0 n (λ i. i))
       ∙ all-span _ _ 0 n (λ i. i) (λ i. i) each
     where
-      each : (i : ℕ) → (not (dueAt lower upper m i) || namingHolds (value vs) (value (withValue m x vs) m) (namingOf lower gap upper m i)) ≡ (not (dueAt lower upper m i) || holdsAt lower gap upper (value (withValue m x vs)) i)
+      each : (i : ℕ) → (not (dueAt lower upper m i) || namingHolds (value vs) (value (withValue m x vs) m) (namingOf lower gap upper m i)) ≡ (not (dueAt lower upper m i) || holdsAt lower gap upper
+          (value (withValue m x vs)) i)
       each i = cases (oneTo 32 m)
           (λ t. cases (namesAt lower upper m i)
-          (λ u. ap₂ (λ b c. not b || c) (ap₂ (λ b c. b && c) t u) (side-is m x vs l (getD lower i 0) (getD upper i 0) (getD gap i (pos 0)) u) ∙ sym (ap (λ b. not b || holdsAt lower gap upper (value (withValue m x vs)) i) (ap₂ (λ b c. b && c) t u)))
+          (λ u. ap₂ (λ b c. not b || c) (ap₂ (λ b c. b && c) t u) (side-is m x vs l (getD lower i 0) (getD upper i 0) (getD gap i (pos 0)) u)
+          ∙ sym (ap (λ b. not b || holdsAt lower gap upper (value (withValue m x vs)) i) (ap₂ (λ b c. b && c) t u)))
           (λ u. rw (t, u)))
           (λ t. rw t)
 
   -- with the rules' own index those that need a test are tested, and no others
-  indexed-is : (index : List ℤ) (firm : List Bool) (m : ℕ) (x : ℤ) (vs : List ℤ) → length vs ≤ 32 → Indexed index lower gap upper firm n → indexedIn index m x vs ≡ testedIn true m lower gap upper n x vs
+  indexed-is : (index : List ℤ) (firm : List Bool) (m : ℕ) (x : ℤ) (vs : List ℤ) → length vs ≤ 32 → Indexed index lower gap upper firm n → indexedIn index m x vs ≡ testedIn true m lower gap upper n
+      x vs
   unfolding indexedIn testedIn namingsOf
   indexed-is index firm m x vs l w = cases (leb m 32)
-      (λ t. let q = leb-true m 32 t in ap (λ k. all (namingHolds (value vs) (value (withValue m x vs) m)) (namingsIn index k)) (listed-is m q) ∙ ap (all (namingHolds (value vs) (value (withValue m x vs) m))) (w .named m q) ∙ namings-hold m x vs l)
+      (λ t. let q = leb-true m 32 t in ap (λ k. all (namingHolds (value vs) (value (withValue m x vs) m)) (namingsIn index k)) (listed-is m q)
+      ∙ ap (all (namingHolds (value vs) (value (withValue m x vs) m))) (w .named m q) ∙ namings-hold m x vs l)
       (λ t. rw (t, and-false (ltb 0 m)) (ap (all (namingHolds (value vs) (value (withValue m x vs) m))) (w .named 0 (omega arith) ∙ none) ∙ sym (all-yes (span 0 n (λ i. i)))))
     where
       none : namingsOf lower gap upper n 0 ≡ []
@@ -164,7 +170,8 @@ firm-indexed false index lower gap upper firm n m p q w = refl
 
 -- from the first to the place at hand all held
 module _ (index : List ℤ) (m : ℕ) (x : ℤ) (vs : List ℤ) (last : ℕ) where
-  pub reading-begin : (p first : ℕ) → p ≡ listedAs m → last ≡ lastAt index p → first ≡ firstAt index p → indexedIn index m x vs ≡ all (namingHolds (value vs) (value (withValue m x vs) m)) (span first (last - first) (namingAt index))
+  pub reading-begin : (p first : ℕ) → p ≡ listedAs m → last ≡ lastAt index p → first ≡ firstAt index p → indexedIn index m x vs ≡ all (namingHolds (value vs) (value (withValue m x vs) m))
+      (span first (last - first) (namingAt index))
   unfolding indexedIn namingsIn
   reading-begin p first p-is last-is first-is =
       let a = first-is ∙ ap (firstAt index) p-is in
@@ -172,11 +179,15 @@ module _ (index : List ℤ) (m : ℕ) (x : ℤ) (vs : List ℤ) (last : ℕ) whe
       sym (λ j. all (namingHolds (value vs) (value (withValue m x vs) m)) (span (a j) (b j - a j) (namingAt index)))
 
   module _ (k : ℕ) (w : indexedIn index m x vs ≡ all (namingHolds (value vs) (value (withValue m x vs) m)) (span k (last - k) (namingAt index))) where
-    pub reading-next : k < last → namingHolds (value vs) (value (withValue m x vs) m) (namingAt index k) ≡ true → indexedIn index m x vs ≡ all (namingHolds (value vs) (value (withValue m x vs) m)) (span (k + 1) (last - (k + 1)) (namingAt index))
-    reading-next h e = w ∙ ap (all (namingHolds (value vs) (value (withValue m x vs) m))) (span-next k last (namingAt index) h) ∙ ap (λ b. b && all (namingHolds (value vs) (value (withValue m x vs) m)) (span (k + 1) (last - (k + 1)) (namingAt index))) e
+    pub reading-next : k < last → namingHolds (value vs) (value (withValue m x vs) m) (namingAt index k) ≡ true → indexedIn index m x vs ≡ all (namingHolds (value vs) (value (withValue m x vs) m))
+        (span (k + 1) (last - (k + 1)) (namingAt index))
+    reading-next h e = w ∙ ap (all (namingHolds (value vs) (value (withValue m x vs) m))) (span-next k last (namingAt index) h)
+        ∙ ap (λ b. b && all (namingHolds (value vs) (value (withValue m x vs) m)) (span (k + 1) (last - (k + 1)) (namingAt index))) e
 
     pub reading-stop : k < last → namingHolds (value vs) (value (withValue m x vs) m) (namingAt index k) ≡ false → false ≡ indexedIn index m x vs
-    reading-stop h e = sym (w ∙ ap (all (namingHolds (value vs) (value (withValue m x vs) m))) (span-next k last (namingAt index) h) ∙ ap (λ b. b && all (namingHolds (value vs) (value (withValue m x vs) m)) (span (k + 1) (last - (k + 1)) (namingAt index))) e)
+    reading-stop h e = sym
+        (w ∙ ap (all (namingHolds (value vs) (value (withValue m x vs) m))) (span-next k last (namingAt index) h)
+        ∙ ap (λ b. b && all (namingHolds (value vs) (value (withValue m x vs) m)) (span (k + 1) (last - (k + 1)) (namingAt index))) e)
 
     pub reading-over : last ≤ k → true ≡ indexedIn index m x vs
     reading-over h = sym (w ∙ ap (all (namingHolds (value vs) (value (withValue m x vs) m))) (span-over k last (namingAt index) h))

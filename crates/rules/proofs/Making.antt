@@ -44,7 +44,8 @@ module _ (index : List ℤ) (n : ℕ) (i o g : ℤ) where
   naming-own h l =
       let f = length-set index (128 + 3 * n) i in
       let s = length-set first (129 + 3 * n) o in
-      let a = getD-other second (130 + 3 * n) (128 + 3 * n) g (pos 0) (λ e. omega arith) ∙ getD-other first (129 + 3 * n) (128 + 3 * n) o (pos 0) (λ e. omega arith) ∙ getD-set index (128 + 3 * n) i (pos 0) (omega arith) in
+      let a = getD-other second (130 + 3 * n) (128 + 3 * n) g (pos 0) (λ e. omega arith) ∙ getD-other first (129 + 3 * n) (128 + 3 * n) o (pos 0) (λ e. omega arith) ∙ getD-set index (128 + 3 * n) i
+      (pos 0) (omega arith) in
       let b = getD-other second (130 + 3 * n) (129 + 3 * n) g (pos 0) (λ e. omega arith) ∙ getD-set first (129 + 3 * n) o (pos 0) (omega arith) in
       let c = getD-set second (130 + 3 * n) g (pos 0) (omega arith) in
       λ j. record { rule = a j; other = b j; gap = c j }
@@ -114,14 +115,16 @@ module _ (lower : List ℕ) (gap : List ℤ) (upper : List ℕ) (end m n : ℕ) 
         let x : next - n + 1 ≡ next + 1 - n = omega arith in
         let y : next + 1 - n ≡ suc (next - n) = omega arith in
         let u : n + (next - n) ≡ next = omega arith in
-        let own : namingAt (withNaming index next z o g) next ≡ namingOf lower gap upper m i = naming-own index next z o g r (w .long) ∙ (λ j. record { rule = z-is j; other = o-is j; gap = g-is j }) in
+        let own : namingAt (withNaming index next z o g) next ≡ namingOf lower gap upper m i = naming-own index next z o g r (w .long) ∙ (λ j. record { rule = z-is j; other = o-is j; gap = g-is j })
+        in
         record {
           long = simp length-set (w .long);
           since = omega arith;
           counted = subst (Counted (namesAt lower upper m) (λ i. i) end (i + 1)) x (more true h e);
           namings = ap (λ k. span n k (namingAt (withNaming index next z o g))) y
               ∙ span-snoc n (next - n) (namingAt (withNaming index next z o g))
-              ∙ ap₂ {C = List Naming} snoc (span-same n (next - n) (namingAt (withNaming index next z o g)) (namingAt index) (λ k p q. naming-other index next z o g k (omega arith)) ∙ w .namings) (ap (namingAt (withNaming index next z o g)) u ∙ own)
+              ∙ ap₂ {C = List Naming} snoc (span-same n (next - n) (namingAt (withNaming index next z o g)) (namingAt index) (λ k p q. naming-other index next z o g k (omega arith)) ∙ w .namings)
+              (ap (namingAt (withNaming index next z o g)) u ∙ own)
               ∙ sym (map-snoc (namingOf lower gap upper m) (passing (namesAt lower upper m) (span 0 i (λ i. i))) i)
               ∙ ap (map (namingOf lower gap upper m)) (sym (ap (passing (namesAt lower upper m)) upto ∙ passing-yes (namesAt lower upper m) (span 0 i (λ i. i)) i e));
           others = λ j k. naming-apart index next z o g j (omega arith) ∙ w .others j k;
@@ -260,7 +263,8 @@ module _ (lower : List ℕ) (gap : List ℤ) (upper : List ℕ) (firm : List Boo
           let y = apart (j + 1) (omega arith) (λ e. omega arith) (λ e. omega arith) in
           record {
             ends = rw y (let e = d .ends in let c = a .counted in omega arith);
-            named = (λ i. span (natural (x i)) (min (natural (y i)) 128 - natural (x i)) (namingAt last)) ∙ span-same (firstAt index j) (lastAt index j - firstAt index j) (namingAt last) (namingAt index) (λ i p q. as-before i (let e = d .ends in omega arith)) ∙ d .named;
+            named = (λ i. span (natural (x i)) (min (natural (y i)) 128 - natural (x i)) (namingAt last)) ∙ span-same (firstAt index j) (lastAt index j - firstAt index j) (namingAt last)
+                (namingAt index) (λ i p q. as-before i (let e = d .ends in omega arith)) ∙ d .named;
             firmly = λ p. ap (λ z. eqb (natural z) 1) (apart (64 + j) (omega arith) (λ e. omega arith) (λ e. omega arith)) ∙ d .firmly p;
           }
 
@@ -277,7 +281,9 @@ module _ (lower : List ℕ) (gap : List ℤ) (upper : List ℕ) (firm : List Boo
                 ∙ ap (λ k. span n (k - n) (namingAt last)) c
                 ∙ span-same n (next - n) (namingAt last) (namingAt after) (λ k p q. as-after k)
                 ∙ a .namings
-                ∙ ap (map (namingOf lower gap upper m)) (passing-same (namesAt lower upper m) (dueAt lower upper m) (span 0 end (λ i. i)) (λ i. sym (ap (λ b. b && namesAt lower upper m i) (yes-is (oneTo 32 m) (in-range 32 m (w .least) (omega arith))))));
+                ∙ ap (map (namingOf lower gap upper m))
+                (passing-same (namesAt lower upper m) (dueAt lower upper m) (span 0 end (λ i. i))
+                (λ i. sym (ap (λ b. b && namesAt lower upper m i) (yes-is (oneTo 32 m) (in-range 32 m (w .least) (omega arith))))));
             firmly = λ p. ap (λ z. eqb (natural z) 1) (getD-set ended (64 + m) (pos (bit f)) (pos 0) (omega (arith, a .long))) ∙ flag f ∙ f-is;
           }
         where
@@ -291,8 +297,10 @@ module _ (lower : List ℕ) (gap : List ℤ) (upper : List ℕ) (firm : List Boo
         least = omega arith;
         most = omega arith;
         begins = end-is;
-        counted = (let x = named-next lower upper end m (w .least) in let e : m + 1 - 1 ≡ m = omega arith in let y = ap (namedTo lower upper end) e in let z = w .counted in let v = a .counted in omega arith);
-        done = λ j k. cases (ltb j m) (λ t. still j (ltb-true j m t) (w .done j (ltb-true j m t))) (λ t. let e : m ≡ j = (let u = ltb-false j m t in omega arith) in subst (Done lower gap upper firm end last next) e here);
+        counted = (let x = named-next lower upper end m (w .least) in let e : m + 1 - 1 ≡ m = omega arith in let y = ap (namedTo lower upper end) e in let z = w .counted in let v = a .counted in
+            omega arith);
+        done = λ j k. cases (ltb j m) (λ t. still j (ltb-true j m t) (w .done j (ltb-true j m t)))
+            (λ t. let e : m ≡ j = (let u = ltb-false j m t in omega arith) in subst (Done lower gap upper firm end last next) e here);
       }
 
 -- ---- a measure above all that the rules name
@@ -322,7 +330,8 @@ module _ (lower upper : List ℕ) (end top m : ℕ) (h : NoneAbove lower upper e
       walked i (suc n) f = rw (f i (omega arith) (omega arith), and-false (getD firm i false)) (walked (suc i) n (λ j a b. f j (omega arith) (omega arith)))
 
 -- one rule more, and a number that its measures and those before it are not above
-pub none-above-next : (lower upper : List ℕ) (i top a b r s : ℕ) → NoneAbove lower upper i top → a ≡ getD lower i 0 → b ≡ getD upper i 0 → (a ≤ r) × (b ≤ r) → (top ≤ s) × (r ≤ s) → NoneAbove lower upper (i + 1) s
+pub none-above-next : (lower upper : List ℕ) (i top a b r s : ℕ) → NoneAbove lower upper i top → a ≡ getD lower i 0 → b ≡ getD upper i 0 → (a ≤ r) × (b ≤ r) → (top ≤ s) × (r ≤ s)
+    → NoneAbove lower upper (i + 1) s
 none-above-next lower upper i top a b r s h e f x y j l = cases (ltb j i)
     (λ t. let k = h j (ltb-true j i t) in (omega (arith, k .0, y .0), omega (arith, k .1, y .0)))
     (λ t.

@@ -83,16 +83,20 @@ module _ (table : List ℤ) (i : ℕ) (a c b f : ℤ) (h : i < 64) (l : length t
   others n x y z u = getD-other w3 (4 * i + 3) n f (pos 0) u ∙ getD-other w2 (4 * i + 2) n b (pos 0) z ∙ getD-other w1 (4 * i + 1) n c (pos 0) y ∙ getD-other table (4 * i) n a (pos 0) x
 
   first : getD w (4 * i) (pos 0) ≡ a
-  first = getD-other w3 (4 * i + 3) (4 * i) f (pos 0) (λ e. omega arith) ∙ getD-other w2 (4 * i + 2) (4 * i) b (pos 0) (λ e. omega arith) ∙ getD-other w1 (4 * i + 1) (4 * i) c (pos 0) (λ e. omega arith) ∙ getD-set table (4 * i) a (pos 0) (omega arith)
+  first = getD-other w3 (4 * i + 3) (4 * i) f (pos 0) (λ e. omega arith) ∙ getD-other w2 (4 * i + 2) (4 * i) b (pos 0) (λ e. omega arith) ∙ getD-other w1 (4 * i + 1) (4 * i) c (pos 0)
+      (λ e. omega arith) ∙ getD-set table (4 * i) a (pos 0) (omega arith)
 
   second : getD w (4 * i + 1) (pos 0) ≡ c
-  second = getD-other w3 (4 * i + 3) (4 * i + 1) f (pos 0) (λ e. omega arith) ∙ getD-other w2 (4 * i + 2) (4 * i + 1) b (pos 0) (λ e. omega arith) ∙ getD-set w1 (4 * i + 1) c (pos 0) (let s = length-set table (4 * i) a in omega arith)
+  second = getD-other w3 (4 * i + 3) (4 * i + 1) f (pos 0) (λ e. omega arith) ∙ getD-other w2 (4 * i + 2) (4 * i + 1) b (pos 0) (λ e. omega arith) ∙ getD-set w1 (4 * i + 1) c (pos 0)
+      (let s = length-set table (4 * i) a in omega arith)
 
   third : getD w (4 * i + 2) (pos 0) ≡ b
-  third = getD-other w3 (4 * i + 3) (4 * i + 2) f (pos 0) (λ e. omega arith) ∙ getD-set w2 (4 * i + 2) b (pos 0) (let s = length-set table (4 * i) a in let t = length-set (set table (4 * i) a) (4 * i + 1) c in omega arith)
+  third = getD-other w3 (4 * i + 3) (4 * i + 2) f (pos 0) (λ e. omega arith) ∙ getD-set w2 (4 * i + 2) b (pos 0)
+      (let s = length-set table (4 * i) a in let t = length-set (set table (4 * i) a) (4 * i + 1) c in omega arith)
 
   fourth : getD w (4 * i + 3) (pos 0) ≡ f
-  fourth = getD-set w3 (4 * i + 3) f (pos 0) (let s = length-set table (4 * i) a in let t = length-set (set table (4 * i) a) (4 * i + 1) c in let u = length-set (set (set table (4 * i) a) (4 * i + 1) c) (4 * i + 2) b in omega arith)
+  fourth = getD-set w3 (4 * i + 3) f (pos 0)
+      (let s = length-set table (4 * i) a in let t = length-set (set table (4 * i) a) (4 * i + 1) c in let u = length-set (set (set table (4 * i) a) (4 * i + 1) c) (4 * i + 2) b in omega arith)
 
   pub rule-lower : lowers w ≡ set (lowers table) i (natural a)
   unfolding lowers
@@ -108,4 +112,5 @@ module _ (table : List ℤ) (i : ℕ) (a c b f : ℤ) (h : i < 64) (l : length t
 
   pub rule-firm : firms w ≡ set (firms table) i (eqb (natural f) 1)
   unfolding firms
-  rule-firm = set-span 64 i _ _ (eqb (natural f) 1) h (ap (λ x. eqb (natural x) 1) fourth) (λ k ne. ap (λ x. eqb (natural x) 1) (others (4 * k + 3) (λ e. omega arith) (λ e. omega arith) (λ e. omega arith) (λ e. ne (omega arith))))
+  rule-firm = set-span 64 i _ _ (eqb (natural f) 1) h (ap (λ x. eqb (natural x) 1) fourth)
+      (λ k ne. ap (λ x. eqb (natural x) 1) (others (4 * k + 3) (λ e. omega arith) (λ e. omega arith) (λ e. omega arith) (λ e. ne (omega arith))))

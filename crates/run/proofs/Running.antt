@@ -44,7 +44,8 @@ module _ (reserve : ℕ) (sheet : List ℕ) (from : ℕ) (lent : List ℕ) (star
   ends : (q : State) (next : ℕ) (e : Bool) → ran reserve (length lent - at) (view p) (lines (drop i sheet)) ≡ record { bytes = []; rest = lines (drop next sheet); plan = view q; ended = e }
       → Advanced reserve sheet from start lent (view q) next at e area
   ends q next e h =
-      let c : ran reserve (length lent) start (lines (drop from sheet)) ≡ behindRan (take at area) (record { bytes = []; rest = lines (drop next sheet); plan = view q; ended = e }) = g .course ∙ ap (behindRan (take at area)) h in
+      let c : ran reserve (length lent) start (lines (drop from sheet)) ≡ behindRan (take at area) (record { bytes = []; rest = lines (drop next sheet); plan = view q; ended = e }) = g .course
+      ∙ ap (behindRan (take at area)) h in
       let front : ran reserve (length lent) start (lines (drop from sheet)) .bytes ≡ take at area = ap (λ r. r .bytes) c ∙ append-nil (take at area) in
       let n : length (take at area) ≡ at = (let l = length-take at area in let s = g .same in let m = g .most in omega arith) in
       record {
@@ -74,11 +75,13 @@ module _ (reserve : ℕ) (sheet : List ℕ) (from : ℕ) (lent : List ℕ) (star
   paused h r = ends p i false (rw (cut h) (rw (lt-ltb (length lent - at) reserve r)))
 
   -- a line made: the plan after it and its answer's bytes are the definition's
-  module _ (h : i < length sheet) (r : reserve ≤ length lent - at) (q : State) (t′ : List ℕ) (bytes : List ℕ) (b : bytes ≡ text (lineStep line (view p) .answer)) (v : view q ≡ lineStep line (view p) .plan) where
+  module _ (h : i < length sheet) (r : reserve ≤ length lent - at) (q : State) (t′ : List ℕ) (bytes : List ℕ) (b : bytes ≡ text (lineStep line (view p) .answer))
+      (v : view q ≡ lineStep line (view p) .plan) where
     room : length (drop at area) ≡ length lent - at
     room = length-drop at area ∙ ap (λ n. n - at) (g .same)
 
-    goes-on : leb (length bytes) (length lent - at) ≡ true → ran reserve (length lent - at) (view p) (lines (drop i sheet)) ≡ behindRan bytes (ran reserve (length lent - at - length bytes) (view q) (lines (drop (end + 1) sheet)))
+    goes-on : leb (length bytes) (length lent - at) ≡ true → ran reserve (length lent - at) (view p) (lines (drop i sheet)) ≡ behindRan bytes
+        (ran reserve (length lent - at - length bytes) (view q) (lines (drop (end + 1) sheet)))
     unfolding ran
     goes-on f = rw (cut h) (rw (le-ltb (length lent - at) reserve r, ← b, f, ← v))
 
@@ -94,8 +97,10 @@ module _ (reserve : ℕ) (sheet : List ℕ) (from : ℕ) (lent : List ℕ) (star
         let w = leb-true (length bytes) (length (drop at area)) f in
         let n : length (take at area) ≡ at = (let x = length-take at area in let s = g .same in let m = g .most in omega arith) in
         let whole : length (take at area ++ inFront bytes (drop at area)) ≡ length lent =
-        (let x = length-append (take at area) (inFront bytes (drop at area)) in let y = length-append bytes (drop (length bytes) (drop at area)) in let d = length-drop (length bytes) (drop at area) in let s = room in let m = g .most in omega arith) in
-        let two : take at area ++ inFront bytes (drop at area) ≡ (take at area ++ bytes) ++ drop (length bytes) (drop at area) = sym (append-assoc (take at area) bytes (drop (length bytes) (drop at area))) in
+        (let x = length-append (take at area) (inFront bytes (drop at area)) in let y = length-append bytes (drop (length bytes) (drop at area)) in let d = length-drop (length bytes)
+        (drop at area) in let s = room in let m = g .most in omega arith) in
+        let two : take at area ++ inFront bytes (drop at area) ≡ (take at area ++ bytes) ++ drop (length bytes) (drop at area) = sym
+        (append-assoc (take at area) bytes (drop (length bytes) (drop at area))) in
         let long : length (take at area ++ bytes) ≡ at + length bytes = length-append (take at area) bytes ∙ ap (λ j. j + length bytes) n in
         let e : length lent - at - length bytes ≡ length lent - (at + length bytes) = omega arith in
         record {
@@ -104,24 +109,28 @@ module _ (reserve : ℕ) (sheet : List ℕ) (from : ℕ) (lent : List ℕ) (star
           tallied = k;
           same = whole;
           most = (let s = room in let m = g .most in omega arith);
-          rest = ap (drop (at + length bytes)) two ∙ drop-at (take at area ++ bytes) (drop (length bytes) (drop at area)) (at + length bytes) long ∙ ap (drop (length bytes)) (g .rest) ∙ drop-drop (length bytes) at lent;
+          rest = ap (drop (at + length bytes)) two ∙ drop-at (take at area ++ bytes) (drop (length bytes) (drop at area)) (at + length bytes) long ∙ ap (drop (length bytes)) (g .rest)
+              ∙ drop-drop (length bytes) at lent;
           course = g .course
               ∙ ap (behindRan (take at area)) (goes-on (ap (leb (length bytes)) (sym room) ∙ f) ∙ ap (λ j. behindRan bytes (ran reserve j (view q) (lines (drop (end + 1) sheet)))) e)
               ∙ behind-two (take at area) bytes (ran reserve (length lent - (at + length bytes)) (view q) (lines (drop (end + 1) sheet)))
-              ∙ ap (λ xs. behindRan xs (ran reserve (length lent - (at + length bytes)) (view q) (lines (drop (end + 1) sheet)))) (sym (ap (take (at + length bytes)) two ∙ take-at (take at area ++ bytes) (drop (length bytes) (drop at area)) (at + length bytes) long));
+              ∙ ap (λ xs. behindRan xs (ran reserve (length lent - (at + length bytes)) (view q) (lines (drop (end + 1) sheet))))
+              (sym (ap (take (at + length bytes)) two ∙ take-at (take at area ++ bytes) (drop (length bytes) (drop at area)) (at + length bytes) long));
         }
 
 -- ---- the loop's invariant
 
 -- The run is over, as an answer did not fit, or goes on; `stop` says whether there is another line. Where the rules are known to hold, the index is theirs.
-pub record Course (sound : Bool) (reserve : ℕ) (sheet : List ℕ) (from : ℕ) (lent : List ℕ) (start : Plan) (area : List ℕ) (p : State) (t : List ℕ) (index : List ℤ) (at i : ℕ) (ended : Bool) (stop : ℕ) : Type 0 where
+pub record Course (sound : Bool) (reserve : ℕ) (sheet : List ℕ) (from : ℕ) (lent : List ℕ) (start : Plan) (area : List ℕ) (p : State) (t : List ℕ) (index : List ℤ) (at i : ℕ) (ended : Bool)
+    (stop : ℕ) : Type 0 where
   pub indexed : sound ≡ true → IndexedIn (spread p) index
   pub same : length area ≡ length lent
   pub last : stop ≡ lastOf (length sheet) ended (length area - at) reserve
   pub over : ended ≡ true → Advanced reserve sheet from start lent (view p) i at true area
   pub under : ended ≡ false → SoundIn sound (spread p) × Going reserve sheet from lent start area p t at i
 
-module _ {sound : Bool} {reserve : ℕ} {sheet : List ℕ} {from : ℕ} {lent : List ℕ} {start : Plan} {area : List ℕ} {p : State} {t : List ℕ} {index : List ℤ} {at i : ℕ} {ended : Bool} {stop : ℕ} (k : Course sound reserve sheet from lent start area p t index at i ended stop) where
+module _ {sound : Bool} {reserve : ℕ} {sheet : List ℕ} {from : ℕ} {lent : List ℕ} {start : Plan} {area : List ℕ} {p : State} {t : List ℕ} {index : List ℤ} {at i : ℕ} {ended : Bool} {stop : ℕ}
+    (k : Course sound reserve sheet from lent start area p t index at i ended stop) where
   -- a line is begun
   pub inside : i < stop → (ended ≡ false) × (i < length sheet) × (reserve ≤ length area - at)
   inside h =
@@ -134,13 +143,24 @@ module _ {sound : Bool} {reserve : ℕ} {sheet : List ℕ} {from : ℕ} {lent : 
   finished h =
       cases ended (λ e. rw e (k .over e))
       (λ e. let g = k .under e .1 in cases (ltb (length area - at) reserve)
-      (λ f. rw e (cases (ltb i (length sheet)) (λ l. paused _ _ _ _ _ _ _ _ _ _ g (ltb-true _ _ l) (let b = ltb-true (length area - at) reserve f in let q = g .same in omega (arith, b, q))) (λ l. over _ _ _ _ _ _ _ _ _ _ g (ltb-false _ _ l))))
+      (λ f. rw e (cases (ltb i (length sheet)) (λ l. paused _ _ _ _ _ _ _ _ _ _ g (ltb-true _ _ l) (let b = ltb-true (length area - at) reserve f in let q = g .same in omega (arith, b, q)))
+      (λ l. over _ _ _ _ _ _ _ _ _ _ g (ltb-false _ _ l))))
       (λ f. rw e (over _ _ _ _ _ _ _ _ _ _ g (let z : stop ≡ length sheet = k .last ∙ rw (e, f) in omega (arith, z, h)))))
 
 -- ---- the beginning
 
-pub begins : (reserve : ℕ) (sheet : List ℕ) (from : ℕ) (lent : List ℕ) (p : State) (t : List ℕ) → Sized (spread p) → length (p .table) ≡ 256 → Tallied t (view p) → Going reserve sheet from lent (view p) lent p t 0 from
-begins reserve sheet from lent p t z b k = record { sized = z; long = b; tallied = k; same = refl; most = omega arith; rest = refl; course = (let e : length lent ≡ length lent - 0 = omega arith in ap (λ n. ran reserve n (view p) (lines (drop from sheet))) e) }
+pub begins : (reserve : ℕ) (sheet : List ℕ) (from : ℕ) (lent : List ℕ) (p : State) (t : List ℕ) → Sized (spread p) → length (p .table) ≡ 256 → Tallied t (view p) → Going reserve sheet from lent
+    (view p) lent p t 0 from
+begins reserve sheet from lent p t z b k = record {
+  sized = z;
+  long = b;
+  tallied = k;
+  same = refl;
+  most = omega arith;
+  rest = refl;
+  course =
+      (let e : length lent ≡ length lent - 0 = omega arith in ap (λ n. ran reserve n (view p) (lines (drop from sheet))) e);
+}
 
 -- ---- an area of which the rest was lent
 

@@ -73,11 +73,11 @@ fn go(
         let line = reader::read_line(&sheet[i..]);
         let h = heads::from_numbers(&head);
         let named = calls::first_look(line, h);
-        let slot = heads::slot(named);
-        let standing = edits[slot];
+        let first_slot = heads::slot(named);
+        let standing = edits[first_slot];
         let next = calls::second_look(line, h, named, standing);
-        let seat = heads::slot(next);
-        let seen = edits[seat];
+        let second_slot = heads::slot(next);
+        let seen = edits[second_slot];
         let look = calls::looking(named, standing, next, seen);
         let e = calls::make(
             line,
@@ -94,9 +94,9 @@ fn go(
             sound,
         );
         if e.kept {
-            let place = e.slot;
+            let slot = e.slot;
             let entry = e.entry;
-            edits[place] = entry;
+            edits[slot] = entry;
         }
         let side = exact::number(line.a);
         let marked = e.marked;

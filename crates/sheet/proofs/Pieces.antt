@@ -134,7 +134,8 @@ moved sheet from next h = cases (ltb from next)
 
 module _ (sheet : List ℕ) (from : ℕ) (p : State) (lent : List ℕ) where
   -- of a sheet that is not too long
-  pub piece-run : Ranged p → (q : State) (next written : ℕ) (ended : Bool) (after : List ℕ) → length sheet ≤ 65536 → Advanced longestAnswer sheet from (view p) lent (view q) next written ended after → Pieced sheet from p lent (record { state = q; next = next; written = written }) after
+  pub piece-run : Ranged p → (q : State) (next written : ℕ) (ended : Bool) (after : List ℕ) → length sheet ≤ 65536 → Advanced longestAnswer sheet from (view p) lent (view q) next written ended after
+      → Pieced sheet from p lent (record { state = q; next = next; written = written }) after
   piece-run g q next written ended after fits h =
       let s = shared (length lent) (view p) (lines (drop from sheet)) (narrow-view p g) in
       let short = le-ltb 65536 (length sheet) fits in

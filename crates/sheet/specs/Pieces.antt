@@ -43,4 +43,5 @@ pub record Pieced (sheet : List ℕ) (from : ℕ) (p : State) (lent : List ℕ) 
 -- A sheet answered from a place on by pieces, each beginning where the one before it ended, until its end: the bytes that each wrote.
 pub data Pieces (sheet : List ℕ) : ℕ → State → List (List ℕ) → Type 0 where
   over : (from : ℕ) (p : State) → length sheet ≤ from → Pieces sheet from p []
-  piece : {from : ℕ} {p : State} (lent : List ℕ) (r : Piece) (after : List ℕ) {ts : List (List ℕ)} → Pieced sheet from p lent r after → Pieces sheet (r .next) (r .state) ts → Pieces sheet from p (take (r .written) after ∷ ts)
+  piece : {from : ℕ} {p : State} (lent : List ℕ) (r : Piece) (after : List ℕ) {ts : List (List ℕ)} → Pieced sheet from p lent r after → Pieces sheet (r .next) (r .state) ts
+      → Pieces sheet from p (take (r .written) after ∷ ts)

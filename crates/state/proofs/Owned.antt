@@ -65,7 +65,8 @@ signed (x ∷ xs) (u ∷ us) (suc i) p = signed xs us i (p .1)
 signed-field : (xs : List ℤ) (us : List Val) (i : ℕ) → shadow (each ℤ (SInt w32 .own) (map (λ v. v) xs) us) → mag (getD xs i (pos 0)) < 2147483648
 signed-field xs us i p = signed xs us i (subst (λ (ys : List ℤ). shadow (each ℤ (SInt w32 .own) ys us)) (map-id xs) p)
 
-placed : (es : List EditRecord) (us : List Val) (i : ℕ) → shadow (each (Denots (Declared.fields record-type)) (Struct (Declared.shape record-type) .own) (map (record-type .to) es) us) → getD es i noRecord .place < 4294967296
+placed : (es : List EditRecord) (us : List Val) (i : ℕ) → shadow (each (Denots (Declared.fields record-type)) (Struct (Declared.shape record-type) .own) (map (record-type .to) es) us)
+    → getD es i noRecord .place < 4294967296
 placed [] us i p = omega arith
 placed (e ∷ es) [] i p = absurd p
 placed (e ∷ es) (u ∷ us) zero p = p .0 .1 .1 .1 .1 .1 .1 .1 .1 .1 .0 .1

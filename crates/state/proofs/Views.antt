@@ -81,7 +81,8 @@ row-snoc vs at n v h =
     ∙ ap₂ (λ xs x. snoc xs x) (span-same at n _ _ (λ k a b. getD-other vs (at + n) k v (pos 0) (λ e. omega arith))) (getD-set vs (at + n) v (pos 0) h)
 
 -- how many sides have a flag that is not set, as the protocol counts them
-pub flags-unset : (p : Spread) (flag : Side → Bool) (flags : List Bool) → ((s : ℕ) → flag (sideOf p s) ≡ getD flags (indexOf s) false) → sidesThat (λ s. not (flag (sideAt (planOf p .content) s))) (planOf p .content) ≡ unsetIn flags (sidesIn (p .head))
+pub flags-unset : (p : Spread) (flag : Side → Bool) (flags : List Bool) → ((s : ℕ) → flag (sideOf p s) ≡ getD flags (indexOf s) false) → sidesThat (λ s. not (flag (sideAt (planOf p .content) s)))
+    (planOf p .content) ≡ unsetIn flags (sidesIn (p .head))
 flags-unset p flag flags h =
     ap (countTo (λ s. not (flag (sideAt (planOf p .content) s)))) (sides-length p)
     ∙ count-to-same _ _ (sidesIn (p .head)) (λ s a b. ap (λ x. not (flag x)) (side-at p s a b) ∙ ap not (h s))

@@ -76,7 +76,8 @@ numbers-length count a b c =
 
 pub line-refused : (k r : ℕ) (row : List ℤ) → lineOf (Refused k r) row ≡ ended (headOf 110 111 1 k 0 0)
 unfolding lineOf numbersOf
-line-refused k r row = text-no k ∙ sym (ap (λ bs. ended (110 ∷ 111 ∷ bs)) (spaced-more (pos k) [] ∙ ap₂ (λ ds bs. space ∷ ds ++ bs) (written-pos k) spaced-none ∙ ap (λ ds. space ∷ ds) (append-nil (digits k))))
+line-refused k r row = text-no k
+    ∙ sym (ap (λ bs. ended (110 ∷ 111 ∷ bs)) (spaced-more (pos k) [] ∙ ap₂ (λ ds bs. space ∷ ds ++ bs) (written-pos k) spaced-none ∙ ap (λ ds. space ∷ ds) (append-nil (digits k))))
 
 -- an answer that gives numbers, its own or those of a row
 text-given : (xs : List ℤ) → 0 < length xs → text (ok xs) ≡ ended (111 ∷ 107 ∷ spaced xs)
@@ -139,7 +140,8 @@ not-unread area h = subst (λ l. (area ≡ putIn l area) × (0 ≡ putLength l a
 pub is-unread : (area : List ℕ) → 6 ≤ length area → (sets area 0 unread ≡ putIn (ended (headOf 110 111 1 51 0 0)) area) × (6 ≡ putLength (ended (headOf 110 111 1 51 0 0)) area)
 is-unread area h = subst (λ l. (sets area 0 unread ≡ putIn l area) × (6 ≡ putLength l area)) (sym unread-line) (is-put unread area _ 6 h refl refl)
 
-pub unread-is : (k : ℕ) (area after : List ℕ) (r : ℕ) → k ≡ 51 → (after ≡ putIn (ended (headOf 110 111 1 51 0 0)) area) × (r ≡ putLength (ended (headOf 110 111 1 51 0 0)) area) → (after ≡ putIn (ended (headOf 110 111 1 k 0 0)) area) × (r ≡ putLength (ended (headOf 110 111 1 k 0 0)) area)
+pub unread-is : (k : ℕ) (area after : List ℕ) (r : ℕ) → k ≡ 51 → (after ≡ putIn (ended (headOf 110 111 1 51 0 0)) area) × (r ≡ putLength (ended (headOf 110 111 1 51 0 0)) area)
+    → (after ≡ putIn (ended (headOf 110 111 1 k 0 0)) area) × (r ≡ putLength (ended (headOf 110 111 1 k 0 0)) area)
 unread-is k area after r e h = subst (λ n. (after ≡ putIn (ended (headOf 110 111 1 n 0 0)) area) × (r ≡ putLength (ended (headOf 110 111 1 n 0 0)) area)) (sym e) h
 
 -- bytes put behind others
@@ -169,7 +171,8 @@ pub put-as : {xs ys : List ℕ} → xs ≡ ys → (area after : List ℕ) (end a
 put-as e area after end at h = subst (λ bs. (after ≡ sets area at bs) × (at ≡ end - length bs)) (sym e) h
 
 -- bytes put up to a place, and others up to where those begin
-pub put-both : (area first after : List ℕ) (end middle at : ℕ) (xs ys : List ℕ) → first ≡ sets area middle ys → middle ≡ end - length ys → after ≡ sets first at xs → at ≡ middle - length xs → length (xs ++ ys) ≤ end → (after ≡ sets area at (xs ++ ys)) × (at ≡ end - length (xs ++ ys))
+pub put-both : (area first after : List ℕ) (end middle at : ℕ) (xs ys : List ℕ) → first ≡ sets area middle ys → middle ≡ end - length ys → after ≡ sets first at xs → at ≡ middle - length xs
+    → length (xs ++ ys) ≤ end → (after ≡ sets area at (xs ++ ys)) × (at ≡ end - length (xs ++ ys))
 put-both area first after end middle at xs ys e f g h l =
     let n = length-append xs ys in
     (g ∙ ap (λ m. sets m at xs) e ∙ sets-back area at xs middle ys (omega arith), omega arith)
@@ -178,5 +181,6 @@ pub parts-length : (count a b c : ℕ) (row : List ℤ) → length (partsOf coun
 parts-length count a b c row = ended-length (headOf 111 107 count a b c ++ spaced row) ∙ ap (λ n. n + 1) (length-append (headOf 111 107 count a b c) (spaced row))
 
 -- what was put in is the line of an answer whose parts they are
-pub line-put : (answer : Answer) (row : List ℤ) (parts area after : List ℕ) (n : ℕ) → lineOf answer row ≡ parts → (after ≡ putIn parts area) × (n ≡ putLength parts area) → (after ≡ putIn (lineOf answer row) area) × (n ≡ putLength (lineOf answer row) area)
+pub line-put : (answer : Answer) (row : List ℤ) (parts area after : List ℕ) (n : ℕ) → lineOf answer row ≡ parts → (after ≡ putIn parts area) × (n ≡ putLength parts area)
+    → (after ≡ putIn (lineOf answer row) area) × (n ≡ putLength (lineOf answer row) area)
 line-put answer row parts area after n e p = (p .0 ∙ ap (λ t. putIn t area) (sym e), p .1 ∙ ap (λ t. putLength t area) (sym e))

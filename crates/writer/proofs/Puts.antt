@@ -108,7 +108,8 @@ module _ (row : List ℤ) (at : ℕ) (area₀ area : List ℕ) (end i : ℕ) (r 
     pub rowing-room : at + length (spaced row) ≤ length area₀ → end + suc (length (written (getD row i (pos 0)))) ≤ length area
     rowing-room p = let w = rest-length row i h in omega (arith, r .1, r .2)
 
-    pub rowing-next : (after : List ℕ) (next : ℕ) → after ≡ sets (set area end 32) (end + 1) (written (getD row i (pos 0))) → next ≡ end + 1 + length (written (getD row i (pos 0))) → Rowing row at area₀ after next (i + 1)
+    pub rowing-next : (after : List ℕ) (next : ℕ) → after ≡ sets (set area end 32) (end + 1) (written (getD row i (pos 0))) → next ≡ end + 1 + length (written (getD row i (pos 0)))
+        → Rowing row at area₀ after next (i + 1)
     unfolding value
     rowing-next after next e f =
         let w = rest-length row i h in

@@ -58,22 +58,29 @@ plain-effect-requires c κs = search needs
 
 returns : tie.Need-returns
 returns c =
-    let s = (c .before .before .before .before .before .before .before .before .before .before .before .before .before .before .before .before .before .before .before .before .before .before .before .before .before) in
+    let s = (c .before .before .before .before .before .before .before .before .before .before .before .before .before .before .before .before .before .before .before .before .before .before .before
+    .before .before) in
     let a = s .args in
     let l = a .l in
-    let h = (c .before .before .before .before .before .before .before .before .before .before .before .before .before .before .before .before .before .before .before .before .before .before .before .from-numbers .result) in
+    let h = (c .before .before .before .before .before .before .before .before .before .before .before .before .before .before .before .before .before .before .before .before .before .before .before
+    .from-numbers .result) in
     let d = (c .before .before .before .before .before .before .before .before .before .before .before .before .before .before .before .decide-draw .result) in
     let g = (c .before .before .before .before .before .before .before .before .before .before .before .before .before .before .before .before .before .before .before .struct-told .given) in
     let to-a = toZ-ofZ (fits32 (l .a) (g .1 .0 .1)) in
     let to-b = toZ-ofZ (fits32 (l .b) (g .1 .1 .0 .1)) in
     let to-c = toZ-ofZ (fits32 (l .c) (g .1 .1 .1 .0 .1)) in
     let to-d = toZ-ofZ (fits32 (l .d) (g .1 .1 .1 .1 .0 .1)) in
-    λ base draft arrived confirmed look t sound. lent (c .before .before .before .before .before .before .before .before .before .before .before .before .before .before .before .before .before .before .before .before .before .before .before .from-numbers .ensures) (c .plain-effect .ensures) (ap headFrom (c .before .numbers .ensures) ∙ head-numbers (d .head))
+    λ base draft arrived confirmed look t sound. lent
+    (c .before .before .before .before .before .before .before .before .before .before .before .before .before .before .before .before .before .before .before .before .before .before .before
+    .from-numbers .ensures) (c .plain-effect .ensures) (ap headFrom (c .before .numbers .ensures) ∙ head-numbers (d .head))
     (draw-making l h base draft (a .values .now) arrived confirmed (a .table .now) (a .index .now) look t sound (s .pre) d
     (c .before .before .before .before .before .before .before .before .before .before .before .before .before .before .before .before .before .before .before .before .before .before .capped .ensures)
     (toZ-ofZ (fits32 (d .value) (c .before .before .before .before .before .before .before .before .before .before .before .before .before .before .struct-told5 .given .1 .0 .1)))
-    ((c .before .before .before .before .before .before .before .note-rule .ensures) ∙ (λ j. cond ((c .before .before .before .before .before .before .before .before .before .before .before .before .is-drawn .ensures) j) (withRule (a .table .now) (min (h .rules) 63) (to-a j) (to-b j) (to-c j) (to-d j)) (a .table .now)))
-    ((c .before .before .before .before .before .before .before .before .before .before .before .before .before .before .before .decide-draw .ensures) ∙ (λ j. drawDecision (l .op) (to-a j) (to-b j) (to-c j) (to-d j) h (lowers (a .table .now)) (gaps (a .table .now)) (uppers (a .table .now)) (a .values .now)))
+    ((c .before .before .before .before .before .before .before .note-rule .ensures)
+    ∙ (λ j. cond ((c .before .before .before .before .before .before .before .before .before .before .before .before .is-drawn .ensures) j)
+    (withRule (a .table .now) (min (h .rules) 63) (to-a j) (to-b j) (to-c j) (to-d j)) (a .table .now)))
+    ((c .before .before .before .before .before .before .before .before .before .before .before .before .before .before .before .decide-draw .ensures)
+    ∙ (λ j. drawDecision (l .op) (to-a j) (to-b j) (to-c j) (to-d j) h (lowers (a .table .now)) (gaps (a .table .now)) (uppers (a .table .now)) (a .values .now)))
     (λ e. (c .before .before .note-index .ensures .0) ((c .before .before .before .is-opened .ensures) ∙ e))
     (λ e. (c .before .before .note-index .ensures .1) ((c .before .before .before .is-opened .ensures) ∙ e)))
 

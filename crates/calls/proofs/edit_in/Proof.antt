@@ -79,9 +79,14 @@ returns c =
     let to-d = toZ-ofZ (fits32 (l .d) ((c .before .before .before .before .before .before .struct-told2 .given .1 .1 .1 .1 .0 .1))) in
     let to-x = toZ-ofZ (fits32 x ((c .before .before .before .before .before .before .before .before .known-told2 .given .1 .0 .1))) in
     λ base draft confirmed. lent (c .before .before .before .before .before .before .before .before .before .before .before .before .before .before .from-numbers .ensures) refl refl
-    (edit-making l h base draft (a .values .now) (a .arrived .now) confirmed (a .table .now) (a .index .now) (a .look) (a .counts .now) (a .sound) (s .pre) (c .before .before .before .before .before .before .before .before .before .before .before .decide-edit .result) (c .before .before .before .before .before .before .before .before .before .before .before .decide-edit .ensures)
-    (edit-made l h base draft (a .values .now) (a .arrived .now) confirmed (a .table .now) (a .index .now) (a .look) (a .counts .now) (a .sound) (c .before .before .before .before .before .before .before .before .before .ruling2 .given .0 .0) x (c .before .before .before .before .before .before .before .before .before .ruling2 .given .1)
-    (sym (c .before .before .is-whole .ensures) ∙ (c .before .if1 .taken)) (c .plain-effect .ensures) (ap headFrom (c .before .before .before .numbers .ensures) ∙ head-numbers (c .before .before .before .before .edit-head .result) ∙ (c .before .before .before .before .edit-head .ensures))
+    (edit-making l h base draft (a .values .now) (a .arrived .now) confirmed (a .table .now) (a .index .now) (a .look) (a .counts .now) (a .sound) (s .pre)
+    (c .before .before .before .before .before .before .before .before .before .before .before .decide-edit .result)
+    (c .before .before .before .before .before .before .before .before .before .before .before .decide-edit .ensures)
+    (edit-made l h base draft (a .values .now) (a .arrived .now) confirmed (a .table .now) (a .index .now) (a .look) (a .counts .now) (a .sound)
+    (c .before .before .before .before .before .before .before .before .before .ruling2 .given .0 .0) x
+    (c .before .before .before .before .before .before .before .before .before .ruling2 .given .1)
+    (sym (c .before .before .is-whole .ensures) ∙ (c .before .if1 .taken)) (c .plain-effect .ensures)
+    (ap headFrom (c .before .before .before .numbers .ensures) ∙ head-numbers (c .before .before .before .before .edit-head .result) ∙ (c .before .before .before .before .edit-head .ensures))
     (λ j. set (a .values .now) (((c .before .before .before .before .before .spot .ensures .0) ∙ (λ k. spotOf (natural (to-a k)) (natural (to-d k)))) j) (to-x j))))
 
 number-requires : tie.Need-number-requires
@@ -111,27 +116,46 @@ returns-2 c =
     let a = s .args in
     let l = a .l in
     let h = (c .before .before .before .before .before .before .before .from-numbers .result) in
-    λ base draft confirmed. lent (c .before .before .before .before .before .before .before .from-numbers .ensures) refl (sym (c .before .before .before .before .before .before .before .from-numbers .ensures))
-    (edit-making l h base draft (a .values .now) (a .arrived .now) confirmed (a .table .now) (a .index .now) (a .look) (a .counts .now) (a .sound) (s .pre) (c .before .before .before .before .decide-edit .result) (c .before .before .before .before .decide-edit .ensures)
-    (edit-refused l h base draft (a .values .now) (a .arrived .now) confirmed (a .table .now) (a .index .now) (a .look) (a .counts .now) (a .sound) (c .before .before .ruling .given .0 .0) (c .before .before .ruling .given .1) (c .refusal .ensures)))
+    λ base draft confirmed. lent (c .before .before .before .before .before .before .before .from-numbers .ensures) refl
+    (sym (c .before .before .before .before .before .before .before .from-numbers .ensures))
+    (edit-making l h base draft (a .values .now) (a .arrived .now) confirmed (a .table .now) (a .index .now) (a .look) (a .counts .now) (a .sound) (s .pre)
+    (c .before .before .before .before .decide-edit .result) (c .before .before .before .before .decide-edit .ensures)
+    (edit-refused l h base draft (a .values .now) (a .arrived .now) confirmed (a .table .now) (a .index .now) (a .look) (a .counts .now) (a .sound) (c .before .before .ruling .given .0 .0)
+    (c .before .before .ruling .given .1) (c .refusal .ensures)))
 
 returns-3 : tie.Need-returns-3
 returns-3 c =
-    let s = (c .before .before .before .before .before .before .before .before .before .before .before .before .before .before .before .before .before .before .before .before .before .before .before .before) in
+    let s = (c .before .before .before .before .before .before .before .before .before .before .before .before .before .before .before .before .before .before .before .before .before .before .before
+    .before) in
     let a = s .args in
     let l = a .l in
-    let h = (c .before .before .before .before .before .before .before .before .before .before .before .before .before .before .before .before .before .before .before .before .before .before .from-numbers .result) in
+    let h = (c .before .before .before .before .before .before .before .before .before .before .before .before .before .before .before .before .before .before .before .before .before .before
+    .from-numbers .result) in
     let x = (c .before .before .before .before .before .before .before .before .before .before .before .before .before .before .before .before .before .ruling2 .given .0 .1 .0) in
     let to-a = toZ-ofZ (fits32 (l .a) ((c .before .before .before .before .before .before .before .before .before .before .before .before .before .before .before .struct-told .given .1 .0 .1))) in
     let to-d = toZ-ofZ (fits32 (l .d) ((c .before .before .before .before .before .before .before .before .before .before .before .before .before .before .struct-told2 .given .1 .1 .1 .1 .0 .1))) in
     let to-x = toZ-ofZ (fits32 x ((c .before .before .before .before .before .before .before .before .before .before .before .before .before .before .before .before .known-told2 .given .1 .0 .1))) in
-    let side = (c .before .before .before .before .before .before .before .number .ensures) ∙ ap natural (toZ-ofZ (fits32 (l .a) ((c .before .before .before .before .before .before .before .before .struct-told3 .given .1 .0 .1)))) in
+    let side = (c .before .before .before .before .before .before .before .number .ensures)
+    ∙ ap natural (toZ-ofZ (fits32 (l .a) ((c .before .before .before .before .before .before .before .before .struct-told3 .given .1 .0 .1)))) in
     let place = (c .before .before .before .before .before .before .index .ensures .0) ∙ ap indexOf side in
-    λ base draft confirmed. lent (c .before .before .before .before .before .before .before .before .before .before .before .before .before .before .before .before .before .before .before .before .before .before .from-numbers .ensures) refl refl
-    (edit-making l h base draft (a .values .now) (a .arrived .now) confirmed (a .table .now) (a .index .now) (a .look) (a .counts .now) (a .sound) (s .pre) (c .before .before .before .before .before .before .before .before .before .before .before .before .before .before .before .before .before .before .before .decide-edit .result) (c .before .before .before .before .before .before .before .before .before .before .before .before .before .before .before .before .before .before .before .decide-edit .ensures)
-    (edit-kept l h base draft (a .values .now) (a .arrived .now) confirmed (a .table .now) (a .index .now) (a .look) (a .counts .now) (a .sound) (c .before .before .before .before .before .before .before .before .before .before .before .before .before .before .before .before .before .ruling2 .given .0 .0) x (c .before .before .before .before .before .before .before .before .before .before .before .before .before .before .before .before .before .ruling2 .given .1)
-    (sym (c .before .before .before .before .before .before .before .before .before .before .is-whole .ensures) ∙ (c .before .before .before .before .before .before .before .before .before .if1 .left)) ((c .keeping .ensures) ∙ (λ j. stored (Answer.Given 1 (h .next) 0 0) ((c .before .before .capped .ensures) j) ((c .before .edit-record .ensures) j))) (ap headFrom (c .before .before .before .before .before .before .before .before .before .before .before .numbers .ensures) ∙ head-numbers (c .before .before .before .before .before .before .before .before .before .before .before .before .edit-head .result) ∙ (c .before .before .before .before .before .before .before .before .before .before .before .before .edit-head .ensures))
-    (λ j. set (a .values .now) (((c .before .before .before .before .before .before .before .before .before .before .before .before .before .spot .ensures .0) ∙ (λ k. spotOf (natural (to-a k)) (natural (to-d k)))) j) (to-x j))
+    λ base draft confirmed. lent
+    (c .before .before .before .before .before .before .before .before .before .before .before .before .before .before .before .before .before .before .before .before .before .before
+    .from-numbers .ensures) refl refl
+    (edit-making l h base draft (a .values .now) (a .arrived .now) confirmed (a .table .now) (a .index .now) (a .look) (a .counts .now) (a .sound) (s .pre)
+    (c .before .before .before .before .before .before .before .before .before .before .before .before .before .before .before .before .before .before .before .decide-edit .result)
+    (c .before .before .before .before .before .before .before .before .before .before .before .before .before .before .before .before .before .before .before .decide-edit .ensures)
+    (edit-kept l h base draft (a .values .now) (a .arrived .now) confirmed (a .table .now) (a .index .now) (a .look) (a .counts .now) (a .sound)
+    (c .before .before .before .before .before .before .before .before .before .before .before .before .before .before .before .before .before .ruling2 .given .0 .0) x
+    (c .before .before .before .before .before .before .before .before .before .before .before .before .before .before .before .before .before .ruling2 .given .1)
+    (sym (c .before .before .before .before .before .before .before .before .before .before .is-whole .ensures)
+    ∙ (c .before .before .before .before .before .before .before .before .before .if1 .left))
+    ((c .keeping .ensures) ∙ (λ j. stored (Answer.Given 1 (h .next) 0 0) ((c .before .before .capped .ensures) j) ((c .before .edit-record .ensures) j)))
+    (ap headFrom (c .before .before .before .before .before .before .before .before .before .before .before .numbers .ensures)
+    ∙ head-numbers (c .before .before .before .before .before .before .before .before .before .before .before .before .edit-head .result)
+    ∙ (c .before .before .before .before .before .before .before .before .before .before .before .before .edit-head .ensures))
+    (λ j. set (a .values .now)
+    (((c .before .before .before .before .before .before .before .before .before .before .before .before .before .spot .ensures .0) ∙ (λ k. spotOf (natural (to-a k)) (natural (to-d k)))) j)
+    (to-x j))
     ((c .before .before .before .note-kept .ensures) ∙ (λ j. oneUnsent (side j) (getD (a .arrived .now) (place j) false) (a .counts .now)))))
 
 pub edit-in-spec : {M : Type 1} → statement M

@@ -33,7 +33,8 @@ send-in-requires c κs = search needs
 
 returns-3 : tie.Need-returns-3
 returns-3 c =
-    let a = (c .before .before .before .before .before .before .before .args) in (c .send-in .ensures) (a .base .now) (a .draft .now) (a .values .now) (a .confirmed .now) (a .table .now) (a .index .now) (a .look) (a .sound)
+    let a = (c .before .before .before .before .before .before .before .args) in (c .send-in .ensures) (a .base .now) (a .draft .now) (a .values .now) (a .confirmed .now) (a .table .now)
+    (a .index .now) (a .look) (a .sound)
 
 moves-requires : tie.Need-moves-requires
 moves-requires c κs = search needs
@@ -44,7 +45,8 @@ move-in-requires c κs =
 
 returns-4 : tie.Need-returns-4
 returns-4 c =
-    let a = (c .before .before .before .before .before .before .before .before .before .before .before .before .before .args) in (c .move-in .ensures) (a .table .now) (a .index .now) (a .look) (a .sound)
+    let a = (c .before .before .before .before .before .before .before .before .before .before .before .before .before .args) in (c .move-in .ensures) (a .table .now) (a .index .now) (a .look)
+    (a .sound)
 
 draws-requires : tie.Need-draws-requires
 draws-requires c κs = search needs
@@ -55,15 +57,20 @@ draw-in-requires c κs =
 
 returns-5 : tie.Need-returns-5
 returns-5 c =
-    let a = (c .before .before .before .before .before .before .before .before .before .before .before .before .args) in (c .draw-in .ensures) (a .base .now) (a .draft .now) (a .arrived .now) (a .confirmed .now) (a .look) (a .counts .now) (a .sound)
+    let a = (c .before .before .before .before .before .before .before .before .before .before .before .before .args) in (c .draw-in .ensures) (a .base .now) (a .draft .now) (a .arrived .now)
+    (a .confirmed .now) (a .look) (a .counts .now) (a .sound)
 
 read-in-requires : tie.Need-read-in-requires
 read-in-requires c κs =
-    line-rest (c .before .before .before .before .before .before .before .before .before .args .l) (c .before .before .before .before .before .before .before .before .if1 .left) (c .before .before .before .before .before .before .before .if2 .left) (c .before .before .before .before .before .before .if3 .left) (sym (c .before .before .before .before .before .moves .ensures) ∙ (c .before .before .before .before .if4 .left)) (sym (c .before .before .before .draws .ensures) ∙ (c .before .before .if5 .left))
+    line-rest (c .before .before .before .before .before .before .before .before .before .args .l) (c .before .before .before .before .before .before .before .before .if1 .left)
+    (c .before .before .before .before .before .before .before .if2 .left) (c .before .before .before .before .before .before .if3 .left)
+    (sym (c .before .before .before .before .before .moves .ensures) ∙ (c .before .before .before .before .if4 .left))
+    (sym (c .before .before .before .draws .ensures) ∙ (c .before .before .if5 .left))
 
 returns-6 : tie.Need-returns-6
 returns-6 c =
-    let a = (c .before .before .before .before .before .before .before .before .before .before .args) in (c .read-in .ensures) (a .base .now) (a .draft .now) (a .values .now) (a .arrived .now) (a .confirmed .now) (a .table .now) (a .index .now) (a .sound)
+    let a = (c .before .before .before .before .before .before .before .before .before .before .args) in (c .read-in .ensures) (a .base .now) (a .draft .now) (a .values .now) (a .arrived .now)
+    (a .confirmed .now) (a .table .now) (a .index .now) (a .sound)
 
 pub make-spec : {M : Type 1} → statement M
 make-spec =

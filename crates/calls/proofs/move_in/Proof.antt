@@ -64,19 +64,33 @@ plain-effect-requires c κs = search needs
 
 returns : tie.Need-returns
 returns c =
-    let s = (c .before .before .before .before .before .before .before .before .before .before .before .before .before .before .before .before .before .before .before .before .before .before .before .before .before) in
+    let s = (c .before .before .before .before .before .before .before .before .before .before .before .before .before .before .before .before .before .before .before .before .before .before .before
+    .before .before) in
     let a = s .args in
     let l = a .l in
-    let h = (c .before .before .before .before .before .before .before .before .before .before .before .before .before .before .before .before .before .before .before .before .before .before .before .from-numbers .result) in
+    let h = (c .before .before .before .before .before .before .before .before .before .before .before .before .before .before .before .before .before .before .before .before .before .before .before
+    .from-numbers .result) in
     let r = (c .before .before .before .before .before .before .before .before .before .before .before .make-move .result) in
     let x = (c .before .before .before .before .before .before .before .before .before .before .before .make-move .last .1) in
     let f = frameFrom h (a .base .now) (a .draft .now) (a .values .now) (a .arrived .now) (a .confirmed .now) in
-    let to-a = toZ-ofZ (fits32 (l .a) ((c .before .before .before .before .before .before .before .before .before .before .before .before .before .before .before .before .before .before .before .before .before .before .struct-told .given .1 .0 .1))) in
-    let i = (c .before .before .before .before .before .before .before .before .before .before .before .before .before .before .before .before .before .before .before .before .index .ensures .0) ∙ ap indexOf ((c .before .before .before .before .before .before .before .before .before .before .before .before .before .before .before .before .before .before .before .before .before .number .ensures) ∙ ap natural to-a) in
-    let m = subst (λ y. Moves (moveCall (l .op) y) f (Counts f (natural y) (getD (a .counts .now) (c .before .before .before .before .before .before .before .before .before .before .before .before .before .before .before .before .before .before .before .before .index .result) 0) (waitingIn (a .counts .now))) (movedTo r (x .0) (x .1 .0) (x .1 .1 .0) (x .1 .1 .1 .0) (x .1 .1 .1 .1 .0))) to-a (c .before .before .before .before .before .before .before .before .before .before .before .make-move .ensures) in
-    λ table index look sound. lent (c .before .before .before .before .before .before .before .before .before .before .before .before .before .before .before .before .before .before .before .before .before .before .before .from-numbers .ensures) (c .plain-effect .ensures) (ap headFrom (c .before .before .before .before .numbers .ensures) ∙ head-numbers (r .head))
+    let to-a = toZ-ofZ (fits32 (l .a)
+    ((c .before .before .before .before .before .before .before .before .before .before .before .before .before .before .before .before .before .before .before .before .before .before
+    .struct-told .given .1 .0 .1))) in
+    let i = (c .before .before .before .before .before .before .before .before .before .before .before .before .before .before .before .before .before .before .before .before .index .ensures .0)
+    ∙ ap indexOf ((c .before .before .before .before .before .before .before .before .before .before .before .before .before .before .before .before .before .before .before .before .before
+    .number .ensures) ∙ ap natural to-a) in
+    let m = subst (λ y. Moves (moveCall (l .op) y) f
+    (Counts f (natural y)
+    (getD (a .counts .now)
+    (c .before .before .before .before .before .before .before .before .before .before .before .before .before .before .before .before .before .before .before .before .index .result) 0)
+    (waitingIn (a .counts .now))) (movedTo r (x .0) (x .1 .0) (x .1 .1 .0) (x .1 .1 .1 .0) (x .1 .1 .1 .1 .0))) to-a
+    (c .before .before .before .before .before .before .before .before .before .before .before .make-move .ensures) in
+    λ table index look sound. lent
+    (c .before .before .before .before .before .before .before .before .before .before .before .before .before .before .before .before .before .before .before .before .before .before .before
+    .from-numbers .ensures) (c .plain-effect .ensures) (ap headFrom (c .before .before .before .before .numbers .ensures) ∙ head-numbers (r .head))
     (move-making l h (a .base .now) (a .draft .now) (a .values .now) (a .arrived .now) (a .confirmed .now) table index look (a .counts .now) sound (s .pre) r i
-    ((c .before .note-move .ensures) ∙ ap (λ b. cond b (moveTally (l .op) h (a .counts .now)) (a .counts .now)) (c .before .before .accepted .ensures)) m (c .before .before .before .before .before .lengths .ensures))
+    ((c .before .note-move .ensures) ∙ ap (λ b. cond b (moveTally (l .op) h (a .counts .now)) (a .counts .now)) (c .before .before .accepted .ensures)) m
+    (c .before .before .before .before .before .lengths .ensures))
 
 pub move-in-spec : {M : Type 1} → statement M
 move-in-spec =

@@ -33,7 +33,8 @@ returns c =
     let h = (c .before .before .before .before .before .from-numbers .result) in
     let to-a = toZ-ofZ (fits32 (l .a) ((c .before .before .struct-told .given .1 .0 .1))) in
     rw ((c .plain-effect .ensures))
-    (λ base draft values arrived confirmed table index sound. lent (c .before .before .before .before .before .from-numbers .ensures) refl (sym (c .before .before .before .before .before .from-numbers .ensures))
+    (λ base draft values arrived confirmed table index sound. lent (c .before .before .before .before .before .from-numbers .ensures) refl
+    (sym (c .before .before .before .before .before .from-numbers .ensures))
     (read-making l h base draft values arrived confirmed table index (a .look) (a .counts .now) sound (s .pre .0) (s .pre .1) (c .before .read .result)
     ((c .before .read .ensures) ∙ ap (λ y. readingOf (l .op) y h (a .look .named) (a .look .standing) (leftIn (a .counts .now))) to-a)))
 

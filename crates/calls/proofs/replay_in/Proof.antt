@@ -83,9 +83,12 @@ returns c =
     let a = s .args in
     let l = a .l in
     let h = (c .before .before .before .before .before .before .before .before .before .from-numbers .result) in
-    λ base values arrived confirmed. lent (c .before .before .before .before .before .before .before .before .before .from-numbers .ensures) refl (sym (c .before .before .before .before .before .before .before .before .before .from-numbers .ensures))
-    (replay-making l h base (a .draft .now) values arrived confirmed (a .table .now) (a .index .now) (a .look) (a .counts .now) (a .sound) (s .pre) (c .before .before .before .before .decide-replay .result) (c .before .before .before .before .decide-replay .ensures)
-    (replay-refused l h base (a .draft .now) values arrived confirmed (a .table .now) (a .index .now) (a .look) (a .counts .now) (a .sound) (c .before .before .outcome .given .0 .0) (c .before .before .outcome .given .1) (c .refusal .ensures)))
+    λ base values arrived confirmed. lent (c .before .before .before .before .before .before .before .before .before .from-numbers .ensures) refl
+    (sym (c .before .before .before .before .before .before .before .before .before .from-numbers .ensures))
+    (replay-making l h base (a .draft .now) values arrived confirmed (a .table .now) (a .index .now) (a .look) (a .counts .now) (a .sound) (s .pre)
+    (c .before .before .before .before .decide-replay .result) (c .before .before .before .before .decide-replay .ensures)
+    (replay-refused l h base (a .draft .now) values arrived confirmed (a .table .now) (a .index .now) (a .look) (a .counts .now) (a .sound) (c .before .before .outcome .given .0 .0)
+    (c .before .before .outcome .given .1) (c .refusal .ensures)))
 
 returns-2 : tie.Need-returns-2
 returns-2 c =
@@ -96,10 +99,18 @@ returns-2 c =
     let b = (c .before .before .before .before .before .before .before .before .before .before .outcome2 .given .0 .0) in
     let x = (c .before .before .before .before .before .before .before .before .before .before .outcome2 .given .0 .1 .0) in
     let to-x = toZ-ofZ (fits32 x ((c .before .before .before .before .before .before .before .before .before .known-told2 .given .1 .0 .1))) in
-    λ base values arrived confirmed. lent (c .before .before .before .before .before .before .before .before .before .before .before .before .before .before .before .before .before .from-numbers .ensures) refl (sym (c .before .before .before .before .before .before .before .before .before .before .before .before .before .before .before .before .before .from-numbers .ensures))
-    (replay-making l h base (a .draft .now) values arrived confirmed (a .table .now) (a .index .now) (a .look) (a .counts .now) (a .sound) (s .pre) (c .before .before .before .before .before .before .before .before .before .before .before .before .decide-replay .result) (c .before .before .before .before .before .before .before .before .before .before .before .before .decide-replay .ensures)
-    (replay-settled l h base (a .draft .now) values arrived confirmed (a .table .now) (a .index .now) (a .look) (a .counts .now) (a .sound) b x (c .before .before .before .before .before .before .before .before .before .before .outcome2 .given .1)
-    ((c .keeping .ensures) ∙ (λ j. stored (Answer.Given 1 ((c .before .before .before .fate-number .ensures) j) 0 0) (c .before .before .slot .result) (((c .before .settled-record .ensures) ∙ (λ k. settledRecord (a .look .standing) b ((c .before .before .before .before .before .before .capped .ensures) k + 1))) j))) (c .before .before .slot .ensures .0) (c .before .before .slot .ensures .1)
+    λ base values arrived confirmed. lent
+    (c .before .before .before .before .before .before .before .before .before .before .before .before .before .before .before .before .before .from-numbers .ensures) refl
+    (sym (c .before .before .before .before .before .before .before .before .before .before .before .before .before .before .before .before .before .from-numbers .ensures))
+    (replay-making l h base (a .draft .now) values arrived confirmed (a .table .now) (a .index .now) (a .look) (a .counts .now) (a .sound) (s .pre)
+    (c .before .before .before .before .before .before .before .before .before .before .before .before .decide-replay .result)
+    (c .before .before .before .before .before .before .before .before .before .before .before .before .decide-replay .ensures)
+    (replay-settled l h base (a .draft .now) values arrived confirmed (a .table .now) (a .index .now) (a .look) (a .counts .now) (a .sound) b x
+    (c .before .before .before .before .before .before .before .before .before .before .outcome2 .given .1)
+    ((c .keeping .ensures)
+    ∙ (λ j. stored (Answer.Given 1 ((c .before .before .before .fate-number .ensures) j) 0 0) (c .before .before .slot .result)
+    (((c .before .settled-record .ensures) ∙ (λ k. settledRecord (a .look .standing) b ((c .before .before .before .before .before .before .capped .ensures) k + 1))) j)))
+    (c .before .before .slot .ensures .0) (c .before .before .slot .ensures .1)
     (λ j. set (a .draft .now) ((c .before .before .before .before .before .before .before .before .point-of .ensures .0) j) (to-x j)) (c .before .before .before .before .note-settled .ensures)))
 
 pub replay-in-spec : {M : Type 1} → statement M

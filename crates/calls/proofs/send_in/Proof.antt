@@ -65,7 +65,9 @@ returns c =
     refl (sym (c .before .before .before .before .before .before .before .before .before .before .from-numbers .ensures))
     (send-making l h base draft values (a .arrived .now) confirmed table index look (a .counts .now) sound (s .pre) d
     ((c .before .before .before .before .before .before .before .before .number .ensures) ∙ ap natural to-a) (c .before .before .before .before .before .before .before .index .ensures .0)
-    ((c .before .note-sent .ensures) ∙ ap (λ b. cond b (allSent (c .before .before .before .before .before .before .before .before .number .result) (getD (a .arrived .now) (c .before .before .before .before .before .before .before .index .result) false) (a .counts .now)) (a .counts .now)) (c .before .before .accepted .ensures))
+    ((c .before .note-sent .ensures)
+    ∙ ap (λ b. cond b (allSent (c .before .before .before .before .before .before .before .before .number .result)
+    (getD (a .arrived .now) (c .before .before .before .before .before .before .before .index .result) false) (a .counts .now)) (a .counts .now)) (c .before .before .accepted .ensures))
     (c .before .before .before .before .decide-send .ensures)))
 
 pub send-in-spec : {M : Type 1} → statement M

@@ -69,21 +69,24 @@ unfolding applied
 returns-2 c =
     let b = c .before .before in
     let k = b .before .change2 .given in
-    rw (k .1) (through _+ℤ_ (b .before .before .before .args .x) (k .0 .0) (c .before .sum .result) (b .before .before .before .fits .x) (b .known-told2 .given .0 .1) (c .before .sum .ok) (c .before .sum .ensures) (c .ranged2 .ensures))
+    rw (k .1) (through _+ℤ_ (b .before .before .before .args .x) (k .0 .0) (c .before .sum .result) (b .before .before .before .fits .x) (b .known-told2 .given .0 .1) (c .before .sum .ok)
+    (c .before .sum .ensures) (c .ranged2 .ensures))
 
 returns-3 : tie.Need-returns-3
 unfolding applied
 returns-3 c =
     let b = c .before .before in
     let k = b .before .change3 .given in
-    rw (k .1) (through _*ℤ_ (b .before .before .before .args .x) (k .0 .0) (c .before .product .result) (b .before .before .before .fits .x) (b .known-told3 .given .0 .1) (c .before .product .ok) (c .before .product .ensures) (c .ranged3 .ensures))
+    rw (k .1) (through _*ℤ_ (b .before .before .before .args .x) (k .0 .0) (c .before .product .result) (b .before .before .before .fits .x) (b .known-told3 .given .0 .1) (c .before .product .ok)
+    (c .before .product .ensures) (c .ranged3 .ensures))
 
 returns-4 : tie.Need-returns-4
 unfolding applied
 returns-4 c =
     let b = c .before .before in
     let k = b .before .change4 .given in
-    rw (k .1) (through quotZ (b .before .before .before .args .x) (k .0 .0) (c .before .quotient .result) (b .before .before .before .fits .x) (b .known-told4 .given .0 .1) (c .before .quotient .ok) (c .before .quotient .ensures) (c .ranged4 .ensures))
+    rw (k .1) (through quotZ (b .before .before .before .args .x) (k .0 .0) (c .before .quotient .result) (b .before .before .before .fits .x) (b .known-told4 .given .0 .1) (c .before .quotient .ok)
+    (c .before .quotient .ensures) (c .ranged4 .ensures))
 
 pub apply-spec : {M : Type 1} → statement M
 apply-spec =

@@ -9,7 +9,8 @@ use Rattle.change.proofs.ranged.Reads as reads
 use Rattle.change.proofs.ranged.Lts as lts
 
 cast-t4 : tie.Need-cast-t4
-cast-t4 c = rw (toZ-ofZ (c .before .before .fits .x)) (between-fits 999999 1000000 tt (flag (negsuc 999999) (c .before .before .fits .x) (c .before .if1 .left)) (flag (pos 1000001) (c .before .before .fits .x) (c .if2 .taken)))
+cast-t4 c = rw (toZ-ofZ (c .before .before .fits .x))
+    (between-fits 999999 1000000 tt (flag (negsuc 999999) (c .before .before .fits .x) (c .before .if1 .left)) (flag (pos 1000001) (c .before .before .fits .x) (c .if2 .taken)))
 
 returns : tie.Need-returns
 unfolding rangedOf

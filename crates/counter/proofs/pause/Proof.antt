@@ -128,7 +128,8 @@ module _ {M : Type 1} (𝓤 : URA M) (H : Heap 𝓤) (A : Atoms 𝓤) (W : Given
     walk =
         qed W (‵ ftrue ∷ ‵ ftrue ∷ []) ∵ keep ! [] $ enter ! C Λ code.function [] Post $
         alloc1 ! (λ l₀. alloc1 ! (λ l₁. alloc1 ! (λ l₂. alloc1 ! (λ l₃. alloc1 ! (λ l₄. alloc1 ! (λ l₅. alloc0 ! $ params1 ! $ pass0 ! $
-        assigns ! (agg ! (and-then ! (lit ! tt) (and-then ! (big-lit ! (record { fits = lit< tt })) (no-more !)))) (from ! (stop !)) (init ! 8 refl (tt, (record { fits = lit< tt }, (record { fits = lit< tt }, tt)))) $
+        assigns ! (agg ! (and-then ! (lit ! tt) (and-then ! (big-lit ! (record { fits = lit< tt })) (no-more !)))) (from ! (stop !))
+        (init ! 8 refl (tt, (record { fits = lit< tt }, (record { fits = lit< tt }, tt)))) $
         assigns ! (agg ! (and-then ! (lit ! tt) (and-then ! (lit ! tt) (no-more !)))) (from ! (stop !)) (init ! 6 refl (tt, (record { fits = lit< tt }, (record { fits = lit< tt }, tt)))) $
         assigns ! (addr ! (from ! (stop !))) (from ! (stop !)) (init ! 2 refl (tt, tt)) $
         assigns ! (addr ! (from ! (stop !))) (from ! (stop !)) (init ! 0 refl (tt, tt)) $
@@ -144,9 +145,11 @@ module _ {M : Type 1} (𝓤 : URA M) (H : Heap 𝓤) (A : Atoms 𝓤) (W : Given
         move ! (3 ∷ 0 ∷ []) $ join ! $ move ! (2 ∷ 0 ∷ []) $ join ! $ move ! (3 ∷ 0 ∷ []) $ join ! $
         use1 W (raw (Nap 𝓤 H A memory run .pre (to (α ∷ []) (β ∷ []) γ δ 1000000 l₁ l₂))) (goes (α ∷ []) (β ∷ []) γ δ 1000000 l₁ l₂) $
         -- [what the call asks; the lender's parts of the time left and of the time asked for; _5; †; _4; †; room for _3; †; †; †; room for _0; †]
-        calls-at ! fm (Nap 𝓤 H A memory run) known (to (α ∷ []) (β ∷ []) γ δ 1000000 l₁ l₂) (and-then ! (load ! (from ! (stop !)) (look ! 5 refl)) (and-then ! (load ! (from ! (stop !)) (look ! 3 refl)) (no-more !))) (λ v.
+        calls-at ! fm (Nap 𝓤 H A memory run) known (to (α ∷ []) (β ∷ []) γ δ 1000000 l₁ l₂)
+        (and-then ! (load ! (from ! (stop !)) (look ! 5 refl)) (and-then ! (load ! (from ! (stop !)) (look ! 3 refl)) (no-more !))) (λ v.
         use1 W (later (some (λ (r : ℤ). ((‵ (flft (α ∷ []) fullShare) ⊛ ‵ (flft (β ∷ []) fullShare) ⊛ ‵ ftrue) ⊛ ‵ (i32 .own r (v ∷ [])))
-        ⊛ raw (ensured 𝓤 H A nap.ended (nap.clauses 𝓤 H A memory run) ((α ∷ []), ((β ∷ []), tt)) (asked (α ∷ []) (β ∷ []) γ δ 1000000 l₁ l₂, (left (α ∷ []) (β ∷ []) γ δ 1000000 l₁ l₂, tt)) tt r)))) (id⊢ 𝓤 _) $ await ! tt $ pick ! (λ r.
+        ⊛ raw (ensured 𝓤 H A nap.ended (nap.clauses 𝓤 H A memory run) ((α ∷ []), ((β ∷ []), tt)) (asked (α ∷ []) (β ∷ []) γ δ 1000000 l₁ l₂, (left (α ∷ []) (β ∷ []) γ δ 1000000 l₁ l₂, tt)) tt r))))
+        (id⊢ 𝓤 _) $ await ! tt $ pick ! (λ r.
         split ! $ move ! (1 ∷ []) $ drop ! $ split ! $ move ! (1 ∷ []) $ peeks ! i32 (Is i32) (shows 𝓤 H A i32) r (v ∷ []) (λ fits. drop ! $
         land ! (from ! (stop !)) (init ! 7 refl (sint-lawful 𝓤 H A W w32 .typed r _ fits .0)) $
         -- [the tokens; the lender's parts; _5; ..]: both lifetimes end, and the times come back
@@ -156,7 +159,8 @@ module _ {M : Type 1} (𝓤 : URA M) (H : Heap 𝓤) (A : Atoms 𝓤) (W : Given
         -- [_2; what held its value; true; _1; _5; †; _4; †; _3; †; †; †; room for _0; †]
         assigns ! (of-opd ! (unit-lit !)) (from ! (stop !)) (init ! 12 refl (tt, tt)) $
         returns ! (look ! 12 refl) $ forget ! 0 refl $ forget ! 3 refl $ forget ! 4 refl $ forget ! 6 refl $ forget ! 8 refl $ forget ! 12 refl $
-        move ! (12 ∷ 13 ∷ []) $ free1 ! $ move ! (3 ∷ 11 ∷ []) $ free1 ! $ move ! (0 ∷ 9 ∷ []) $ free1 ! $ move ! (6 ∷ 7 ∷ []) $ free1 ! $ move ! (4 ∷ 5 ∷ []) $ free1 ! $ move ! (2 ∷ 3 ∷ []) $ free1 ! $ free0 ! $
+        move ! (12 ∷ 13 ∷ []) $ free1 ! $ move ! (3 ∷ 11 ∷ []) $ free1 ! $ move ! (0 ∷ 9 ∷ []) $ free1 ! $ move ! (6 ∷ 7 ∷ []) $ free1 ! $ move ! (4 ∷ 5 ∷ []) $ free1 ! $ move !
+        (2 ∷ 3 ∷ []) $ free1 ! $ free0 ! $
         keep ! [] $ by ! exits))))))))))))))
 
 module _ {M : Type 1} (𝓤 : URA M) (H : Heap 𝓤) (A : Atoms 𝓤) (W : Given 𝓤 H A) (memory : Memory → SProp 𝓤) (run : Routine → Fun 𝓤) where

@@ -58,7 +58,8 @@ returns c =
     let t = (c .before .before .before .before .before .before .args .t .now) in
     let a = (c .before .before .before .before .before .before .args .arrived) in
     let i = (c .before .before .before .before .before .index .ensures .0) in
-    λ k. set (set t (i k) (((c .before .before .before .capped .ensures) ∙ ap (λ j. min (getD t j 0) 255) i) k + 1)) 10 ((c .before .capped2 .ensures) k + ((c .raised .ensures .0) ∙ ap (λ j. raise a (getD t j 0)) i) k)
+    λ k. set (set t (i k) (((c .before .before .before .capped .ensures) ∙ ap (λ j. min (getD t j 0) 255) i) k + 1)) 10
+    ((c .before .capped2 .ensures) k + ((c .raised .ensures .0) ∙ ap (λ j. raise a (getD t j 0)) i) k)
 
 pub note-kept-spec : {M : Type 1} → statement M
 note-kept-spec =

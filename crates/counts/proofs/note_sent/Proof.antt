@@ -66,7 +66,9 @@ returns : tie.Need-returns
 returns c =
     let t = (c .before .before .before .before .before .before .before .before .before .args .t .now) in
     let i = (c .before .before .before .before .before .before .before .before .index .ensures .0) in
-    λ k. set (set (set (set t (i k) 0) 8 ((c .before .before .before .before .before .capped .ensures) k + ((c .before .before .before .before .capped2 .ensures) ∙ ap (λ j. min (getD t j 0) 256) i) k)) 10 ((c .before .before .one-less .ensures) k)) 11 ((c .still-missing .ensures) k)
+    λ k. set (set (set (set t (i k) 0) 8
+    ((c .before .before .before .before .before .capped .ensures) k + ((c .before .before .before .before .capped2 .ensures) ∙ ap (λ j. min (getD t j 0) 256) i) k)) 10
+    ((c .before .before .one-less .ensures) k)) 11 ((c .still-missing .ensures) k)
 
 pub note-sent-spec : {M : Type 1} → statement M
 note-sent-spec =

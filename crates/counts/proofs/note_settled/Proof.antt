@@ -51,7 +51,8 @@ element-write-t-3 c = search needs
 returns : tie.Need-returns
 returns c =
     let t = (c .before .before .before .before .before .before .before .args .t .now) in
-    λ k. set (set (set t 8 (((c .before .before .before .before .one-less .ensures) ∙ ap (λ n. n - 1) ((c .before .before .before .before .before .capped .ensures))) k)) 9 ((c .before .before .capped2 .ensures) k + 1)) 10 ((c .one-less2 .ensures) k)
+    λ k. set (set (set t 8 (((c .before .before .before .before .one-less .ensures) ∙ ap (λ n. n - 1) ((c .before .before .before .before .before .capped .ensures))) k)) 9
+    ((c .before .before .capped2 .ensures) k + 1)) 10 ((c .one-less2 .ensures) k)
 
 pub note-settled-spec : {M : Type 1} → statement M
 note-settled-spec =

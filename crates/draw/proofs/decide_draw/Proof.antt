@@ -20,7 +20,8 @@ use Rattle.rows.proofs.capped.Reads as capped-reads
 
 -- the value behind those that count
 stood : (c : tie.After-old) → let a = c .before .before .args in toZ w32 (ofZ w32 (getD (a .values .now) (c .before .capped .result) (pos 0))) ≡ valueAt (a .h) (a .values .now)
-stood c = let a = c .before .before .args in toZ-ofZ (fits32 (getD (a .values .now) (c .before .capped .result) (pos 0)) (c .old .given)) ∙ ap (λ n. getD (a .values .now) n (pos 0)) (c .before .capped .ensures)
+stood c = let a = c .before .before .args in toZ-ofZ (fits32 (getD (a .values .now) (c .before .capped .result) (pos 0)) (c .old .given)) ∙ ap (λ n. getD (a .values .now) n (pos 0))
+    (c .before .capped .ensures)
 
 capped-requires : tie.Need-capped-requires
 capped-requires c κs = search needs
@@ -62,7 +63,8 @@ returns-3 c =
     let s = (c .before .before .before .before .before .before) in
     let x = s .args in
     let op = x .op in
-    rw (ne-eqb op 1 ((c .before .before .before .if1 .left)), ne-eqb op 2 ((c .before .before .if2 .left))) (((c .decide-open .ensures)) ∙ ap (openDecision (x .h) (lowers (x .table .now)) (gaps (x .table .now)) (uppers (x .table .now)) (x .values .now)) (stood (c .before .before .before .before)))
+    rw (ne-eqb op 1 ((c .before .before .before .if1 .left)), ne-eqb op 2 ((c .before .before .if2 .left)))
+    (((c .decide-open .ensures)) ∙ ap (openDecision (x .h) (lowers (x .table .now)) (gaps (x .table .now)) (uppers (x .table .now)) (x .values .now)) (stood (c .before .before .before .before)))
 
 pub decide-draw-spec : {M : Type 1} → statement M
 decide-draw-spec =

@@ -28,7 +28,8 @@ returns : tie.Need-returns
 returns c =
     let s = (c .before .before .before) in
     let a = s .args in
-    decided-refused (measureChecks (a .h) (a .v)) (measureDrawing (a .h) (a .v)) (a .h) (a .old) ((c .refused .ensures) ∙ ap (λ v. refusedDrawing (a .h) v (c .before .before .measure-refusal .result)) (toZ-ofZ (s .fits .old))) (found (c .before .before)) (c .before .if1 .taken)
+    decided-refused (measureChecks (a .h) (a .v)) (measureDrawing (a .h) (a .v)) (a .h) (a .old)
+    ((c .refused .ensures) ∙ ap (λ v. refusedDrawing (a .h) v (c .before .before .measure-refusal .result)) (toZ-ofZ (s .fits .old))) (found (c .before .before)) (c .before .if1 .taken)
 
 capped-requires : tie.Need-capped-requires
 capped-requires c κs = search needs
@@ -46,7 +47,8 @@ returns-2 : tie.Need-returns-2
 returns-2 c =
     let s = (c .before .before .before .before) in
     let a = s .args in
-    rw ((c .with-measures .ensures), (c .before .capped .ensures), toZ-ofZ (s .fits .v)) (decided-fine (measureChecks (a .h) (a .v)) (measureDrawing (a .h) (a .v)) (a .h) (a .old) refl tt (found (c .before .before .before)) (c .before .before .if1 .left))
+    rw ((c .with-measures .ensures), (c .before .capped .ensures), toZ-ofZ (s .fits .v))
+    (decided-fine (measureChecks (a .h) (a .v)) (measureDrawing (a .h) (a .v)) (a .h) (a .old) refl tt (found (c .before .before .before)) (c .before .before .if1 .left))
 
 pub decide-measure-spec : {M : Type 1} → statement M
 decide-measure-spec =

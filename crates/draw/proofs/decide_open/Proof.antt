@@ -26,7 +26,9 @@ refused-requires c κs = search needs
 returns : tie.Need-returns
 returns c =
     let s = (c .before .before .before) in
-    decided-refused (asked s) (openDrawing (s .args .h) (s .args .old)) (s .args .h) (s .args .old) ((c .refused .ensures) ∙ ap (λ v. refusedDrawing (s .args .h) v (c .before .before .open-refusal .result)) (toZ-ofZ (s .fits .old))) (c .before .before .open-refusal .ensures) (c .before .if1 .taken)
+    decided-refused (asked s) (openDrawing (s .args .h) (s .args .old)) (s .args .h) (s .args .old)
+    ((c .refused .ensures) ∙ ap (λ v. refusedDrawing (s .args .h) v (c .before .before .open-refusal .result)) (toZ-ofZ (s .fits .old))) (c .before .before .open-refusal .ensures)
+    (c .before .if1 .taken)
 
 with-open-requires : tie.Need-with-open-requires
 with-open-requires c κs = search needs
@@ -34,7 +36,8 @@ with-open-requires c κs = search needs
 returns-2 : tie.Need-returns-2
 returns-2 c =
     let s = (c .before .before .before) in
-    rw ((c .with-open .ensures), toZ-ofZ (s .fits .old)) (decided-fine (asked s) (openDrawing (s .args .h) (s .args .old)) (s .args .h) (s .args .old) refl tt (c .before .before .open-refusal .ensures) (c .before .if1 .left))
+    rw ((c .with-open .ensures), toZ-ofZ (s .fits .old))
+    (decided-fine (asked s) (openDrawing (s .args .h) (s .args .old)) (s .args .h) (s .args .old) refl tt (c .before .before .open-refusal .ensures) (c .before .if1 .left))
 
 pub decide-open-spec : {M : Type 1} → statement M
 decide-open-spec =

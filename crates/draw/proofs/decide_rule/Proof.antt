@@ -32,7 +32,8 @@ found c =
     let s = c .before .before .before in
     let h = s .args .h in
     c .rule-refusal .ensures
-    ∙ ap₂ (λ a b. refusalOf (first (ruleChecks h a (toZ w32 (ofZ w32 (s .args .c))) b (toZ w32 (ofZ w32 (s .args .f)))))) (c .before .before .number .ensures ∙ ap natural (toZ-ofZ (s .fits .a))) (c .before .number2 .ensures ∙ ap natural (toZ-ofZ (s .fits .b)))
+    ∙ ap₂ (λ a b. refusalOf (first (ruleChecks h a (toZ w32 (ofZ w32 (s .args .c))) b (toZ w32 (ofZ w32 (s .args .f)))))) (c .before .before .number .ensures ∙ ap natural (toZ-ofZ (s .fits .a)))
+    (c .before .number2 .ensures ∙ ap natural (toZ-ofZ (s .fits .b)))
     ∙ ap₂ (λ x y. refusalOf (first (ruleChecks h (natural (s .args .a)) x (natural (s .args .b)) y))) (toZ-ofZ (s .fits .c)) (toZ-ofZ (s .fits .f))
 
 number-requires : tie.Need-number-requires
@@ -50,7 +51,8 @@ refused-requires c κs = search needs
 returns : tie.Need-returns
 returns c =
     let s = (c .before .before .before .before .before) in
-    decided-refused (asked s) (drawing s) (s .args .h) (s .args .old) ((c .refused .ensures) ∙ ap (λ v. refusedDrawing (s .args .h) v (c .before .before .rule-refusal .result)) (toZ-ofZ (s .fits .old))) (found (c .before .before)) (c .before .if1 .taken)
+    decided-refused (asked s) (drawing s) (s .args .h) (s .args .old)
+    ((c .refused .ensures) ∙ ap (λ v. refusedDrawing (s .args .h) v (c .before .before .rule-refusal .result)) (toZ-ofZ (s .fits .old))) (found (c .before .before)) (c .before .if1 .taken)
 
 capped-requires : tie.Need-capped-requires
 capped-requires c κs = search needs
@@ -67,7 +69,8 @@ with-rules-requires c κs = search needs
 returns-2 : tie.Need-returns-2
 returns-2 c =
     let s = (c .before .before .before .before .before .before) in
-    rw ((c .with-rules .ensures), (c .before .capped .ensures), toZ-ofZ (s .fits .old)) (decided-fine (asked s) (drawing s) (s .args .h) (s .args .old) refl tt (found (c .before .before .before)) (c .before .before .if1 .left))
+    rw ((c .with-rules .ensures), (c .before .capped .ensures), toZ-ofZ (s .fits .old))
+    (decided-fine (asked s) (drawing s) (s .args .h) (s .args .old) refl tt (found (c .before .before .before)) (c .before .before .if1 .left))
 
 pub decide-rule-spec : {M : Type 1} → statement M
 decide-rule-spec =

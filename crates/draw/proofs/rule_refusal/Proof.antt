@@ -60,11 +60,23 @@ limits-ok-requires c κs = search needs
 
 returns-4 : tie.Need-returns-4
 returns-4 c =
-    rw (mode-fine (c .before .before .before .before .before .before .before), room (c .before .before .before .before .before), sym (pair (c .before .before .before)) ∙ not-false _ (c .before .before .if3 .left), sym (limits (c .before)) ∙ c .if4 .taken)
+    rw (
+      mode-fine (c .before .before .before .before .before .before .before),
+      room (c .before .before .before .before .before),
+      sym (pair (c .before .before .before))
+          ∙ not-false _ (c .before .before .if3 .left),
+      sym (limits (c .before)) ∙ c .if4 .taken,
+    )
 
 returns-5 : tie.Need-returns-5
 returns-5 c =
-    rw (mode-fine (c .before .before .before .before .before .before .before), room (c .before .before .before .before .before), sym (pair (c .before .before .before)) ∙ not-false _ (c .before .before .if3 .left), sym (limits (c .before)) ∙ c .if4 .left)
+    rw (
+      mode-fine (c .before .before .before .before .before .before .before),
+      room (c .before .before .before .before .before),
+      sym (pair (c .before .before .before))
+          ∙ not-false _ (c .before .before .if3 .left),
+      sym (limits (c .before)) ∙ c .if4 .left,
+    )
 
 pub rule-refusal-spec : {M : Type 1} → statement M
 rule-refusal-spec =

@@ -97,7 +97,12 @@ returns-2 c =
 returns-3 : tie.Need-returns-3
 unfolding changeRuling
 returns-3 c =
-    rw (is-frozen (c .before .before .before .before .before) ∙ (c .before .before .before .before .if1 .left), is-full (c .before .before .before) ∙ (c .before .before .if2 .left), lt-ltb 999999 _ (c .if3 .taken))
+    rw (
+      is-frozen (c .before .before .before .before .before) ∙ (c .before .before .before .before .if1 .left),
+      is-full (c .before .before .before) ∙ (c .before .before .if2 .left),
+      lt-ltb 999999 _
+          (c .if3 .taken),
+    )
 
 apply-requires : tie.Need-apply-requires
 apply-requires c κs = search needs
@@ -111,7 +116,14 @@ enum-told c = search needs
 returns-4 : tie.Need-returns-4
 unfolding changeRuling
 returns-4 c =
-    rw (is-frozen (c .before .before .before .before .before .before .before .before) ∙ (c .before .before .before .before .before .before .before .if1 .left), is-full (c .before .before .before .before .before .before) ∙ (c .before .before .before .before .before .if2 .left), le-ltb 999999 _ (c .before .before .before .if3 .left), ranged (c .before .before) ∙ ranged-out (y (c .before .before)) (sym (c .enum-told .given .1) ∙ gives (c .before .before)))
+    rw (
+      is-frozen (c .before .before .before .before .before .before .before .before) ∙ (c .before .before .before .before .before .before .before .if1 .left),
+      is-full
+          (c .before .before .before .before .before .before) ∙ (c .before .before .before .before .before .if2 .left),
+      le-ltb 999999 _ (c .before .before .before .if3 .left),
+      ranged
+          (c .before .before) ∙ ranged-out (y (c .before .before)) (sym (c .enum-told .given .1) ∙ gives (c .before .before)),
+    )
 
 hold-requires : tie.Need-hold-requires
 hold-requires c κs = search needs
@@ -119,12 +131,33 @@ hold-requires c κs = search needs
 returns-5 : tie.Need-returns-5
 unfolding changeRuling
 returns-5 c =
-    rw (is-frozen (c .before .before .before .before .before .before .before .before .before .before .before .before) ∙ (c .before .before .before .before .before .before .before .before .before .before .before .if1 .left), is-full (c .before .before .before .before .before .before .before .before .before .before) ∙ (c .before .before .before .before .before .before .before .before .before .if2 .left), le-ltb 999999 _ (c .before .before .before .before .before .before .before .if3 .left), ranged (c .before .before .before .before .before .before) ∙ (made (c .before)) .0, tested (c .before) ∙ not-true _ (c .if4 .taken))
+    rw (
+      is-frozen (c .before .before .before .before .before .before .before .before .before .before .before .before)
+          ∙ (c .before .before .before .before .before .before .before .before .before .before .before .if1 .left),
+      is-full
+          (c .before .before .before .before .before .before .before .before .before .before) ∙ (c .before .before .before .before .before .before .before .before .before .if2 .left),
+      le-ltb
+          999999 _ (c .before .before .before .before .before .before .before .if3 .left),
+      ranged (c .before .before .before .before .before .before) ∙ (made (c .before)) .0,
+      tested
+          (c .before) ∙ not-true _ (c .if4 .taken),
+    )
 
 returns-6 : tie.Need-returns-6
 unfolding changeRuling
 returns-6 c =
-    rw (is-frozen (c .before .before .before .before .before .before .before .before .before .before .before .before) ∙ (c .before .before .before .before .before .before .before .before .before .before .before .if1 .left), is-full (c .before .before .before .before .before .before .before .before .before .before) ∙ (c .before .before .before .before .before .before .before .before .before .if2 .left), le-ltb 999999 _ (c .before .before .before .before .before .before .before .if3 .left), ranged (c .before .before .before .before .before .before) ∙ (made (c .before)) .0, tested (c .before) ∙ not-false _ (c .if4 .left)) (ap (Granted (c .before .before .before .before .before .before .before .before .before .before .before .before .before .args .change)) (same (c .before)))
+    rw (
+      is-frozen (c .before .before .before .before .before .before .before .before .before .before .before .before)
+          ∙ (c .before .before .before .before .before .before .before .before .before .before .before .if1 .left),
+      is-full
+          (c .before .before .before .before .before .before .before .before .before .before) ∙ (c .before .before .before .before .before .before .before .before .before .if2 .left),
+      le-ltb
+          999999 _ (c .before .before .before .before .before .before .before .if3 .left),
+      ranged (c .before .before .before .before .before .before) ∙ (made (c .before)) .0,
+      tested
+          (c .before) ∙ not-false _ (c .if4 .left),
+    )
+    (ap (Granted (c .before .before .before .before .before .before .before .before .before .before .before .before .before .args .change)) (same (c .before)))
 
 pub change-ruling-spec : {M : Type 1} → statement M
 change-ruling-spec =

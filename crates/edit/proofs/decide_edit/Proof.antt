@@ -86,15 +86,28 @@ ok23 : (c : tie.After-one-to2) → let a = (c .before .before .before .before .b
     oneTo (length (row (a .values .now) (offsetOf (natural (a .l .a))) (measuresIn (a .h)))) (natural (a .l .d)) ≡ c .one-to2 .result
 ok23 c =
     let a = (c .before .before .before .before .before .before .before .before .before .before .before .before .before .before .args) in
-    ap₂ oneTo (length-span (offsetOf (natural (a .l .a))) (measuresIn (a .h)) (λ i. getD (a .values .now) i (pos 0)) ∙ sym ((c .before .capped .ensures))) (sym (measured (c .before .before))) ∙ sym (c .one-to2 .ensures)
+    ap₂ oneTo (length-span (offsetOf (natural (a .l .a))) (measuresIn (a .h)) (λ i. getD (a .values .now) i (pos 0)) ∙ sym ((c .before .capped .ensures))) (sym (measured (c .before .before)))
+    ∙ sym (c .one-to2 .ensures)
 
-makes : (c : tie.After-make) → let a = (c .before .before .before .before .before .before .before .before .before .before .before .before .before .before .before .before .before .before .before .args) in c .make .result ≡ madeOf (natural (a .l .e)) (a .l .f)
-makes c = c .make .ensures ∙ ap₂ madeOf ((c .before .before .number3 .ensures) ∙ ap natural (to-e (c .before .before .before .before .before .before .before .before .before .before .before .before .before .before .before .before))) (to-f (c .before .before .before .before .before .before .before .before .before .before .before .before .before .before .before .before))
+makes : (c : tie.After-make)
+    → let a = (c .before .before .before .before .before .before .before .before .before .before .before .before .before .before .before .before .before .before .before .args) in c .make
+    .result ≡ madeOf (natural (a .l .e)) (a .l .f)
+makes c = c .make .ensures
+    ∙ ap₂ madeOf ((c .before .before .number3 .ensures)
+    ∙ ap natural (to-e (c .before .before .before .before .before .before .before .before .before .before .before .before .before .before .before .before)))
+    (to-f (c .before .before .before .before .before .before .before .before .before .before .before .before .before .before .before .before))
 
-ok25 : (c : tie.After-may-follow) → let a = (c .before .before .before .before .before .before .before .before .before .before .before .before .before .before .before .before .before .before .before .before .before .before .before .before .before .args) in no25 (keptAt 0 (recordOf (a .i) (a .seen))) (a .l .b) (a .l .c) .passes ≡ c .may-follow .result
+ok25 : (c : tie.After-may-follow)
+    → let a = (c .before .before .before .before .before .before .before .before .before .before .before .before .before .before .before .before .before .before .before .before .before .before
+    .before .before .before .args) in no25 (keptAt 0 (recordOf (a .i) (a .seen))) (a .l .b) (a .l .c) .passes ≡ c .may-follow .result
 ok25 c =
-    let a = (c .before .before .before .before .before .before .before .before .before .before .before .before .before .before .before .before .before .before .before .before .before .before .before .before .before .args) in
-    ap₂ (λ x y. no25 (keptAt 0 (recordOf (a .i) (a .seen))) x y .passes) (sym (to-b (c .before .before .before .before .before .before .before .before .before .before .before .before .before .before .before .before .before .before .before .before .before .before))) (sym (to-c (c .before .before .before .before .before .before .before .before .before .before .before .before .before .before .before .before .before .before .before .before .before .before))) ∙ sym (c .may-follow .ensures)
+    let a = (c .before .before .before .before .before .before .before .before .before .before .before .before .before .before .before .before .before .before .before .before .before .before .before
+    .before .before .args) in
+    ap₂ (λ x y. no25 (keptAt 0 (recordOf (a .i) (a .seen))) x y .passes)
+    (sym (to-b (c .before .before .before .before .before .before .before .before .before .before .before .before .before .before .before .before .before .before .before .before .before
+    .before))) (sym (to-c
+    (c .before .before .before .before .before .before .before .before .before .before .before .before .before .before .before .before .before .before .before .before .before .before)))
+    ∙ sym (c .may-follow .ensures)
 
 -- what passed
 yes31 : (c : tie.Else1) → let h = (c .before .before .args .h) in (is whole (modeOf (h .mode)) || apart (modeOf (h .mode))) ≡ true
@@ -110,20 +123,35 @@ yes23 : (c : tie.Else4) → let a = (c .before .before .before .before .before .
     oneTo (length (row (a .values .now) (offsetOf (natural (a .l .a))) (measuresIn (a .h)))) (natural (a .l .d)) ≡ true
 yes23 c = ok23 (c .before) ∙ not-false _ (c .if4 .left)
 
-yes25 : (c : tie.Else5) → let a = (c .before .before .before .before .before .before .before .before .before .before .before .before .before .before .before .before .before .before .before .before .before .before .before .before .before .before .args) in no25 (keptAt 0 (recordOf (a .i) (a .seen))) (a .l .b) (a .l .c) .passes ≡ true
+yes25 : (c : tie.Else5)
+    → let a = (c .before .before .before .before .before .before .before .before .before .before .before .before .before .before .before .before .before .before .before .before .before .before
+    .before .before .before .before .args) in no25 (keptAt 0 (recordOf (a .i) (a .seen))) (a .l .b) (a .l .c) .passes ≡ true
 yes25 c = ok25 (c .before) ∙ not-false _ (c .if5 .left)
 
 -- the value that stands at the edit's place is the measure's
-stands : (c : tie.After-offset) → let a = (c .before .before .before .before .before .before .before .before .before .before .before .before .before .before .before .before .before .before .before .before .before .before .before .before .before .before .before .before .before .before .before .args) in getD (a .values .now) ((c .before .before .spot .result)) (pos 0) ≡ value (row (a .values .now) (c .offset .result) (measuresIn (a .h))) ((c .before .before .before .before .before .before .before .before .before .before .before .before .before .before .before .before .before .before .before .number2 .result))
+stands : (c : tie.After-offset)
+    → let a = (c .before .before .before .before .before .before .before .before .before .before .before .before .before .before .before .before .before .before .before .before .before .before
+    .before .before .before .before .before .before .before .before .before .args) in getD (a .values .now) ((c .before .before .spot .result)) (pos 0) ≡ value
+    (row (a .values .now) (c .offset .result) (measuresIn (a .h)))
+    ((c .before .before .before .before .before .before .before .before .before .before .before .before .before .before .before .before .before .before .before .number2 .result))
 stands c =
-    let a = (c .before .before .before .before .before .before .before .before .before .before .before .before .before .before .before .before .before .before .before .before .before .before .before .before .before .before .before .before .before .before .before .args) in
+    let a = (c .before .before .before .before .before .before .before .before .before .before .before .before .before .before .before .before .before .before .before .before .before .before .before
+    .before .before .before .before .before .before .before .before .args) in
     let n = length-span (offsetOf (natural (a .l .a))) (measuresIn (a .h)) (λ i. getD (a .values .now) i (pos 0)) in
     let r = range _ (natural (a .l .d)) (is-yes (yes23 (c .before .before .before .before .before .before .before .before .before .before .before .before .before .before .before .before))) in
-    let from = c .offset .ensures .0 ∙ ap offsetOf (side (c .before .before .before .before .before .before .before .before .before .before .before .before .before .before .before .before .before .before .before .before .before .before .before .before .before .before .before)) in
-    let spot = (c .before .before .spot .ensures .0) ∙ (λ j. spotOf (natural (to-a (c .before .before .before .before .before .before .before .before .before .before .before .before .before .before .before .before .before .before .before .before .before .before .before .before .before .before .before .before) j)) (natural (to-d (c .before .before .before .before .before .before .before .before .before .before .before .before .before .before .before .before .before .before .before .before .before .before .before .before .before .before .before .before) j))) in
+    let from = c .offset .ensures .0
+    ∙ ap offsetOf (side (c .before .before .before .before .before .before .before .before .before .before .before .before .before .before .before .before .before .before .before .before .before
+    .before .before .before .before .before .before)) in
+    let spot = (c .before .before .spot .ensures .0)
+    ∙ (λ j. spotOf (natural
+    (to-a (c .before .before .before .before .before .before .before .before .before .before .before .before .before .before .before .before .before .before .before .before .before .before
+    .before .before .before .before .before .before) j))
+    (natural (to-d (c .before .before .before .before .before .before .before .before .before .before .before .before .before .before .before .before .before .before .before .before
+    .before .before .before .before .before .before .before .before) j))) in
     ap (λ i. getD (a .values .now) i (pos 0)) spot
     ∙ stands-at (a .values .now) (natural (a .l .a)) (measuresIn (a .h)) (natural (a .l .d)) (r .0) (omega (arith, n, r .1)) (omega arith)
-    ∙ (λ j. value (row (a .values .now) (sym from j) (measuresIn (a .h))) (sym (measured (c .before .before .before .before .before .before .before .before .before .before .before .before .before .before .before .before .before .before .before)) j))
+    ∙ (λ j. value (row (a .values .now) (sym from j) (measuresIn (a .h)))
+    (sym (measured (c .before .before .before .before .before .before .before .before .before .before .before .before .before .before .before .before .before .before .before)) j))
 
 editable-requires : tie.Need-editable-requires
 editable-requires c κs = search needs
@@ -165,7 +193,12 @@ one-to-requires-2 c κs = search needs
 returns-4 : tie.Need-returns-4
 unfolding editRuling
 returns-4 c =
-    rw (yes31 (c .before .before .before .before .before .before .before .before .before .before .before .before .before), yes21 (c .before .before .before .before .before .before .before .before), yes22 (c .before .before .before .before .before), ok23 (c .before) ∙ not-true _ (c .if4 .taken))
+    rw (
+      yes31 (c .before .before .before .before .before .before .before .before .before .before .before .before .before),
+      yes21 (c .before .before .before .before .before .before .before .before),
+      yes22 (c .before .before .before .before .before),
+      ok23 (c .before) ∙ not-true _ (c .if4 .taken),
+    )
 
 number-requires-3 : tie.Need-number-requires-3
 number-requires-3 c κs = search needs
@@ -182,7 +215,16 @@ enum-told c = search needs
 returns-5 : tie.Need-returns-5
 unfolding editRuling
 returns-5 c =
-    rw (yes31 (c .before .before .before .before .before .before .before .before .before .before .before .before .before .before .before .before .before .before .before), yes21 (c .before .before .before .before .before .before .before .before .before .before .before .before .before .before), yes22 (c .before .before .before .before .before .before .before .before .before .before .before), yes23 (c .before .before .before .before .before .before), made-no _ _ (sym (c .enum-told .given .1) ∙ makes (c .before .before)))
+    rw (
+      yes31 (c .before .before .before .before .before .before .before .before .before .before .before .before .before .before .before .before .before .before .before),
+      yes21
+          (c .before .before .before .before .before .before .before .before .before .before .before .before .before .before),
+      yes22
+          (c .before .before .before .before .before .before .before .before .before .before .before),
+      yes23 (c .before .before .before .before .before .before),
+      made-no _ _
+          (sym (c .enum-told .given .1) ∙ makes (c .before .before)),
+    )
 
 may-follow-requires : tie.Need-may-follow-requires
 may-follow-requires c κs = search needs
@@ -191,7 +233,17 @@ returns-6 : tie.Need-returns-6
 unfolding editRuling
 returns-6 c =
     let m = made-yes _ _ _ (sym (c .before .before .before .before .before .made .given .1) ∙ makes (c .before .before .before .before .before .before .before)) in
-    rw (yes31 (c .before .before .before .before .before .before .before .before .before .before .before .before .before .before .before .before .before .before .before .before .before .before .before .before), yes21 (c .before .before .before .before .before .before .before .before .before .before .before .before .before .before .before .before .before .before .before), yes22 (c .before .before .before .before .before .before .before .before .before .before .before .before .before .before .before .before), yes23 (c .before .before .before .before .before .before .before .before .before .before .before), m .0, ok25 (c .before) ∙ not-true _ (c .if5 .taken))
+    rw (
+      yes31 (c .before .before .before .before .before .before .before .before .before .before .before .before .before .before .before .before .before .before .before .before .before .before
+          .before .before),
+      yes21 (c .before .before .before .before .before .before .before .before .before .before .before .before .before .before .before .before .before .before .before),
+      yes22
+          (c .before .before .before .before .before .before .before .before .before .before .before .before .before .before .before .before),
+      yes23
+          (c .before .before .before .before .before .before .before .before .before .before .before),
+      m .0,
+      ok25 (c .before) ∙ not-true _ (c .if5 .taken),
+    )
 
 spot-requires : tie.Need-spot-requires
 spot-requires c κs = search needs
@@ -207,24 +259,48 @@ offset-requires c κs = search needs
 
 change-ruling-requires : tie.Need-change-ruling-requires
 change-ruling-requires c κs =
-    toZ-ofZ (fits32 (getD ((c .before .before .before .before .before .before .before .before .before .before .before .before .before .before .before .before .before .before .before .before .before .before .before .before .before .before .before .before .before .before .before .args .values .now)) (c .before .before .spot .result) (pos 0)) (c .before .old .given)) ∙ stands c
+    toZ-ofZ (fits32 (getD
+    ((c .before .before .before .before .before .before .before .before .before .before .before .before .before .before .before .before .before .before .before .before .before .before .before
+    .before .before .before .before .before .before .before .before .args .values .now)) (c .before .before .spot .result) (pos 0)) (c .before .old .given)) ∙ stands c
 
 returns-7 : tie.Need-returns-7
 unfolding editRuling changeRuling
 returns-7 c =
-    let a = (c .before .before .before .before .before .before .before .before .before .before .before .before .before .before .before .before .before .before .before .before .before .before .before .before .before .before .before .before .before .before .before .before .args) in
+    let a = (c .before .before .before .before .before .before .before .before .before .before .before .before .before .before .before .before .before .before .before .before .before .before .before
+    .before .before .before .before .before .before .before .before .before .args) in
     let d = (c .before .before .before .before .before .before .before .before .before .before .before .made .given .0 .0) in
-    let made = sym (c .before .before .before .before .before .before .before .before .before .before .before .made .given .1) ∙ makes (c .before .before .before .before .before .before .before .before .before .before .before .before .before) in
+    let made = sym (c .before .before .before .before .before .before .before .before .before .before .before .made .given .1)
+    ∙ makes (c .before .before .before .before .before .before .before .before .before .before .before .before .before) in
     let m = made-yes (natural (a .l .e)) (a .l .f) d made in
     let vs = row (a .values .now) (offsetOf (natural (a .l .a))) (measuresIn (a .h)) in
     let n = natural (a .l .d) in
     let test = testedBy (a .sound) (a .index .now) in
     let firmly = firmBy (a .sound) (a .index .now) in
-    let from = (c .before .offset .ensures .0) ∙ ap offsetOf (side (c .before .before .before .before .before .before .before .before .before .before .before .before .before .before .before .before .before .before .before .before .before .before .before .before .before .before .before .before)) in
+    let from = (c .before .offset .ensures .0)
+    ∙ ap offsetOf (side (c .before .before .before .before .before .before .before .before .before .before .before .before .before .before .before .before .before .before .before .before .before
+    .before .before .before .before .before .before .before)) in
     let on = measured (c .before .before .before .before .before .before .before .before .before .before .before .before .before .before .before .before .before .before .before .before) in
-    let tail : model.Change → Change → Ruling = λ x e. ruled (first (changeChecks (test n (lowers (a .table .now)) (gaps (a .table .now)) (uppers (a .table .now)) (min (a .h .rules) 64) (applied x (value vs n)) vs) (modeOf (a .h .mode)) (firmly (lowers (a .table .now)) (uppers (a .table .now)) (firms (a .table .now)) (min (a .h .rules) 64) n) (keptIn (a .h)) (a .h .next) vs n x)) e (applied x (value vs n)) in
-    rw (yes31 (c .before .before .before .before .before .before .before .before .before .before .before .before .before .before .before .before .before .before .before .before .before .before .before .before .before .before .before .before .before .before), yes21 (c .before .before .before .before .before .before .before .before .before .before .before .before .before .before .before .before .before .before .before .before .before .before .before .before .before), yes22 (c .before .before .before .before .before .before .before .before .before .before .before .before .before .before .before .before .before .before .before .before .before .before), yes23 (c .before .before .before .before .before .before .before .before .before .before .before .before .before .before .before .before .before), m .0, yes25 (c .before .before .before .before .before .before))
-    ((c .change-ruling .ensures) ∙ (λ j. changeRuling test firmly (a .h) (lowers (a .table .now)) (gaps (a .table .now)) (uppers (a .table .now)) (firms (a .table .now)) (a .values .now) (from j) (on j) d) ∙ ap (λ x. tail x d) (m .1) ∙ ap (λ e. tail (changeOf (natural (a .l .e)) (a .l .f)) e) (ap changeIn made))
+    let tail : model.Change → Change
+    → Ruling = λ x e. ruled
+    (first (changeChecks (test n (lowers (a .table .now)) (gaps (a .table .now)) (uppers (a .table .now)) (min (a .h .rules) 64) (applied x (value vs n)) vs) (modeOf (a .h .mode))
+    (firmly (lowers (a .table .now)) (uppers (a .table .now)) (firms (a .table .now)) (min (a .h .rules) 64) n) (keptIn (a .h)) (a .h .next) vs n x)) e (applied x (value vs n)) in
+    rw (
+      yes31 (c .before .before .before .before .before .before .before .before .before .before .before .before .before .before .before .before .before .before .before .before .before .before
+          .before .before .before .before .before .before .before .before),
+      yes21
+          (c .before .before .before .before .before .before .before .before .before .before .before .before .before .before .before .before .before .before .before .before .before .before .before
+          .before .before),
+      yes22
+          (c .before .before .before .before .before .before .before .before .before .before .before .before .before .before .before .before .before .before .before .before .before
+          .before),
+      yes23 (c .before .before .before .before .before .before .before .before .before .before .before .before .before .before .before .before .before),
+      m .0,
+      yes25
+          (c .before .before .before .before .before .before),
+    )
+    ((c .change-ruling .ensures)
+    ∙ (λ j. changeRuling test firmly (a .h) (lowers (a .table .now)) (gaps (a .table .now)) (uppers (a .table .now)) (firms (a .table .now)) (a .values .now) (from j) (on j) d)
+    ∙ ap (λ x. tail x d) (m .1) ∙ ap (λ e. tail (changeOf (natural (a .l .e)) (a .l .f)) e) (ap changeIn made))
 
 pub decide-edit-spec : {M : Type 1} → statement M
 decide-edit-spec =

@@ -50,7 +50,15 @@ returns-2 c =
     let b = (c .before .before .before .before .number2 .ensures) ∙ ap natural (toZ-ofZ (fits32 (l .b) (g .1 .1 .0 .1))) in
     let e = (c .before .before .number3 .ensures) ∙ ap natural (toZ-ofZ (fits32 (l .c) (g .1 .1 .1 .0 .1))) in
     let m = (c .number4 .ensures) ∙ ap natural (toZ-ofZ (fits32 (l .d) (g .1 .1 .1 .1 .0 .1))) in
-    rw (sym (c .before .before .before .before .before .before .before .before .before .before .is-whole .ensures) ∙ (c .before .before .before .before .before .before .before .before .before .if1 .left), (c .before .before .before .before .before .before .before .before .mode-number .ensures), a, b, e, m)
+    rw (
+      sym (c .before .before .before .before .before .before .before .before .before .before .is-whole .ensures)
+          ∙ (c .before .before .before .before .before .before .before .before .before .if1 .left),
+      (c .before .before .before .before .before .before .before .before .mode-number .ensures),
+      a,
+      b,
+      e,
+      m,
+    )
 
 pub edit-record-spec : {M : Type 1} → statement M
 edit-record-spec =

@@ -29,7 +29,9 @@ number-requires c κs = search needs
 
 returns-3 : tie.Need-returns-3
 returns-3 c =
-    rw (nought (c .before .before .before .before .before) ∙ (c .before .before .before .before .if1 .left), ne-eqb _ 0 (c .before .before .before .if2 .left), (c .before .before .if3 .taken)) (ap (eqb (c .before .before .before .before .before .before .args .seen .client)) ((c .before .number .ensures) ∙ ap natural (toZ-ofZ (c .before .before .before .before .before .before .fits .client))))
+    rw (nought (c .before .before .before .before .before) ∙ (c .before .before .before .before .if1 .left), ne-eqb _ 0 (c .before .before .before .if2 .left), (c .before .before .if3 .taken))
+    (ap (eqb (c .before .before .before .before .before .before .args .seen .client))
+    ((c .before .number .ensures) ∙ ap natural (toZ-ofZ (c .before .before .before .before .before .before .fits .client))))
 
 returns-4 : tie.Need-returns-4
 returns-4 c =

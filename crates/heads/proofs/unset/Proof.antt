@@ -49,15 +49,23 @@ loop-again c =
     let i = (c .before .before .before .loop .i) in
     let fs = (c .before .before .before .before .before .args .flags .now) in
     let o = bit-one (not (getD fs i false)) in
-    let e = (c .bit-unless .ensures) in
-    (omega arith, (c .before .before .before .loop .inv .1), omega (arith, (c .before .before .before .loop .inv .2)), unset-next fs i ((c .before .before .before .loop .k)) ((c .bit-unless .result)) (omega (arith, (c .before .before .before .loop .inv .1))) ((c .before .before .before .loop .inv .3)) e)
+    let e = (c .bit-unless .ensures) in (
+      omega arith,
+      (c .before .before .before .loop .inv .1),
+      omega (arith, (c .before .before .before .loop .inv .2)),
+      unset-next fs i ((c .before .before .before .loop .k))
+          ((c .bit-unless .result)) (omega (arith, (c .before .before .before .loop .inv .1))) ((c .before .before .before .loop .inv .3)) e,
+    )
 
 returns : tie.Need-returns Inv-loop μ-loop
 returns c =
     let e = (c .before .before .side-count .ensures .0) in
     let i = (c .before .loop .i) in
-    let same : i ≡ (c .before .before .side-count .result) = omega (arith, (c .before .loop .inv .0)) in
-    ((c .before .loop .inv .3) ∙ ap (unsetIn ((c .before .before .before .args .flags .now))) (same ∙ e), omega (arith, (c .before .loop .inv .0), (c .before .loop .inv .1), (c .before .loop .inv .2)))
+    let same : i ≡ (c .before .before .side-count .result) = omega (arith, (c .before .loop .inv .0)) in (
+      (c .before .loop .inv .3) ∙ ap (unsetIn ((c .before .before .before .args .flags .now))) (same ∙ e),
+      omega
+          (arith, (c .before .loop .inv .0), (c .before .loop .inv .1), (c .before .loop .inv .2)),
+    )
 
 pub unset-spec : {M : Type 1} → statement M
 unset-spec =

@@ -21,7 +21,8 @@ use Rattle.moves.proofs.tell.Reads as tell-reads
 use Rattle.heads.proofs.index.Reads as index-reads
 use Rattle.moves.proofs.confirm_refusal.Reads as confirm-refusal-reads
 
-side : (c : tie.After-index) → let s = c .before .before in (f : Frame) (lower : List ℕ) (gap : List ℤ) (upper : List ℕ) (firm : List Bool) (edits : List EditRecord) → Unsent f (natural (s .args .s)) (s .args .unsent) edits
+side : (c : tie.After-index) → let s = c .before .before in (f : Frame) (lower : List ℕ) (gap : List ℤ) (upper : List ℕ) (firm : List Bool) (edits : List EditRecord)
+    → Unsent f (natural (s .args .s)) (s .args .unsent) edits
     → Named (around f lower gap upper firm edits) (s .args .s) (c .before .number .result) (c .index .result) (s .args .unsent)
 side c f lower gap upper firm edits known =
     let s = c .before .before in
@@ -48,7 +49,8 @@ returns c =
     λ base draft values arrived lower gap upper firm edits known.
     let f = frameFrom (a .h) base draft values arrived (a .confirmed .now) in
     let p = around f lower gap upper firm edits in
-    rw ((c .deny .ensures)) (refuses (confirm-checked p (a .s) (side (c .before .before .before .before) f lower gap upper firm edits known) (c .before .before .confirm-refusal .ensures)) (c .before .if1 .taken))
+    rw ((c .deny .ensures))
+    (refuses (confirm-checked p (a .s) (side (c .before .before .before .before) f lower gap upper firm edits known) (c .before .before .confirm-refusal .ensures)) (c .before .if1 .taken))
 
 put-flag-requires : tie.Need-put-flag-requires
 put-flag-requires c κs = search needs
@@ -63,7 +65,8 @@ returns-2 c =
     let f = frameFrom (a .h) base draft values arrived (a .confirmed .now) in
     let p = around f lower gap upper firm edits in
     let w = side (c .before .before .before .before .before .before) f lower gap upper firm edits known in
-    rw ((c .tell .ensures), (c .before .put-flag .ensures .0)) (confirm-accepts p (a .s) w (confirm-checked p (a .s) w (c .before .before .before .before .confirm-refusal .ensures)) (c .before .put-flag .ensures .1) (c .before .before .before .if1 .left))
+    rw ((c .tell .ensures), (c .before .put-flag .ensures .0))
+    (confirm-accepts p (a .s) w (confirm-checked p (a .s) w (c .before .before .before .before .confirm-refusal .ensures)) (c .before .put-flag .ensures .1) (c .before .before .before .if1 .left))
 
 pub confirm-in-spec : {M : Type 1} → statement M
 confirm-in-spec =

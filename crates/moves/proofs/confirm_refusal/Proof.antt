@@ -17,8 +17,11 @@ use Rattle.heads.proofs.side_count.Reads as side-count-reads
 -- the mode and the side's number passed
 past : (c : tie.Else2) → let a = c .before .before .before .before .before .args in (modeNumber (modeOf (a .h .mode)) ≡ 4) × (oneTo (sidesIn (a .h)) (a .s) ≡ true)
 past c =
-    let a = c .before .before .before .before .before .args in
-    (sym (c .before .before .before .before .mode-number .ensures) ∙ c .before .before .before .if1 .left, side-tested (a .h) (a .s) (c .before .before .side-count .ensures .0) (c .before .one-to .ensures) (not-false _ (c .if2 .left)))
+    let a = c .before .before .before .before .before .args in (
+      sym (c .before .before .before .before .mode-number .ensures) ∙ c .before .before .before .if1 .left,
+      side-tested (a .h) (a .s) (c .before .before .side-count .ensures .0)
+          (c .before .one-to .ensures) (not-false _ (c .if2 .left)),
+    )
 
 mode-number-requires : tie.Need-mode-number-requires
 mode-number-requires c κs = search needs
@@ -36,7 +39,11 @@ returns-2 : tie.Need-returns-2
 returns-2 c =
     let h = (c .before .before .before .before .before .args .h) in
     let s = (c .before .before .before .before .before .args .s) in
-    rw (side-tested h s ((c .before .before .side-count .ensures .0)) ((c .before .one-to .ensures)) (not-true _ ((c .if2 .taken))), sym ((c .before .before .before .before .mode-number .ensures)) ∙ (c .before .before .before .if1 .left))
+    rw (
+      side-tested h s ((c .before .before .side-count .ensures .0)) ((c .before .one-to .ensures)) (not-true _ ((c .if2 .taken))),
+      sym ((c .before .before .before .before .mode-number .ensures))
+          ∙ (c .before .before .before .if1 .left),
+    )
 
 returns-3 : tie.Need-returns-3
 returns-3 c = let t = past (c .before) in rw (t .1, t .0, (c .if3 .taken))

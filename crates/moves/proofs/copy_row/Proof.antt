@@ -28,8 +28,11 @@ copy-requires-2 c κs = search needs
 returns : tie.Need-returns
 returns c =
     let a = (c .before .before .before .before .before .before .before .before .args) in
-    let l = sized (c .before .before .before .before .before) in
-    ((c .copy2 .ensures) ∙ ap (λ x. copiedIn (a .values .now) x 0 (a .to) 32) (c .before .before .before .before .copy .ensures) ∙ copied-through (a .values .now) _ (a .from) (a .to) 32 refl (omega (arith, l, (c .before .before .before .before .before .before .before .before .pre))), l)
+    let l = sized (c .before .before .before .before .before) in (
+      (c .copy2 .ensures) ∙ ap (λ x. copiedIn (a .values .now) x 0 (a .to) 32) (c .before .before .before .before .copy .ensures) ∙ copied-through (a .values .now) _ (a .from) (a .to) 32 refl
+          (omega (arith, l, (c .before .before .before .before .before .before .before .before .pre))),
+      l,
+    )
 
 pub copy-row-spec : {M : Type 1} → statement M
 copy-row-spec =

@@ -56,8 +56,16 @@ returns-2 c =
     let z = sizes (c .before .before .before .before .before .before .before) in
     λ base lower gap upper firm edits known.
     let p = around (frameFrom (a .h) base (a .draft .now) (a .values .now) (a .arrived .now) (a .confirmed .now)) lower gap upper firm edits in
-    rw ((c .tell .ensures), (c .before .install-head .ensures), (c .before .before .put-flag2 .ensures .0), (c .before .before .before .before .put-flag .ensures .0), (c .before .before .before .before .before .before .copy .ensures))
-    (install-accepts p (install-checked p known (c .before .before .before .before .before .before .before .before .before .before .before .unset .ensures .0) (c .before .before .before .before .before .before .before .before .before .before .install-refusal .ensures)) (z .0) (z .1) (c .before .before .before .before .put-flag .ensures .1) (c .before .before .put-flag2 .ensures .1) (c .before .before .before .before .before .before .before .before .before .if1 .left))
+    rw (
+      (c .tell .ensures),
+      (c .before .install-head .ensures),
+      (c .before .before .put-flag2 .ensures .0),
+      (c .before .before .before .before .put-flag .ensures .0),
+      (c .before .before .before .before .before .before .copy .ensures),
+    )
+    (install-accepts p (install-checked p known (c .before .before .before .before .before .before .before .before .before .before .before .unset .ensures .0)
+    (c .before .before .before .before .before .before .before .before .before .before .install-refusal .ensures)) (z .0) (z .1) (c .before .before .before .before .put-flag .ensures .1)
+    (c .before .before .put-flag2 .ensures .1) (c .before .before .before .before .before .before .before .before .before .if1 .left))
 
 pub install-in-spec : {M : Type 1} → statement M
 install-in-spec =

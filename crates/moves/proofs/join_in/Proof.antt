@@ -21,7 +21,9 @@ returns : tie.Need-returns
 returns c =
     let a = (c .before .before .before .args) in
     λ values lower gap upper firm edits known.
-    rw ((c .deny .ensures)) (join-refuses (around (frameFrom (a .h) (a .base .now) (a .draft .now) values (a .arrived .now) (a .confirmed .now)) lower gap upper firm edits) (λ z. (c .before .if1 .taken) ((c .before .before .mode-number .ensures) ∙ z)))
+    rw ((c .deny .ensures))
+    (join-refuses (around (frameFrom (a .h) (a .base .now) (a .draft .now) values (a .arrived .now) (a .confirmed .now)) lower gap upper firm edits)
+    (λ z. (c .before .if1 .taken) ((c .before .before .mode-number .ensures) ∙ z)))
 
 join-head-requires : tie.Need-join-head-requires
 join-head-requires c κs = search needs
@@ -33,7 +35,9 @@ returns-2 : tie.Need-returns-2
 returns-2 c =
     let a = (c .before .before .before .before .before .before .before .args) in
     λ values lower gap upper firm edits known.
-    rw ((c .tell .ensures), (c .before .join-head .ensures)) (join-accepts (around (frameFrom (a .h) (a .base .now) (a .draft .now) values (a .arrived .now) (a .confirmed .now)) lower gap upper firm edits) (sym (c .before .before .before .before .before .before .mode-number .ensures) ∙ (c .before .before .before .before .before .if1 .left)))
+    rw ((c .tell .ensures), (c .before .join-head .ensures))
+    (join-accepts (around (frameFrom (a .h) (a .base .now) (a .draft .now) values (a .arrived .now) (a .confirmed .now)) lower gap upper firm edits)
+    (sym (c .before .before .before .before .before .before .mode-number .ensures) ∙ (c .before .before .before .before .before .if1 .left)))
 
 pub join-in-spec : {M : Type 1} → statement M
 join-in-spec =

@@ -17,7 +17,8 @@ split-in-requires c κs = search needs
 returns : tie.Need-returns
 returns c =
     let s = (c .before .before .before .before .before .before) in
-    λ lower gap upper firm edits known. rw (eq-eqb _ 4 (c .before .before .before .before .before .if1 .taken)) (rw (← toZ-ofZ (s .fits .a)) ((c .split-in .ensures) (s .args .draft .now) lower gap upper firm edits tt))
+    λ lower gap upper firm edits known. rw (eq-eqb _ 4 (c .before .before .before .before .before .if1 .taken))
+    (rw (← toZ-ofZ (s .fits .a)) ((c .split-in .ensures) (s .args .draft .now) lower gap upper firm edits tt))
 
 join-in-requires : tie.Need-join-in-requires
 join-in-requires c κs = search needs
@@ -25,7 +26,8 @@ join-in-requires c κs = search needs
 returns-2 : tie.Need-returns-2
 returns-2 c =
     let a = (c .before .before .before .before .before .before .before .args) in
-    λ lower gap upper firm edits known. rw (ne-eqb _ 4 (c .before .before .before .before .before .before .if1 .left), eq-eqb _ 6 (c .before .before .before .before .before .if2 .taken)) ((c .join-in .ensures) (a .values .now) lower gap upper firm edits tt)
+    λ lower gap upper firm edits known. rw (ne-eqb _ 4 (c .before .before .before .before .before .before .if1 .left), eq-eqb _ 6 (c .before .before .before .before .before .if2 .taken))
+    ((c .join-in .ensures) (a .values .now) lower gap upper firm edits tt)
 
 stop-in-requires : tie.Need-stop-in-requires
 stop-in-requires c κs = search needs
@@ -33,7 +35,8 @@ stop-in-requires c κs = search needs
 returns-3 : tie.Need-returns-3
 returns-3 c =
     let a = (c .before .before .before .before .before .args) in
-    λ lower gap upper firm edits known. rw (ne-eqb _ 4 (c .before .before .before .before .if1 .left), ne-eqb _ 6 (c .before .before .before .if2 .left), eq-eqb _ 9 (c .before .before .if3 .taken)) ((c .stop-in .ensures) (a .base .now) (a .draft .now) (a .values .now) (a .confirmed .now) lower gap upper firm edits (known .1))
+    λ lower gap upper firm edits known. rw (ne-eqb _ 4 (c .before .before .before .before .if1 .left), ne-eqb _ 6 (c .before .before .before .if2 .left), eq-eqb _ 9 (c .before .before .if3 .taken))
+    ((c .stop-in .ensures) (a .base .now) (a .draft .now) (a .values .now) (a .confirmed .now) lower gap upper firm edits (known .1))
 
 confirm-in-requires : tie.Need-confirm-in-requires
 confirm-in-requires c κs = search needs
@@ -43,7 +46,13 @@ returns-4 c =
     let s = (c .before .before .before .before .before .before) in
     let a = s .args in
     λ lower gap upper firm edits known.
-    rw (ne-eqb _ 4 (c .before .before .before .before .before .if1 .left), ne-eqb _ 6 (c .before .before .before .before .if2 .left), ne-eqb _ 9 (c .before .before .before .if3 .left), eq-eqb _ 10 (c .before .before .if4 .taken))
+    rw (
+      ne-eqb _ 4 (c .before .before .before .before .before .if1 .left),
+      ne-eqb _ 6 (c .before .before .before .before .if2 .left),
+      ne-eqb _ 9 (c .before .before .before .if3 .left),
+      eq-eqb _ 10
+          (c .before .before .if4 .taken),
+    )
     (rw (← toZ-ofZ (s .fits .a)) ((c .confirm-in .ensures) (a .base .now) (a .draft .now) (a .values .now) (a .arrived .now) lower gap upper firm edits (rw (toZ-ofZ (s .fits .a)) (known .0))))
 
 install-in-requires : tie.Need-install-in-requires
@@ -52,7 +61,14 @@ install-in-requires c κs = search needs
 returns-5 : tie.Need-returns-5
 returns-5 c =
     let a = (c .before .before .before .before .before .before .before .before .before .args) in
-    λ lower gap upper firm edits known. rw (ne-eqb _ 4 (c .before .before .before .before .before .before .before .before .if1 .left), ne-eqb _ 6 (c .before .before .before .before .before .before .before .if2 .left), ne-eqb _ 9 (c .before .before .before .before .before .before .if3 .left), ne-eqb _ 10 (c .before .before .before .before .before .if4 .left)) ((c .install-in .ensures) (a .base .now) lower gap upper firm edits (known .1))
+    λ lower gap upper firm edits known. rw (
+      ne-eqb _ 4 (c .before .before .before .before .before .before .before .before .if1 .left),
+      ne-eqb _ 6 (c .before .before .before .before .before .before .before .if2 .left),
+      ne-eqb _ 9
+          (c .before .before .before .before .before .before .if3 .left),
+      ne-eqb _ 10 (c .before .before .before .before .before .if4 .left),
+    )
+    ((c .install-in .ensures) (a .base .now) lower gap upper firm edits (known .1))
 
 pub make-move-spec : {M : Type 1} → statement M
 make-move-spec =

@@ -18,8 +18,11 @@ use Rattle.heads.proofs.side_count.Reads as side-count-reads
 -- the mode and the side's number passed
 past : (c : tie.Else2) → let a = c .before .before .before .before .before .args in (active (modeOf (a .h .mode)) ≡ true) × (oneTo (sidesIn (a .h)) (a .s) ≡ true)
 past c =
-    let a = c .before .before .before .before .before .args in
-    (sym (c .before .before .before .before .is-active .ensures) ∙ not-false _ (c .before .before .before .if1 .left), side-tested (a .h) (a .s) (c .before .before .side-count .ensures .0) (c .before .one-to .ensures) (not-false _ (c .if2 .left)))
+    let a = c .before .before .before .before .before .args in (
+      sym (c .before .before .before .before .is-active .ensures) ∙ not-false _ (c .before .before .before .if1 .left),
+      side-tested (a .h) (a .s) (c .before .before .side-count .ensures .0)
+          (c .before .one-to .ensures) (not-false _ (c .if2 .left)),
+    )
 
 is-active-requires : tie.Need-is-active-requires
 is-active-requires c κs = search needs
@@ -37,7 +40,11 @@ returns-2 : tie.Need-returns-2
 returns-2 c =
     let h = (c .before .before .before .before .before .args .h) in
     let s = (c .before .before .before .before .before .args .s) in
-    rw (sym ((c .before .before .before .before .is-active .ensures)) ∙ not-false _ ((c .before .before .before .if1 .left)), side-tested h s ((c .before .before .side-count .ensures .0)) ((c .before .one-to .ensures)) (not-true _ ((c .if2 .taken))))
+    rw (
+      sym ((c .before .before .before .before .is-active .ensures)) ∙ not-false _ ((c .before .before .before .if1 .left)),
+      side-tested h s ((c .before .before .side-count .ensures .0))
+          ((c .before .one-to .ensures)) (not-true _ ((c .if2 .taken))),
+    )
 
 returns-3 : tie.Need-returns-3
 returns-3 c = let t = past (c .before .before) in rw (t .0, t .1, (c .before .if3 .taken), (c .if4 .taken))

@@ -26,8 +26,11 @@ returns c =
     (rw (sym (c .before .before .before .before .mode-number .ensures) ∙ (c .before .before .before .if1 .taken)) (c .copy .ensures), λ t. sized (c .before .before))
 
 returns-2 : tie.Need-returns-2
-returns-2 c =
-    (rw (← (c .before .mode-number .ensures), ne-eqb _ 1 (c .if1 .left)), λ t. absurd ((c .if1 .left) ((c .before .mode-number .ensures) ∙ eqb→eq (modeNumber (modeOf ((c .before .before .args .h .mode)))) 1 t)))
+returns-2 c = (
+  rw (← (c .before .mode-number .ensures), ne-eqb _ 1 (c .if1 .left)),
+  λ t. absurd
+      ((c .if1 .left) ((c .before .mode-number .ensures) ∙ eqb→eq (modeNumber (modeOf ((c .before .before .args .h .mode)))) 1 t)),
+)
 
 pub split-base-spec : {M : Type 1} → statement M
 split-base-spec = tie.close (tie.spec mode-number-requires copy-requires returns returns-2)

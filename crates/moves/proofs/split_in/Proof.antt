@@ -84,8 +84,23 @@ returns-2 c =
     let w = side (c .before .before .before .before .before .before .before .before .before .before .before .before .before .before .before .before .before) in
     λ draft lower gap upper firm edits known.
     let p = around (frameFrom (a .h) (a .base .now) draft (a .values .now) (a .arrived .now) (a .confirmed .now)) lower gap upper firm edits in
-    rw ((c .tell .ensures), (c .before .split-head .ensures), (c .before .before .put-flag2 .ensures .0), (c .before .before .before .before .put-flag .ensures .0), (c .before .before .before .before .before .before .before .copy-row .ensures .0), (c .before .before .before .before .before .before .before .before .before .before .before .split-base .ensures .0))
-    (split-accepts p (a .s) w (split-checked p (a .s) w (c .before .before .before .before .before .before .before .before .before .before .before .before .before .before .before .before .split-refusal .ensures)) (add-one _ ∙ ap suc (c .before .before .before .before .before .before .before .before .before .before .before .before .before .before .side-count .ensures .0)) (c .before .before .before .before .before .before .before .before .before .offset .ensures .0) (c .before .before .before .before .before .before .before .before .offset2 .ensures .0) (c .before .before .before .before .before .before .index .ensures .0) (c .before .before .before .before .before .before .before .before .before .before .before .split-base .ensures .1) (c .before .before .before .before .before .before .before .copy-row .ensures .1) (c .before .before .before .before .put-flag .ensures .1) (c .before .before .put-flag2 .ensures .1) (c .before .before .before .before .before .before .before .before .before .before .before .before .before .before .before .if1 .left))
+    rw (
+      (c .tell .ensures),
+      (c .before .split-head .ensures),
+      (c .before .before .put-flag2 .ensures .0),
+      (c .before .before .before .before .put-flag .ensures .0),
+      (c .before .before .before .before .before .before .before .copy-row .ensures .0),
+      (c .before .before .before .before .before .before .before .before .before .before .before .split-base .ensures .0),
+    )
+    (split-accepts p (a .s) w
+    (split-checked p (a .s) w (c .before .before .before .before .before .before .before .before .before .before .before .before .before .before .before .before .split-refusal .ensures))
+    (add-one _ ∙ ap suc (c .before .before .before .before .before .before .before .before .before .before .before .before .before .before .side-count .ensures .0))
+    (c .before .before .before .before .before .before .before .before .before .offset .ensures .0)
+    (c .before .before .before .before .before .before .before .before .offset2 .ensures .0) (c .before .before .before .before .before .before .index .ensures .0)
+    (c .before .before .before .before .before .before .before .before .before .before .before .split-base .ensures .1)
+    (c .before .before .before .before .before .before .before .copy-row .ensures .1) (c .before .before .before .before .put-flag .ensures .1)
+    (c .before .before .put-flag2 .ensures .1)
+    (c .before .before .before .before .before .before .before .before .before .before .before .before .before .before .before .if1 .left))
 
 pub split-in-spec : {M : Type 1} → statement M
 split-in-spec =

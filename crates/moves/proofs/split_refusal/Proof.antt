@@ -17,11 +17,15 @@ use Rattle.heads.proofs.mode_number.Reads as mode-number-reads
 use Rattle.heads.proofs.side_count.Reads as side-count-reads
 
 -- the mode and the side's number passed
-past : (c : tie.Else3) → let a = c .before .before .before .before .before .before .args in ((is whole (modeOf (a .h .mode)) || is split (modeOf (a .h .mode))) ≡ true) × (oneTo (sidesIn (a .h)) (a .s) ≡ true)
+past : (c : tie.Else3) → let a = c .before .before .before .before .before .before .args in ((is whole (modeOf (a .h .mode)) || is split (modeOf (a .h .mode))) ≡ true)
+    × (oneTo (sidesIn (a .h)) (a .s) ≡ true)
 past c =
     let a = c .before .before .before .before .before .before .args in
-    let m = c .before .before .before .before .before .mode-number .ensures in
-    (one-or-two (modeNumber (modeOf (a .h .mode))) (λ z. c .before .before .before .before .if1 .left (m ∙ z)) (omega (arith, m, c .before .before .before .if2 .left)), side-tested (a .h) (a .s) (c .before .before .side-count .ensures .0) (c .before .one-to .ensures) (not-false _ (c .if3 .left)))
+    let m = c .before .before .before .before .before .mode-number .ensures in (
+      one-or-two (modeNumber (modeOf (a .h .mode))) (λ z. c .before .before .before .before .if1 .left (m ∙ z)) (omega (arith, m, c .before .before .before .if2 .left)),
+      side-tested (a .h) (a .s)
+          (c .before .before .side-count .ensures .0) (c .before .one-to .ensures) (not-false _ (c .if3 .left)),
+    )
 
 mode-number-requires : tie.Need-mode-number-requires
 mode-number-requires c κs = search needs
@@ -42,7 +46,12 @@ returns-3 : tie.Need-returns-3
 returns-3 c =
     let h = (c .before .before .before .before .before .before .args .h) in
     let s = (c .before .before .before .before .before .before .args .s) in
-    rw (side-tested h s ((c .before .before .side-count .ensures .0)) ((c .before .one-to .ensures)) (not-true _ ((c .if3 .taken))), ← ((c .before .before .before .before .before .mode-number .ensures)), one-or-two _ ((c .before .before .before .before .if1 .left)) (omega (arith, (c .before .before .before .if2 .left))))
+    rw (
+      side-tested h s ((c .before .before .side-count .ensures .0)) ((c .before .one-to .ensures)) (not-true _ ((c .if3 .taken))),
+      ←
+          ((c .before .before .before .before .before .mode-number .ensures)),
+      one-or-two _ ((c .before .before .before .before .if1 .left)) (omega (arith, (c .before .before .before .if2 .left))),
+    )
 
 returns-4 : tie.Need-returns-4
 returns-4 c =

@@ -39,7 +39,8 @@ returns-2 c =
     let a = (c .before .before .before .before .before .args) in
     λ base draft values confirmed lower gap upper firm edits known.
     let p = around (frameFrom (a .h) base draft values (a .arrived .now) confirmed) lower gap upper firm edits in
-    rw ((c .tell .ensures), (c .before .in-mode .ensures)) (stop-accepts p (stop-checked p known (c .before .before .before .before .unset .ensures .0) (c .before .before .before .stop-refusal .ensures)) (c .before .before .if1 .left))
+    rw ((c .tell .ensures), (c .before .in-mode .ensures))
+    (stop-accepts p (stop-checked p known (c .before .before .before .before .unset .ensures .0) (c .before .before .before .stop-refusal .ensures)) (c .before .before .if1 .left))
 
 pub stop-in-spec : {M : Type 1} → statement M
 stop-in-spec =

@@ -29,7 +29,8 @@ returns c =
     let to-d = toZ-ofZ (s .fits .m) in
     let to-e = toZ-ofZ (s .fits .kind) in
     let to-f = toZ-ofZ (s .fits .constant) in
-    meets (edit (a .s) (a .client) (a .after) (a .m) (a .kind) (a .constant)) (ap lineIn (c .before .line .ensures) ∙ (λ j. lineIn (record { op = 5; a = to-a j; b = to-b j; c = to-c j; d = to-d j; e = to-e j; f = to-f j; end = 0 }))) (c .turn .ensures)
+    meets (edit (a .s) (a .client) (a .after) (a .m) (a .kind) (a .constant))
+    (ap lineIn (c .before .line .ensures) ∙ (λ j. lineIn (record { op = 5; a = to-a j; b = to-b j; c = to-c j; d = to-d j; e = to-e j; f = to-f j; end = 0 }))) (c .turn .ensures)
 
 pub edit-spec : {M : Type 1} → statement M
 edit-spec = tie.close (tie.spec line-requires turn-requires returns)

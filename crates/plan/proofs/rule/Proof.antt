@@ -27,7 +27,8 @@ returns c =
     let to-b = toZ-ofZ (s .fits .c) in
     let to-c = toZ-ofZ (s .fits .b) in
     let to-d = toZ-ofZ (s .fits .f) in
-    meets (rule (a .a) (a .c) (a .b) (a .f)) (ap lineIn (c .before .line .ensures) ∙ (λ j. lineIn (record { op = 2; a = to-a j; b = to-b j; c = to-c j; d = to-d j; e = pos 0; f = pos 0; end = 0 }))) (c .turn .ensures)
+    meets (rule (a .a) (a .c) (a .b) (a .f)) (ap lineIn (c .before .line .ensures) ∙ (λ j. lineIn (record { op = 2; a = to-a j; b = to-b j; c = to-c j; d = to-d j; e = pos 0; f = pos 0; end = 0 })))
+    (c .turn .ensures)
 
 pub rule-spec : {M : Type 1} → statement M
 rule-spec = tie.close (tie.spec line-requires turn-requires returns)

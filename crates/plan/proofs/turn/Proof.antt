@@ -43,11 +43,11 @@ use Rattle.records.proofs.satisfies.Reads as satisfies-reads
 use Rattle.state.proofs.of.Reads as of-reads
 
 abbrev Inv-loop : tie.InvT-loop
-Inv-loop head base draft values arrived confirmed table edits₀ named slot next seat e side marked j₀ edits j =
+Inv-loop head base draft values arrived confirmed table edits₀ named first next second e side marked j₀ edits j =
     (Marked side edits₀ edits j) × (j ≤ marked) × (marked ≤ 256)
 
 abbrev μ-loop : tie.MeasureT-loop
-μ-loop head base draft values arrived confirmed table edits₀ named slot next seat e side marked j₀ edits j =
+μ-loop head base draft values arrived confirmed table edits₀ named first next second e side marked j₀ edits j =
     marked - j
 
 numbers-requires : tie.Need-numbers-requires Inv-loop μ-loop
@@ -252,8 +252,12 @@ noted-is c =
 loop-holds : tie.Need-loop-holds Inv-loop μ-loop
 loop-holds c =
     let p = (Start-from-After-number c) .args .t1 in
-    let note = noted-is (c .before .before) in
-    (marked-begin _ (c .before .before .if2 .edits) (ap length note ∙ noted-length ((After-make-from-After-number c) .make .result) (p .edits) ((owned-spread p ((Start-from-After-number c) .good .0)) .edits)), omega arith, ((After-make-from-After-number c) .make .ensures .marked))
+    let note = noted-is (c .before .before) in (
+      marked-begin _ (c .before .before .if2 .edits)
+          (ap length note ∙ noted-length ((After-make-from-After-number c) .make .result) (p .edits) ((owned-spread p ((Start-from-After-number c) .good .0)) .edits)),
+      omega arith,
+      ((After-make-from-After-number c) .make .ensures .marked),
+    )
 
 mul-r : tie.Need-mul-r Inv-loop μ-loop
 mul-r c = omega (arith, (c .loop-test .taken), (c .before .loop .inv .2))
@@ -271,7 +275,8 @@ mul-edits-2 : tie.Need-mul-edits-2 Inv-loop μ-loop
 mul-edits-2 c = omega (arith, ((In-loop-from-After-sent-record c) .loop-test .taken), ((At-loop-from-After-sent-record c) .loop .inv .2))
 
 array-set-from-edits-2 : tie.Need-array-set-from-edits-2 Inv-loop μ-loop
-array-set-from-edits-2 c = omega (arith, ((In-loop-from-After-sent-record c) .loop-test .taken), ((At-loop-from-After-sent-record c) .loop .inv .2), ((At-loop-from-After-sent-record c) .loop .inv .0 .size))
+array-set-from-edits-2 c = omega
+    (arith, ((In-loop-from-After-sent-record c) .loop-test .taken), ((At-loop-from-After-sent-record c) .loop .inv .2), ((At-loop-from-After-sent-record c) .loop .inv .0 .size))
 
 add-j : tie.Need-add-j Inv-loop μ-loop
 add-j c = omega (arith, ((In-loop-from-Joined3 c) .loop-test .taken), ((At-loop-from-Joined3 c) .loop .inv .2))
@@ -312,7 +317,8 @@ returns c =
     let side = ((After-number-from-After-of c) .number .ensures) ∙ ap natural (toZ-ofZ (fits32 (l .a) ((After-struct-told-from-After-of c) .struct-told .given .1 .0 .1))) in
     let n : ((At-loop-from-After-of c) .loop .j) ≡ e .marked = (let a = ((At-loop-from-After-of c) .loop .inv .1) in let b = ((After-loop-from-After-of c) .loop-test .left) in omega (arith, a, b)) in
     let seen = (After-looking-from-After-of c) .looking .ensures in
-    let m = lent (ap headFrom ((After-numbers-from-After-of c) .numbers .ensures) ∙ head-numbers (p .head)) refl refl ((After-make-from-After-of c) .make .ensures) .made es ((At-loop-from-After-of c) .loop .edits)
+    let m = lent (ap headFrom ((After-numbers-from-After-of c) .numbers .ensures) ∙ head-numbers (p .head)) refl refl ((After-make-from-After-of c) .make .ensures) .made es
+    ((At-loop-from-After-of c) .loop .edits)
     (record {
       sized = owned-spread p (s .good .0);
       long = owned-table p (s .good .0);
@@ -324,10 +330,13 @@ returns c =
       next = λ y. ap (λ k. k .next) seen ∙ ((After-second-look-from-After-of c) .second-look .ensures) y ∙ sym (ap (λ k. earlierAt (p .head) (k .named) (k .standing)) seen);
       saw = λ y. ap (λ k. k .seen) seen ∙ ap (λ n. getD es n noRecord) (((After-slot2-from-After-of c) .slot2 .ensures .0) ∙ sym (ap (λ k. slotAt (k .next)) seen));
     })
-    (subst (λ x. Marked (natural (l .a)) (noted e es) ((At-loop-from-After-of c) .loop .edits) x) n (subst (λ x. Marked (natural (l .a)) x ((At-loop-from-After-of c) .loop .edits) ((At-loop-from-After-of c) .loop .j)) (noted-is ((Joined2-from-After-of c)))
+    (subst (λ x. Marked (natural (l .a)) (noted e es) ((At-loop-from-After-of c) .loop .edits) x) n
+    (subst (λ x. Marked (natural (l .a)) x ((At-loop-from-After-of c) .loop .edits) ((At-loop-from-After-of c) .loop .j)) (noted-is ((Joined2-from-After-of c)))
     (subst (λ x. Marked x ((Joined2-from-After-of c) .if2 .edits) ((At-loop-from-After-of c) .loop .edits) ((At-loop-from-After-of c) .loop .j)) side ((At-loop-from-After-of c) .loop .inv .0)))) in
-    let final : (c .of .result) ≡ stateOf (headFrom (x .0)) (x .1 .0) (x .1 .1 .0) (x .1 .1 .1 .0) (x .1 .1 .1 .1 .0) (x .1 .1 .1 .1 .1 .0) (x .1 .1 .1 .1 .1 .1 .0) ((At-loop-from-After-of c) .loop .edits) =
-    (c .of .ensures) ∙ ap (λ h. stateOf h (x .1 .0) (x .1 .1 .0) (x .1 .1 .1 .0) (x .1 .1 .1 .1 .0) (x .1 .1 .1 .1 .1 .0) (x .1 .1 .1 .1 .1 .1 .0) ((At-loop-from-After-of c) .loop .edits)) (c .before .from-numbers .ensures) in
+    let final : (c .of .result) ≡ stateOf (headFrom (x .0)) (x .1 .0) (x .1 .1 .0) (x .1 .1 .1 .0) (x .1 .1 .1 .1 .0) (x .1 .1 .1 .1 .1 .0) (x .1 .1 .1 .1 .1 .1 .0)
+    ((At-loop-from-After-of c) .loop .edits) =
+    (c .of .ensures) ∙ ap (λ h. stateOf h (x .1 .0) (x .1 .1 .0) (x .1 .1 .1 .0) (x .1 .1 .1 .1 .0) (x .1 .1 .1 .1 .1 .0) (x .1 .1 .1 .1 .1 .1 .0) ((At-loop-from-After-of c) .loop .edits))
+    (c .before .from-numbers .ensures) in
     subst (λ q. Turns l p (record { state = q; answer = e .answer })) (sym final) (record { answer = bare-answer m (s .pre); plan = m .plan; same = m .same })
 
 pub turn-spec : {M : Type 1} → statement M

@@ -18,7 +18,15 @@ use Rattle.heads.proofs.unset.Reads as unset-reads
 
 parts : (c : tie.After-joining-bit) → c .before .before .before .pending-sides .result + c .before .before .capped .result + c .before .unset .result + c .joining-bit .result ≤ 273
 parts c =
-    omega (arith, c .before .before .before .pending-sides .ensures .1, c .before .before .capped .ensures, c .before .unset .ensures .1, c .joining-bit .ensures, bit-one (is joining (modeOf (c .before .before .before .before .before .before .args .h .mode))))
+    omega (
+      arith,
+      c .before .before .before .pending-sides .ensures .1,
+      c .before .before .capped .ensures,
+      c .before .unset .ensures .1,
+      c .joining-bit .ensures,
+      bit-one
+          (is joining (modeOf (c .before .before .before .before .before .before .args .h .mode))),
+    )
 
 is-active-requires : tie.Need-is-active-requires
 is-active-requires c κs = search needs
@@ -55,7 +63,14 @@ add-result-4 c = omega (arith, parts c)
 
 returns-2 : tie.Need-returns-2
 returns-2 c =
-    rw (sym (c .before .before .before .before .before .is-active .ensures) ∙ not-false _ (c .before .before .before .before .if1 .left), ← (c .before .before .before .pending-sides .ensures .0), ← (c .before .before .capped .ensures), ← (c .before .unset .ensures .0), ← (c .joining-bit .ensures))
+    rw (
+      sym (c .before .before .before .before .before .is-active .ensures) ∙ not-false _ (c .before .before .before .before .if1 .left),
+      ← (c .before .before .before .pending-sides .ensures .0),
+      ←
+          (c .before .before .capped .ensures),
+      ← (c .before .unset .ensures .0),
+      ← (c .joining-bit .ensures),
+    )
 
 pub left-number-spec : {M : Type 1} → statement M
 left-number-spec =

@@ -68,7 +68,8 @@ loop-again c =
       omega arith,
       l .inv .1,
       omega (arith, l .inv .2, side-bit c),
-      count-to-next (λ s. not (getD (vs .arrived .now) (indexOf s) false) || ltb 0 (getD (vs .t .now) (indexOf s) 0)) i _ _ (l .inv .3) (c .pending-bit .ensures ∙ ap (λ j. bit (not (getD (vs .arrived .now) j false) || ltb 0 (getD (vs .t .now) j 0))) (sym at)),
+      count-to-next (λ s. not (getD (vs .arrived .now) (indexOf s) false) || ltb 0 (getD (vs .t .now) (indexOf s) 0)) i _ _ (l .inv .3)
+          (c .pending-bit .ensures ∙ ap (λ j. bit (not (getD (vs .arrived .now) j false) || ltb 0 (getD (vs .t .now) j 0))) (sym at)),
     )
 
 returns : tie.Need-returns Inv-loop μ-loop

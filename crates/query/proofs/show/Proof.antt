@@ -33,7 +33,8 @@ returns c =
     let h = c .before .before .show-in .ensures in
     let z = toZ-ofZ (c .before .before .before .before .before .fits .s) in (
       h .1 ∙ ap (λ x. shown x (view (a .p)) (a .buffer .now) .refusal) z,
-      ap₂ take (h .0 ∙ ap (λ x. length (shown x (view (a .p)) (a .buffer .now) .front)) z) (h .2 ∙ ap (λ x. shown x (view (a .p)) (a .buffer .now) .buffer) z) ∙ shown-front (a .s) (view (a .p)) (a .buffer .now),
+      ap₂ take (h .0 ∙ ap (λ x. length (shown x (view (a .p)) (a .buffer .now) .front)) z) (h .2 ∙ ap (λ x. shown x (view (a .p)) (a .buffer .now) .buffer) z) ∙ shown-front (a .s) (view (a .p))
+          (a .buffer .now),
     )
 
 pub show-spec : {M : Type 1} → statement M

@@ -66,8 +66,16 @@ fill-requires : tie.Need-fill-requires
 fill-requires c κs =
     let a = c .before .before .before .before .before .before .before .before .before .args in
     let t = fine-pass (asked (c .before .before .before .before .before .before .before .before .before)) (accepted (c .before .before .before .before .before)) in
-    let room : measuresIn (a .t1 .head) ≤ length (a .buffer .now) = leb→le _ _ (t .1 .1 .0) in
-    (omega (arith, size (c .before .before .before .before .before .before .before .before .before), c .before .before .before .offset .ensures .1, c .before .before .before .before .capped .ensures), omega (arith, c .before .before .before .before .capped .ensures, room))
+    let room : measuresIn (a .t1 .head) ≤ length (a .buffer .now) = leb→le _ _ (t .1 .1 .0) in (
+      omega (
+        arith,
+        size (c .before .before .before .before .before .before .before .before .before),
+        c .before .before .before .offset .ensures .1,
+        c .before .before .before .before .capped
+            .ensures,
+      ),
+      omega (arith, c .before .before .before .before .capped .ensures, room),
+    )
 
 same-length : tie.Need-same-length
 same-length c = search needs

@@ -41,11 +41,23 @@ capped-requires c κs = search needs
 
 returns-3 : tie.Need-returns-3
 returns-3 c =
-    rw (mode-fine (c .before .before .before .before .before), sym (named (c .before .before .before)) ∙ not-false _ (c .before .before .if2 .left), ← (c .before .capped .ensures), le-leb (c .before .capped .result) (c .before .before .before .before .before .before .before .args .room) (c .if3 .taken))
+    rw (
+      mode-fine (c .before .before .before .before .before),
+      sym (named (c .before .before .before)) ∙ not-false _ (c .before .before .if2 .left),
+      ← (c .before .capped .ensures),
+      le-leb
+          (c .before .capped .result) (c .before .before .before .before .before .before .before .args .room) (c .if3 .taken),
+    )
 
 returns-4 : tie.Need-returns-4
 returns-4 c =
-    rw (mode-fine (c .before .before .before .before .before), sym (named (c .before .before .before)) ∙ not-false _ (c .before .before .if2 .left), ← (c .before .capped .ensures), lt-leb (c .before .capped .result) (c .before .before .before .before .before .before .before .args .room) (c .if3 .left))
+    rw (
+      mode-fine (c .before .before .before .before .before),
+      sym (named (c .before .before .before)) ∙ not-false _ (c .before .before .if2 .left),
+      ← (c .before .capped .ensures),
+      lt-leb
+          (c .before .capped .result) (c .before .before .before .before .before .before .before .args .room) (c .if3 .left),
+    )
 
 pub show-refusal-spec : {M : Type 1} → statement M
 show-refusal-spec =

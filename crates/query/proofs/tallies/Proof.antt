@@ -56,9 +56,15 @@ returns c =
     let u = (c .before .before .before .before .before .before .unsent-counts .ensures) in
     let n = ap length u ∙ counts-length (a .h) (a .edits) 8 in
     let f = behind-stored t w s l m n in (
-      record { unsent = λ x p q. behind-side t w s l m x ∙ ap (λ xs. getD xs (indexOf x) 0) u ∙ counts-side (a .h) (a .edits) x p q; waiting = f .0 ∙ (c .before .before .before .before .before .count .ensures .0); settled = f .1 ∙ (c .before .before .before .before .count2 .ensures .0) },
+      record {
+        unsent = λ x p q. behind-side t w s l m x ∙ ap (λ xs. getD xs (indexOf x) 0) u ∙ counts-side (a .h) (a .edits) x p q;
+        waiting = f .0
+            ∙ (c .before .before .before .before .before .count .ensures .0);
+        settled = f .1 ∙ (c .before .before .before .before .count2 .ensures .0);
+      },
       behind-length t w s l m n,
-      f .2 ∙ (c .before .left-number .ensures) ∙ ap (λ k. leftNumber (a .h) (a .arrived .now) (a .confirmed .now) t (min k 256)) ((c .before .before .before .unsettled .ensures .0) ∙ ap (λ k. keptIn (a .h) - k) (sym (f .1)))
+      f .2 ∙ (c .before .left-number .ensures) ∙ ap (λ k. leftNumber (a .h) (a .arrived .now) (a .confirmed .now) t (min k 256))
+          ((c .before .before .before .unsettled .ensures .0) ∙ ap (λ k. keptIn (a .h) - k) (sym (f .1)))
           ∙ sym (left-same (a .h) (a .arrived .now) (a .confirmed .now) (behind t w s l m) t _ (behind-side t w s l m)),
       f .3 ∙ (c .unset .ensures .0),
     )

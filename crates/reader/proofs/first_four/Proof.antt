@@ -31,11 +31,20 @@ shared-slice-read-packed-4 c = search needs
 
 packed-requires-4 : tie.Need-packed-requires-4
 packed-requires-4 c κs =
-    omega (arith, ((c .before .before .before .before .before .before .before .shared-slice-known .given) 0 .fits), ((c .before .before .before .before .before .before .before .shared-slice-known .given) 1 .fits), ((c .before .before .before .before .before .before .before .shared-slice-known .given) 2 .fits))
+    omega (
+      arith,
+      ((c .before .before .before .before .before .before .before .shared-slice-known .given) 0 .fits),
+      ((c .before .before .before .before .before .before .before .shared-slice-known .given) 1 .fits),
+      ((c .before .before .before .before .before .before .before .shared-slice-known .given) 2 .fits),
+    )
 
 returns : tie.Need-returns
 returns c =
-    omega (arith, packed-four ((c .before .before .before .before .before .before .before .before .before .args .sheet .now)) ((c .before .before .before .before .before .before .before .before .before .pre)))
+    omega (
+      arith,
+      packed-four ((c .before .before .before .before .before .before .before .before .before .args .sheet .now))
+          ((c .before .before .before .before .before .before .before .before .before .pre)),
+    )
 
 pub first-four-spec : {M : Type 1} → statement M
 first-four-spec =

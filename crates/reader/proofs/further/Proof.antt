@@ -35,22 +35,32 @@ ended-requires c κs = search needs
 
 returns : tie.Need-returns Inv-loop μ-loop
 returns c =
-    ((c .ended .ensures)) ∙ ap (λ b. ending b ((c .before .before .before .before .loop .n)) ((c .before .before .before .before .loop .i))) ((c .before .before .byte-at .ensures)) ∙ stop-low ((c .before .before .before .before .before .before .args .sheet .now)) ((c .before .before .before .before .before .before .args .from)) ((c .before .before .before .before .before .before .args .first)) ((c .before .before .before .before .loop .n)) ((c .before .before .before .before .loop .i)) ((c .before .before .before .before .loop .inv)) (omega (arith, ((c .before .before .byte-at .ensures)), ((c .before .if1 .taken))))
+    ((c .ended .ensures)) ∙ ap (λ b. ending b ((c .before .before .before .before .loop .n)) ((c .before .before .before .before .loop .i))) ((c .before .before .byte-at .ensures))
+    ∙ stop-low ((c .before .before .before .before .before .before .args .sheet .now)) ((c .before .before .before .before .before .before .args .from))
+    ((c .before .before .before .before .before .before .args .first)) ((c .before .before .before .before .loop .n)) ((c .before .before .before .before .loop .i))
+    ((c .before .before .before .before .loop .inv)) (omega (arith, ((c .before .before .byte-at .ensures)), ((c .before .if1 .taken))))
 
 returns-2 : tie.Need-returns-2 Inv-loop μ-loop
 returns-2 c =
-    stop-high ((c .before .before .before .before .before .before .args .sheet .now)) ((c .before .before .before .before .before .before .args .from)) ((c .before .before .before .before .before .before .args .first)) ((c .before .before .before .before .loop .n)) ((c .before .before .before .before .loop .i)) ((c .before .before .before .before .loop .inv)) (omega (arith, ((c .before .before .byte-at .ensures)), ((c .before .if1 .left)))) (omega (arith, ((c .before .before .byte-at .ensures)), ((c .if2 .taken))))
+    stop-high ((c .before .before .before .before .before .before .args .sheet .now)) ((c .before .before .before .before .before .before .args .from))
+    ((c .before .before .before .before .before .before .args .first)) ((c .before .before .before .before .loop .n)) ((c .before .before .before .before .loop .i))
+    ((c .before .before .before .before .loop .inv)) (omega (arith, ((c .before .before .byte-at .ensures)), ((c .before .if1 .left))))
+    (omega (arith, ((c .before .before .byte-at .ensures)), ((c .if2 .taken))))
 
 mul-n : tie.Need-mul-n Inv-loop μ-loop
 mul-n c =
-    let s = reading-small (firstLine ((c .before .before .before .before .before .before .args .sheet .now))) ((c .before .before .before .before .before .before .args .from)) ((c .before .before .before .before .before .before .args .first)) ((c .before .before .before .before .loop .n)) ((c .before .before .before .before .loop .i)) ((c .before .before .before .before .loop .inv)) (omega (arith, ((c .before .before .before .loop-test .taken)))) in omega (arith, s)
+    let s = reading-small (firstLine ((c .before .before .before .before .before .before .args .sheet .now))) ((c .before .before .before .before .before .before .args .from))
+    ((c .before .before .before .before .before .before .args .first)) ((c .before .before .before .before .loop .n)) ((c .before .before .before .before .loop .i))
+    ((c .before .before .before .before .loop .inv)) (omega (arith, ((c .before .before .before .loop-test .taken)))) in omega (arith, s)
 
 cast-n : tie.Need-cast-n Inv-loop μ-loop
 cast-n c = omega arith
 
 add-n : tie.Need-add-n Inv-loop μ-loop
 add-n c =
-    let s = reading-small (firstLine ((c .before .before .before .before .before .before .args .sheet .now))) ((c .before .before .before .before .before .before .args .from)) ((c .before .before .before .before .before .before .args .first)) ((c .before .before .before .before .loop .n)) ((c .before .before .before .before .loop .i)) ((c .before .before .before .before .loop .inv)) (omega (arith, ((c .before .before .before .loop-test .taken)))) in omega (arith, s, ((c .if2 .left)))
+    let s = reading-small (firstLine ((c .before .before .before .before .before .before .args .sheet .now))) ((c .before .before .before .before .before .before .args .from))
+    ((c .before .before .before .before .before .before .args .first)) ((c .before .before .before .before .loop .n)) ((c .before .before .before .before .loop .i))
+    ((c .before .before .before .before .loop .inv)) (omega (arith, ((c .before .before .before .loop-test .taken)))) in omega (arith, s, ((c .if2 .left)))
 
 add-i : tie.Need-add-i Inv-loop μ-loop
 add-i c =
@@ -62,7 +72,13 @@ loop-less c =
 
 loop-again : tie.Need-loop-again Inv-loop μ-loop
 loop-again c =
-    subst (λ b. Reading (firstLine ((c .before .before .before .before .before .before .args .sheet .now))) ((c .before .before .before .before .before .before .args .from)) ((c .before .before .before .before .before .before .args .first)) (10 * ((c .before .before .before .before .loop .n)) + (b - 48)) (((c .before .before .before .before .loop .i)) + 1)) (sym ((c .before .before .byte-at .ensures))) (goes-on ((c .before .before .before .before .before .before .args .sheet .now)) ((c .before .before .before .before .before .before .args .from)) ((c .before .before .before .before .before .before .args .first)) ((c .before .before .before .before .loop .n)) ((c .before .before .before .before .loop .i)) ((c .before .before .before .before .loop .inv)) (omega (arith, ((c .before .before .byte-at .ensures)), ((c .before .if1 .left)))) (omega (arith, ((c .before .before .byte-at .ensures)), ((c .if2 .left)))) (omega (arith, ((c .before .before .before .loop-test .taken)))))
+    subst (λ b. Reading (firstLine ((c .before .before .before .before .before .before .args .sheet .now))) ((c .before .before .before .before .before .before .args .from))
+    ((c .before .before .before .before .before .before .args .first)) (10 * ((c .before .before .before .before .loop .n)) + (b - 48)) (((c .before .before .before .before .loop .i)) + 1))
+    (sym ((c .before .before .byte-at .ensures)))
+    (goes-on ((c .before .before .before .before .before .before .args .sheet .now)) ((c .before .before .before .before .before .before .args .from))
+    ((c .before .before .before .before .before .before .args .first)) ((c .before .before .before .before .loop .n)) ((c .before .before .before .before .loop .i))
+    ((c .before .before .before .before .loop .inv)) (omega (arith, ((c .before .before .byte-at .ensures)), ((c .before .if1 .left))))
+    (omega (arith, ((c .before .before .byte-at .ensures)), ((c .if2 .left)))) (omega (arith, ((c .before .before .before .loop-test .taken)))))
 
 byte-at-requires-2 : tie.Need-byte-at-requires-2 Inv-loop μ-loop
 byte-at-requires-2 c κs = search needs
@@ -72,7 +88,10 @@ ended-requires-2 c κs = search needs
 
 returns-3 : tie.Need-returns-3 Inv-loop μ-loop
 returns-3 c =
-    ((c .ended2 .ensures)) ∙ ap (λ b. ending b ((c .before .before .before .loop .n)) ((c .before .before .before .loop .i))) ((c .before .byte-at2 .ensures)) ∙ stop-long ((c .before .before .before .before .before .args .sheet .now)) ((c .before .before .before .before .before .args .from)) ((c .before .before .before .before .before .args .first)) ((c .before .before .before .loop .n)) ((c .before .before .before .loop .i)) ((c .before .before .before .loop .inv)) (omega (arith, ((c .before .before .loop-test .left))))
+    ((c .ended2 .ensures)) ∙ ap (λ b. ending b ((c .before .before .before .loop .n)) ((c .before .before .before .loop .i))) ((c .before .byte-at2 .ensures))
+    ∙ stop-long ((c .before .before .before .before .before .args .sheet .now)) ((c .before .before .before .before .before .args .from))
+    ((c .before .before .before .before .before .args .first)) ((c .before .before .before .loop .n)) ((c .before .before .before .loop .i)) ((c .before .before .before .loop .inv))
+    (omega (arith, ((c .before .before .loop-test .left))))
 
 pub further-spec : {M : Type 1} → statement M
 further-spec =

@@ -39,7 +39,8 @@ loop-less c = omega arith
 
 loop-again : tie.Need-loop-again Inv-loop μ-loop
 loop-again c =
-    let e = ap length (upTo-next lineFeed (c .before .before .before .before .before .args .sheet .now) (c .before .before .before .loop .i) (omega arith) (c .if2 .left)) in (omega arith, omega arith, omega arith)
+    let e = ap length (upTo-next lineFeed (c .before .before .before .before .before .args .sheet .now) (c .before .before .before .loop .i) (omega arith) (c .if2 .left)) in
+    (omega arith, omega arith, omega arith)
 
 returns-3 : tie.Need-returns-3 Inv-loop μ-loop
 returns-3 c =

@@ -58,7 +58,8 @@ unreadable-requires c κs = search needs
 
 returns : tie.Need-returns Inv-loop μ-loop
 returns c =
-    unread _ (firstLine ((c .before .before .before .before .args .sheet .now))) _ ((c .unreadable .ensures)) (sym (unnamed (firstLine ((c .before .before .before .before .args .sheet .now))) (sym ((c .before .before .read-name .ensures .op)) ∙ ((c .before .if1 .taken))))) (omega arith)
+    unread _ (firstLine ((c .before .before .before .before .args .sheet .now))) _ ((c .unreadable .ensures))
+    (sym (unnamed (firstLine ((c .before .before .before .before .args .sheet .now))) (sym ((c .before .before .read-name .ensures .op)) ∙ ((c .before .if1 .taken))))) (omega arith)
 
 loop-holds : tie.Need-loop-holds Inv-loop μ-loop
 loop-holds c =
@@ -67,8 +68,14 @@ loop-holds c =
     let m = op-most (wordAt (firstLine ((c .before .before .before .args .sheet .now))) 0) in
     let p : 0 < op = omega (arith, ((c .if1 .left))) in
     let e = n .end ((c .if1 .left)) in
-    let w = upTo-length space (firstLine ((c .before .before .before .args .sheet .now))) in
-    (omega (arith, n .op, m), p, n .count, omega (arith, e, w), listing-begin (firstLine ((c .before .before .before .args .sheet .now))) op ((c .before .read-name .result .end)) (replicate 6 (pos 0)) refl nought (n .op) e)
+    let w = upTo-length space (firstLine ((c .before .before .before .args .sheet .now))) in (
+      omega (arith, n .op, m),
+      p,
+      n .count,
+      omega (arith, e, w),
+      listing-begin (firstLine ((c .before .before .before .args .sheet .now))) op ((c .before .read-name .result .end))
+          (replicate 6 (pos 0)) refl nought (n .op) e,
+    )
 
 byte-at-requires : tie.Need-byte-at-requires Inv-loop μ-loop
 byte-at-requires c κs = search needs
@@ -79,7 +86,8 @@ add-read-number c =
 
 read-number-requires : tie.Need-read-number-requires Inv-loop μ-loop
 read-number-requires c κs =
-    let g = goes ((c .before .before .before .before .before .before .args .sheet .now)) ((c .before .before .loop .at)) ((c .before .byte-at .result)) ((c .before .before .loop .inv .3)) ((c .before .byte-at .ensures)) ((c .if2 .taken)) in omega (arith, g)
+    let g = goes ((c .before .before .before .before .before .before .args .sheet .now)) ((c .before .before .loop .at)) ((c .before .byte-at .result)) ((c .before .before .loop .inv .3))
+    ((c .before .byte-at .ensures)) ((c .if2 .taken)) in omega (arith, g)
 
 enum-known-n : tie.Need-enum-known-n Inv-loop μ-loop
 enum-known-n c = search needs
@@ -92,20 +100,41 @@ unreadable-requires-2 c κs = search needs
 
 returns-2 : tie.Need-returns-2 Inv-loop μ-loop
 returns-2 c =
-    let g = goes ((c .before .before .before .before .before .before .before .before .before .before .args .sheet .now)) ((c .before .before .before .before .before .before .loop .at)) ((c .before .before .before .before .before .byte-at .result)) ((c .before .before .before .before .before .before .loop .inv .3)) ((c .before .before .before .before .before .byte-at .ensures)) ((c .before .before .before .before .if2 .taken)) in
-    unread _ (firstLine ((c .before .before .before .before .before .before .before .before .before .before .args .sheet .now))) _ ((c .unreadable2 .ensures)) (listing-unread (firstLine ((c .before .before .before .before .before .before .before .before .before .before .args .sheet .now))) ((c .before .before .before .before .before .before .before .before .read-name .result .op)) ((c .before .before .before .before .before .before .loop .k)) ((c .before .before .before .before .before .before .loop .xs)) ((c .before .before .before .before .before .before .loop .at)) ((c .before .before .before .before .before .before .loop .inv .4)) g (sym ((c .before .before .before .read-number .ensures)) ∙ ((c .before .enum-told .given .1)))) ((c .before .before .before .before .before .before .loop .inv .3))
+    let g = goes ((c .before .before .before .before .before .before .before .before .before .before .args .sheet .now)) ((c .before .before .before .before .before .before .loop .at))
+    ((c .before .before .before .before .before .byte-at .result)) ((c .before .before .before .before .before .before .loop .inv .3))
+    ((c .before .before .before .before .before .byte-at .ensures)) ((c .before .before .before .before .if2 .taken)) in
+    unread _ (firstLine ((c .before .before .before .before .before .before .before .before .before .before .args .sheet .now))) _ ((c .unreadable2 .ensures))
+    (listing-unread (firstLine ((c .before .before .before .before .before .before .before .before .before .before .args .sheet .now)))
+    ((c .before .before .before .before .before .before .before .before .read-name .result .op)) ((c .before .before .before .before .before .before .loop .k))
+    ((c .before .before .before .before .before .before .loop .xs)) ((c .before .before .before .before .before .before .loop .at))
+    ((c .before .before .before .before .before .before .loop .inv .4)) g (sym ((c .before .before .before .read-number .ensures)) ∙ ((c .before .enum-told .given .1))))
+    ((c .before .before .before .before .before .before .loop .inv .3))
 
 unreadable-requires-3 : tie.Need-unreadable-requires-3 Inv-loop μ-loop
 unreadable-requires-3 c κs = search needs
 
 returns-3 : tie.Need-returns-3 Inv-loop μ-loop
 returns-3 c =
-    let g = goes ((c .before .before .before .before .before .before .before .before .before .before .before .before .args .sheet .now)) ((c .before .before .before .before .before .before .before .before .loop .at)) ((c .before .before .before .before .before .before .before .byte-at .result)) ((c .before .before .before .before .before .before .before .before .loop .inv .3)) ((c .before .before .before .before .before .before .before .byte-at .ensures)) ((c .before .before .before .before .before .before .if2 .taken)) in
-    unread _ (firstLine ((c .before .before .before .before .before .before .before .before .before .before .before .before .args .sheet .now))) _ ((c .unreadable3 .ensures)) (listing-many (firstLine ((c .before .before .before .before .before .before .before .before .before .before .before .before .args .sheet .now))) ((c .before .before .before .before .before .before .before .before .before .before .read-name .result .op)) ((c .before .before .before .before .before .before .before .before .loop .k)) ((c .before .before .before .before .before .before .before .before .loop .xs)) ((c .before .before .before .before .before .before .before .before .loop .at)) ((c .before .before .before .before .before .before .before .before .loop .inv .4)) _ _ g (sym ((c .before .before .before .before .before .read-number .ensures)) ∙ ((c .before .before .before .n .given .1))) (((c .before .if3 .taken)) ∙ ((c .before .before .before .before .before .before .before .before .loop .inv .2)))) ((c .before .before .before .before .before .before .before .before .loop .inv .3))
+    let g = goes ((c .before .before .before .before .before .before .before .before .before .before .before .before .args .sheet .now))
+    ((c .before .before .before .before .before .before .before .before .loop .at)) ((c .before .before .before .before .before .before .before .byte-at .result))
+    ((c .before .before .before .before .before .before .before .before .loop .inv .3)) ((c .before .before .before .before .before .before .before .byte-at .ensures))
+    ((c .before .before .before .before .before .before .if2 .taken)) in
+    unread _ (firstLine ((c .before .before .before .before .before .before .before .before .before .before .before .before .args .sheet .now))) _ ((c .unreadable3 .ensures))
+    (listing-many (firstLine ((c .before .before .before .before .before .before .before .before .before .before .before .before .args .sheet .now)))
+    ((c .before .before .before .before .before .before .before .before .before .before .read-name .result .op))
+    ((c .before .before .before .before .before .before .before .before .loop .k)) ((c .before .before .before .before .before .before .before .before .loop .xs))
+    ((c .before .before .before .before .before .before .before .before .loop .at)) ((c .before .before .before .before .before .before .before .before .loop .inv .4)) _ _ g
+    (sym ((c .before .before .before .before .before .read-number .ensures)) ∙ ((c .before .before .before .n .given .1)))
+    (((c .before .if3 .taken)) ∙ ((c .before .before .before .before .before .before .before .before .loop .inv .2))))
+    ((c .before .before .before .before .before .before .before .before .loop .inv .3))
 
 mul-xs : tie.Need-mul-xs Inv-loop μ-loop
 mul-xs c =
-    omega (arith, taken-most ((c .before .before .before .before .before .before .before .before .before .read-name .result .op)), ((c .before .before .before .before .before .before .before .loop .inv .4 .1)))
+    omega (
+      arith,
+      taken-most ((c .before .before .before .before .before .before .before .before .before .read-name .result .op)),
+      ((c .before .before .before .before .before .before .before .loop .inv .4 .1)),
+    )
 
 array-set-from-xs : tie.Need-array-set-from-xs Inv-loop μ-loop
 array-set-from-xs c =
@@ -113,42 +142,74 @@ array-set-from-xs c =
     let k = ((c .before .before .before .before .before .before .before .loop .k)) in
     let count = ((c .before .before .before .before .before .before .before .before .before .read-name .result .count)) in
     let ne : k ≡ count → ⊥ = ((c .if3 .left)) in
-    let e : count ≡ takenBy ((c .before .before .before .before .before .before .before .before .before .read-name .result .op)) = ((c .before .before .before .before .before .before .before .loop .inv .2)) in
-    let le : k ≤ takenBy ((c .before .before .before .before .before .before .before .before .before .read-name .result .op)) = ((c .before .before .before .before .before .before .before .loop .inv .4 .1)) in
+    let e : count ≡ takenBy ((c .before .before .before .before .before .before .before .before .before .read-name .result .op)) =
+    ((c .before .before .before .before .before .before .before .loop .inv .2)) in
+    let le : k ≤ takenBy ((c .before .before .before .before .before .before .before .before .before .read-name .result .op)) =
+    ((c .before .before .before .before .before .before .before .loop .inv .4 .1)) in
     let l : k < 6 = omega (arith, m, e, le, ne) in
     l
 
 add-k : tie.Need-add-k Inv-loop μ-loop
 add-k c =
-    omega (arith, taken-most ((c .before .before .before .before .before .before .before .before .before .read-name .result .op)), ((c .before .before .before .before .before .before .before .loop .inv .4 .1)))
+    omega (
+      arith,
+      taken-most ((c .before .before .before .before .before .before .before .before .before .read-name .result .op)),
+      ((c .before .before .before .before .before .before .before .loop .inv .4 .1)),
+    )
 
 loop-less : tie.Need-loop-less Inv-loop μ-loop
 loop-less c =
-    let g = goes ((c .before .before .before .before .before .before .before .before .before .before .before .args .sheet .now)) ((c .before .before .before .before .before .before .before .loop .at)) ((c .before .before .before .before .before .before .byte-at .result)) ((c .before .before .before .before .before .before .before .loop .inv .3)) ((c .before .before .before .before .before .before .byte-at .ensures)) ((c .before .before .before .before .before .if2 .taken)) in
+    let g = goes ((c .before .before .before .before .before .before .before .before .before .before .before .args .sheet .now))
+    ((c .before .before .before .before .before .before .before .loop .at)) ((c .before .before .before .before .before .before .byte-at .result))
+    ((c .before .before .before .before .before .before .before .loop .inv .3)) ((c .before .before .before .before .before .before .byte-at .ensures))
+    ((c .before .before .before .before .before .if2 .taken)) in
     let f = found-further _ _ _ _ (sym ((c .before .before .before .before .read-number .ensures)) ∙ ((c .before .before .n .given .1))) in omega (arith, f, g)
 
 loop-again : tie.Need-loop-again Inv-loop μ-loop
 loop-again c =
-    let g = goes ((c .before .before .before .before .before .before .before .before .before .before .before .args .sheet .now)) ((c .before .before .before .before .before .before .before .loop .at)) ((c .before .before .before .before .before .before .byte-at .result)) ((c .before .before .before .before .before .before .before .loop .inv .3)) ((c .before .before .before .before .before .before .byte-at .ensures)) ((c .before .before .before .before .before .if2 .taken)) in
+    let g = goes ((c .before .before .before .before .before .before .before .before .before .before .before .args .sheet .now))
+    ((c .before .before .before .before .before .before .before .loop .at)) ((c .before .before .before .before .before .before .byte-at .result))
+    ((c .before .before .before .before .before .before .before .loop .inv .3)) ((c .before .before .before .before .before .before .byte-at .ensures))
+    ((c .before .before .before .before .before .if2 .taken)) in
     let e = sym ((c .before .before .before .before .read-number .ensures)) ∙ ((c .before .before .n .given .1)) in
-    let l = (c .before .before .before .before .before .before .before .loop) in
-    (l .inv .0, l .inv .1, l .inv .2, found-within (firstLine ((c .before .before .before .before .before .before .before .before .before .before .before .args .sheet .now))) ((c .before .before .before .before .before .before .before .loop .at)) _ _ g e, rw (toZ-ofZ (fits _ ((c .before .known-told .given .0 .1)))) (listing-next (firstLine ((c .before .before .before .before .before .before .before .before .before .before .before .args .sheet .now))) ((c .before .before .before .before .before .before .before .before .before .read-name .result .op)) ((c .before .before .before .before .before .before .before .loop .k)) ((c .before .before .before .before .before .before .before .loop .xs)) ((c .before .before .before .before .before .before .before .loop .at)) (l .inv .4) _ _ g e (λ z. ((c .if3 .left)) (z ∙ sym (l .inv .2)))))
+    let l = (c .before .before .before .before .before .before .before .loop) in (
+      l .inv .0,
+      l .inv .1,
+      l .inv .2,
+      found-within (firstLine ((c .before .before .before .before .before .before .before .before .before .before .before .args .sheet .now)))
+          ((c .before .before .before .before .before .before .before .loop .at)) _ _ g e,
+      rw (toZ-ofZ (fits _ ((c .before .known-told .given .0 .1))))
+          (listing-next (firstLine ((c .before .before .before .before .before .before .before .before .before .before .before .args .sheet .now)))
+          ((c .before .before .before .before .before .before .before .before .before .read-name .result .op)) ((c .before .before .before .before .before .before .before .loop .k))
+          ((c .before .before .before .before .before .before .before .loop .xs)) ((c .before .before .before .before .before .before .before .loop .at)) (l .inv .4) _ _ g e
+          (λ z. ((c .if3 .left)) (z ∙ sym (l .inv .2)))),
+    )
 
 unreadable-requires-4 : tie.Need-unreadable-requires-4 Inv-loop μ-loop
 unreadable-requires-4 c κs = search needs
 
 returns-4 : tie.Need-returns-4 Inv-loop μ-loop
 returns-4 c =
-    let z = at-end ((c .before .before .before .before .before .before .before .before .args .sheet .now)) ((c .before .before .before .before .loop .at)) ((c .before .before .before .byte-at .result)) ((c .before .before .before .before .loop .inv .3)) ((c .before .before .before .byte-at .ensures)) ((c .before .before .if2 .left)) in
-    unread _ (firstLine ((c .before .before .before .before .before .before .before .before .args .sheet .now))) _ ((c .unreadable4 .ensures)) (listing-few (firstLine ((c .before .before .before .before .before .before .before .before .args .sheet .now))) ((c .before .before .before .before .before .before .read-name .result .op)) ((c .before .before .before .before .loop .k)) ((c .before .before .before .before .loop .xs)) ((c .before .before .before .before .loop .at)) ((c .before .before .before .before .loop .inv .4)) (omega (arith, z)) (λ e. ((c .before .if4 .taken)) (e ∙ sym ((c .before .before .before .before .loop .inv .2))))) ((c .before .before .before .before .loop .inv .3))
+    let z = at-end ((c .before .before .before .before .before .before .before .before .args .sheet .now)) ((c .before .before .before .before .loop .at))
+    ((c .before .before .before .byte-at .result)) ((c .before .before .before .before .loop .inv .3)) ((c .before .before .before .byte-at .ensures)) ((c .before .before .if2 .left)) in
+    unread _ (firstLine ((c .before .before .before .before .before .before .before .before .args .sheet .now))) _ ((c .unreadable4 .ensures))
+    (listing-few (firstLine ((c .before .before .before .before .before .before .before .before .args .sheet .now))) ((c .before .before .before .before .before .before .read-name .result .op))
+    ((c .before .before .before .before .loop .k)) ((c .before .before .before .before .loop .xs)) ((c .before .before .before .before .loop .at))
+    ((c .before .before .before .before .loop .inv .4)) (omega (arith, z)) (λ e. ((c .before .if4 .taken)) (e ∙ sym ((c .before .before .before .before .loop .inv .2)))))
+    ((c .before .before .before .before .loop .inv .3))
 
 line-of-requires : tie.Need-line-of-requires Inv-loop μ-loop
 line-of-requires c κs = search needs
 
 returns-5 : tie.Need-returns-5 Inv-loop μ-loop
 returns-5 c =
-    let z = at-end ((c .before .before .before .before .before .before .before .before .args .sheet .now)) ((c .before .before .before .before .loop .at)) ((c .before .before .before .byte-at .result)) ((c .before .before .before .before .loop .inv .3)) ((c .before .before .before .byte-at .ensures)) ((c .before .before .if2 .left)) in
-    rw ((c .line-of .ensures)) (listing-all (firstLine ((c .before .before .before .before .before .before .before .before .args .sheet .now))) ((c .before .before .before .before .before .before .read-name .result .op)) ((c .before .before .before .before .loop .k)) ((c .before .before .before .before .loop .xs)) ((c .before .before .before .before .loop .at)) ((c .before .before .before .before .loop .inv .4)) z (((c .before .if4 .left)) ∙ ((c .before .before .before .before .loop .inv .2))) ((c .before .before .before .before .loop .inv .1)) ((c .before .before .before .before .loop .inv .0)))
+    let z = at-end ((c .before .before .before .before .before .before .before .before .args .sheet .now)) ((c .before .before .before .before .loop .at))
+    ((c .before .before .before .byte-at .result)) ((c .before .before .before .before .loop .inv .3)) ((c .before .before .before .byte-at .ensures)) ((c .before .before .if2 .left)) in
+    rw ((c .line-of .ensures))
+    (listing-all (firstLine ((c .before .before .before .before .before .before .before .before .args .sheet .now))) ((c .before .before .before .before .before .before .read-name .result .op))
+    ((c .before .before .before .before .loop .k)) ((c .before .before .before .before .loop .xs)) ((c .before .before .before .before .loop .at))
+    ((c .before .before .before .before .loop .inv .4)) z (((c .before .if4 .left)) ∙ ((c .before .before .before .before .loop .inv .2)))
+    ((c .before .before .before .before .loop .inv .1)) ((c .before .before .before .before .loop .inv .0)))
 
 pub read-call-spec : {M : Type 1} → statement M
 read-call-spec =

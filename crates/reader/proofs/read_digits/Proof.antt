@@ -19,7 +19,8 @@ returns c =
 
 returns-2 : tie.Need-returns-2
 returns-2 c =
-    no-digits ((c .before .before .before .args .sheet .now)) ((c .before .before .before .args .at)) ((c .before .before .before .pre .0)) (λ p q. omega (arith, (c .before .before .before .pre .1), (c .if2 .taken)))
+    no-digits ((c .before .before .before .args .sheet .now)) ((c .before .before .before .args .at)) ((c .before .before .before .pre .0))
+    (λ p q. omega (arith, (c .before .before .before .pre .1), (c .if2 .taken)))
 
 add-further : tie.Need-add-further
 add-further c =
@@ -32,15 +33,19 @@ cast-further : tie.Need-cast-further
 cast-further c = search needs
 
 further-requires : tie.Need-further-requires
-further-requires c κs =
-    (omega (arith, (c .if2 .left)), first-digit ((c .before .before .before .args .sheet .now)) ((c .before .before .before .args .at)) ((c .before .before .before .pre .0)) (omega (arith, (c .before .before .before .pre .1), (c .before .if1 .left))) (omega (arith, (c .before .before .before .pre .1), (c .if2 .left))) .0)
+further-requires c κs = (
+  omega (arith, (c .if2 .left)),
+  first-digit ((c .before .before .before .args .sheet .now)) ((c .before .before .before .args .at)) ((c .before .before .before .pre .0))
+      (omega (arith, (c .before .before .before .pre .1), (c .before .if1 .left))) (omega (arith, (c .before .before .before .pre .1), (c .if2 .left))) .0,
+)
 
 returns-3 : tie.Need-returns-3
 returns-3 c =
     let bs = (c .before .before .before .before .args .sheet .now) in
     let at = (c .before .before .before .before .args .at) in
     ((c .further .ensures)) ∙ ap (λ b. followed 0 (b - 48) (at + 1) (wordAt (firstLine bs) (at + 1))) ((c .before .before .before .before .pre .1))
-    ∙ first-digit bs at ((c .before .before .before .before .pre .0)) (omega (arith, (c .before .before .before .before .pre .1), (c .before .before .if1 .left))) (omega (arith, (c .before .before .before .before .pre .1), (c .before .if2 .left))) .1
+    ∙ first-digit bs at ((c .before .before .before .before .pre .0)) (omega (arith, (c .before .before .before .before .pre .1), (c .before .before .if1 .left)))
+    (omega (arith, (c .before .before .before .before .pre .1), (c .before .if2 .left))) .1
 
 pub read-digits-spec : {M : Type 1} → statement M
 read-digits-spec =

@@ -26,8 +26,10 @@ unreadable-requires c κs = search needs
 returns : tie.Need-returns
 returns c =
     let t = ((c .before .before .before .before .read-call .ensures)) in
-    let o : none ≡ lineCall (firstLine ((c .before .before .before .before .before .before .args .sheet .now))) = sym (no-call ((c .before .before .before .before .read-call .result)) ((c .before .before .if1 .taken))) ∙ t .call in
-    let n = ((c .before .line-end .ensures)) ∙ line-rest ((c .before .before .before .before .before .before .args .sheet .now)) ((c .before .before .before .before .read-call .result .end)) (t .within) in
+    let o : none ≡ lineCall (firstLine ((c .before .before .before .before .before .before .args .sheet .now))) = sym
+    (no-call ((c .before .before .before .before .read-call .result)) ((c .before .before .if1 .taken))) ∙ t .call in
+    let n = ((c .before .line-end .ensures)) ∙ line-rest ((c .before .before .before .before .before .before .args .sheet .now)) ((c .before .before .before .before .read-call .result .end))
+    (t .within) in
     (ap lineIn ((c .unreadable .ensures)) ∙ o, ((c .unreadable .ensures)) ∙ ap₂ lineFor o n)
 
 returns-2 : tie.Need-returns-2

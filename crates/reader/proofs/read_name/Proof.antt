@@ -22,7 +22,8 @@ use Rattle.reader.proofs.named_four.Reads as named-four-reads
 use Rattle.reader.proofs.packed.Reads as packed-reads
 
 -- what is found where the name ends
-found-name : (bs : List ℕ) (code i b : ℕ) (r : Name) → Bytes bs → Packing bs code i → b ≡ getD bs i lineFeed → isEnd b ≡ true → r .op ≡ callOfCode code .op → r .count ≡ callOfCode code .count → r .end ≡ i → Named (firstLine bs) r
+found-name : (bs : List ℕ) (code i b : ℕ) (r : Name) → Bytes bs → Packing bs code i → b ≡ getD bs i lineFeed → isEnd b ≡ true → r .op ≡ callOfCode code .op → r .count ≡ callOfCode code .count
+    → r .end ≡ i → Named (firstLine bs) r
 unfolding callOfCode takenBy
 found-name bs code i b r h p e t o n z =
     let s = packing-stop bs h code i p (ap isEnd (sym e) ∙ t) in
@@ -63,12 +64,15 @@ first c = packing-begin (c .before .before .before .args .sheet .now) (c .first-
 named-four-requires : tie.Need-named-four-requires Inv-loop μ-loop
 named-four-requires c κs =
     let d = (c .before .before .before) in
-    four-range (d .before .before .before .args .sheet .now) (d .first-four .result) (λ k. (d .before .before .shared-slice-known .given) k .fits) (omega (arith, (d .before .if1 .left))) (d .first-four .ensures)
+    four-range (d .before .before .before .args .sheet .now) (d .first-four .result) (λ k. (d .before .before .shared-slice-known .given) k .fits) (omega (arith, (d .before .if1 .left)))
+    (d .first-four .ensures)
 
 returns-2 : tie.Need-returns-2 Inv-loop μ-loop
 returns-2 c =
     let d = (c .before .before .before .before) in
-    found-name (d .before .before .before .args .sheet .now) (d .first-four .result) 4 _ _ (λ k. (d .before .before .shared-slice-known .given) k .fits) (first d) (c .before .before .before .byte-at .ensures) (sym (c .before .before .ends .ensures) ∙ (c .before .if2 .taken)) (c .named-four .ensures .0) (c .named-four .ensures .1) (c .named-four .ensures .2)
+    found-name (d .before .before .before .args .sheet .now) (d .first-four .result) 4 _ _ (λ k. (d .before .before .shared-slice-known .given) k .fits) (first d)
+    (c .before .before .before .byte-at .ensures) (sym (c .before .before .ends .ensures) ∙ (c .before .if2 .taken)) (c .named-four .ensures .0) (c .named-four .ensures .1)
+    (c .named-four .ensures .2)
 
 loop-holds : tie.Need-loop-holds Inv-loop μ-loop
 loop-holds c = first (c .before .before .before)
@@ -84,11 +88,20 @@ named-requires-2 c κs = search needs
 
 returns-3 : tie.Need-returns-3 Inv-loop μ-loop
 returns-3 c =
-    found-name ((c .before .before .before .before .before .before .before .before .before .before .before .before .args .sheet .now)) ((c .before .before .before .before .before .loop .code)) ((c .before .before .before .before .before .loop .i)) _ _ (λ k. (c .before .before .before .before .before .before .before .before .before .before .before .shared-slice-known .given) k .fits) ((c .before .before .before .before .before .loop .inv)) ((c .before .before .before .byte-at2 .ensures)) (sym ((c .before .before .ends2 .ensures)) ∙ ((c .before .if3 .taken))) ((c .named2 .ensures .0)) ((c .named2 .ensures .1)) ((c .named2 .ensures .2))
+    found-name ((c .before .before .before .before .before .before .before .before .before .before .before .before .args .sheet .now)) ((c .before .before .before .before .before .loop .code))
+    ((c .before .before .before .before .before .loop .i)) _ _
+    (λ k. (c .before .before .before .before .before .before .before .before .before .before .before .shared-slice-known .given) k .fits)
+    ((c .before .before .before .before .before .loop .inv)) ((c .before .before .before .byte-at2 .ensures)) (sym ((c .before .before .ends2 .ensures)) ∙ ((c .before .if3 .taken)))
+    ((c .named2 .ensures .0)) ((c .named2 .ensures .1)) ((c .named2 .ensures .2))
 
 packed-requires : tie.Need-packed-requires Inv-loop μ-loop
 packed-requires c κs =
-    omega (arith, packing-small ((c .before .before .before .before .before .before .before .before .before .before .before .args .sheet .now)) (λ k. (c .before .before .before .before .before .before .before .before .before .before .shared-slice-known .given) k .fits) ((c .before .before .before .before .loop .code)) ((c .before .before .before .before .loop .i)) ((c .before .before .before .before .loop .inv)) (omega (arith, (c .before .before .before .loop-test .taken))))
+    omega (
+      arith,
+      packing-small ((c .before .before .before .before .before .before .before .before .before .before .before .args .sheet .now))
+          (λ k. (c .before .before .before .before .before .before .before .before .before .before .shared-slice-known .given) k .fits) ((c .before .before .before .before .loop .code))
+          ((c .before .before .before .before .loop .i)) ((c .before .before .before .before .loop .inv)) (omega (arith, (c .before .before .before .loop-test .taken))),
+    )
 
 add-i : tie.Need-add-i Inv-loop μ-loop
 add-i c = omega (arith, (c .before .before .before .before .loop-test .taken))
@@ -100,8 +113,11 @@ loop-again : tie.Need-loop-again Inv-loop μ-loop
 loop-again c =
     let bs = (c .before .before .before .before .before .before .before .before .before .before .before .before .args .sheet .now) in
     let e = (c .before .before .before .byte-at2 .ensures) in
-    subst (λ k. Packing bs k ((c .before .before .before .before .before .loop .i) + 1)) (ap (λ b. (c .before .before .before .before .before .loop .code) * 256 + b) (sym e) ∙ sym ((c .packed .ensures)))
-    (packing-next bs (λ k. (c .before .before .before .before .before .before .before .before .before .before .before .shared-slice-known .given) k .fits) ((c .before .before .before .before .before .loop .code)) ((c .before .before .before .before .before .loop .i)) ((c .before .before .before .before .before .loop .inv)) (ap isEnd (sym e) ∙ sym ((c .before .before .ends2 .ensures)) ∙ ((c .before .if3 .left))) (omega (arith, (c .before .before .before .before .loop-test .taken))))
+    subst (λ k. Packing bs k ((c .before .before .before .before .before .loop .i) + 1))
+    (ap (λ b. (c .before .before .before .before .before .loop .code) * 256 + b) (sym e) ∙ sym ((c .packed .ensures)))
+    (packing-next bs (λ k. (c .before .before .before .before .before .before .before .before .before .before .before .shared-slice-known .given) k .fits)
+    ((c .before .before .before .before .before .loop .code)) ((c .before .before .before .before .before .loop .i)) ((c .before .before .before .before .before .loop .inv))
+    (ap isEnd (sym e) ∙ sym ((c .before .before .ends2 .ensures)) ∙ ((c .before .if3 .left))) (omega (arith, (c .before .before .before .before .loop-test .taken))))
 
 byte-at-requires-3 : tie.Need-byte-at-requires-3 Inv-loop μ-loop
 byte-at-requires-3 c κs = search needs
@@ -114,7 +130,11 @@ named-requires-3 c κs = search needs
 
 returns-4 : tie.Need-returns-4 Inv-loop μ-loop
 returns-4 c =
-    found-name ((c .before .before .before .before .before .before .before .before .before .before .before .before .args .sheet .now)) ((c .before .before .before .before .before .loop .code)) ((c .before .before .before .before .before .loop .i)) _ _ (λ k. (c .before .before .before .before .before .before .before .before .before .before .before .shared-slice-known .given) k .fits) ((c .before .before .before .before .before .loop .inv)) ((c .before .before .before .byte-at3 .ensures)) (sym ((c .before .before .ends3 .ensures)) ∙ ((c .before .if4 .taken))) ((c .named3 .ensures .0)) ((c .named3 .ensures .1)) ((c .named3 .ensures .2))
+    found-name ((c .before .before .before .before .before .before .before .before .before .before .before .before .args .sheet .now)) ((c .before .before .before .before .before .loop .code))
+    ((c .before .before .before .before .before .loop .i)) _ _
+    (λ k. (c .before .before .before .before .before .before .before .before .before .before .before .shared-slice-known .given) k .fits)
+    ((c .before .before .before .before .before .loop .inv)) ((c .before .before .before .byte-at3 .ensures)) (sym ((c .before .before .ends3 .ensures)) ∙ ((c .before .if4 .taken)))
+    ((c .named3 .ensures .0)) ((c .named3 .ensures .1)) ((c .named3 .ensures .2))
 
 named-requires-4 : tie.Need-named-requires-4 Inv-loop μ-loop
 named-requires-4 c κs = search needs
@@ -122,7 +142,10 @@ named-requires-4 c κs = search needs
 returns-5 : tie.Need-returns-5 Inv-loop μ-loop
 returns-5 c =
     let bs = (c .before .before .before .before .before .before .before .before .before .before .before .before .args .sheet .now) in
-    no-name bs _ (packing-long bs (λ k. (c .before .before .before .before .before .before .before .before .before .before .before .shared-slice-known .given) k .fits) ((c .before .before .before .before .before .loop .code)) ((c .before .before .before .before .before .loop .i)) ((c .before .before .before .before .before .loop .inv)) (ap isEnd (sym ((c .before .before .before .byte-at3 .ensures))) ∙ sym ((c .before .before .ends3 .ensures)) ∙ ((c .before .if4 .left))) (omega (arith, (c .before .before .before .before .loop-test .left)))) ((c .named4 .ensures .0)) ((c .named4 .ensures .1))
+    no-name bs _ (packing-long bs (λ k. (c .before .before .before .before .before .before .before .before .before .before .before .shared-slice-known .given) k .fits)
+    ((c .before .before .before .before .before .loop .code)) ((c .before .before .before .before .before .loop .i)) ((c .before .before .before .before .before .loop .inv))
+    (ap isEnd (sym ((c .before .before .before .byte-at3 .ensures))) ∙ sym ((c .before .before .ends3 .ensures)) ∙ ((c .before .if4 .left)))
+    (omega (arith, (c .before .before .before .before .loop-test .left)))) ((c .named4 .ensures .0)) ((c .named4 .ensures .1))
 
 pub read-name-spec : {M : Type 1} → statement M
 read-name-spec =

@@ -58,7 +58,8 @@ returns c =
     let at = (c .before .before .before .before .before .before .before .args .at) in
     ap (λ x. Value x (at + 1)) (small-signed (b - 48) (omega (arith, d .1)))
     ∙ ap (λ x. Value (pos (x - 48)) (at + 1)) e
-    ∙ digit-alone ((c .before .before .before .before .before .before .before .args .sheet .now)) at ((c .before .before .before .before .before .before .before .pre)) (subst (λ x. 48 ≤ x) e (d .0)) (subst (λ x. x ≤ 57) e (d .1)) (ap isEnd (sym ((c .before .before .byte-at2 .ensures))) ∙ sym ((c .before .ends .ensures)) ∙ ((c .if2 .taken)))
+    ∙ digit-alone ((c .before .before .before .before .before .before .before .args .sheet .now)) at ((c .before .before .before .before .before .before .before .pre)) (subst (λ x. 48 ≤ x) e (d .0))
+    (subst (λ x. x ≤ 57) e (d .1)) (ap isEnd (sym ((c .before .before .byte-at2 .ensures))) ∙ sym ((c .before .ends .ensures)) ∙ ((c .if2 .taken)))
 
 read-signed-requires : tie.Need-read-signed-requires
 read-signed-requires c κs = (

@@ -19,7 +19,8 @@ use Rattle.reader.proofs.digits_from.Reads as digits-from-reads
 use Rattle.reader.proofs.read_digits.Reads as read-digits-reads
 
 -- the digits read are those behind the sign
-behind-sign : (c : tie.After-read-digits) → magnitudeAt (firstLine (c .before .before .before .before .args .sheet .now)) (c .before .before .before .before .args .at + bit (eqb (c .before .before .byte-at .result) 45)) ≡ c .read-digits .result
+behind-sign : (c : tie.After-read-digits) → magnitudeAt (firstLine (c .before .before .before .before .args .sheet .now))
+    (c .before .before .before .before .args .at + bit (eqb (c .before .before .byte-at .result) 45)) ≡ c .read-digits .result
 behind-sign c = ap (magnitudeAt (firstLine (c .before .before .before .before .args .sheet .now))) (sym (c .before .digits-from .ensures .0)) ∙ sym (c .read-digits .ensures)
 
 small : (c : tie.After-known-told) → c .before .size .given .0 .0 < 1000000000
@@ -34,7 +35,8 @@ digits-from-requires c κs =
 
 read-digits-requires : tie.Need-read-digits-requires
 read-digits-requires c κs =
-    let r = signed-room ((c .before .before .before .args .sheet .now)) ((c .before .before .before .args .at)) ((c .before .before .before .pre .0)) ((c .before .byte-at .result)) ((c .before .byte-at .ensures)) in
+    let r = signed-room ((c .before .before .before .args .sheet .now)) ((c .before .before .before .args .at)) ((c .before .before .before .pre .0)) ((c .before .byte-at .result))
+    ((c .before .byte-at .ensures)) in
     (omega (arith, r, (c .digits-from .ensures .0)), (c .digits-from .ensures .1))
 
 enum-known-size : tie.Need-enum-known-size
@@ -45,7 +47,9 @@ enum-told c = search needs
 
 returns : tie.Need-returns
 returns c =
-    signed-not ((c .before .before .before .before .before .before .args .sheet .now)) ((c .before .before .before .before .before .before .args .at)) ((c .before .before .before .before .before .before .pre .0)) ((c .before .before .before .before .byte-at .result)) ((c .before .before .before .before .byte-at .ensures)) ((c .before .before .read-digits .result)) (behind-sign (c .before .before)) ((c .before .before .before .before .before .before .pre .1)) ((c .enum-told .given .1))
+    signed-not ((c .before .before .before .before .before .before .args .sheet .now)) ((c .before .before .before .before .before .before .args .at))
+    ((c .before .before .before .before .before .before .pre .0)) ((c .before .before .before .before .byte-at .result)) ((c .before .before .before .before .byte-at .ensures))
+    ((c .before .before .read-digits .result)) (behind-sign (c .before .before)) ((c .before .before .before .before .before .before .pre .1)) ((c .enum-told .given .1))
 
 cast-t10 : tie.Need-cast-t10
 cast-t10 c = omega (arith, small (c .before))
@@ -60,7 +64,10 @@ returns-2 : tie.Need-returns-2
 returns-2 c =
     let n = (c .before .before .size .given .0 .0) in
     ap (λ x. Value x ((c .before .before .size .given .0 .1 .0))) (negated n (small (c .before)))
-    ∙ signed-minus ((c .before .before .before .before .before .before .before .before .args .sheet .now)) ((c .before .before .before .before .before .before .before .before .args .at)) ((c .before .before .before .before .before .before .before .before .pre .0)) ((c .before .before .before .before .before .before .byte-at .result)) ((c .before .before .before .before .before .before .byte-at .ensures)) ((c .before .before .before .before .read-digits .result)) (behind-sign (c .before .before .before .before)) n ((c .before .before .size .given .0 .1 .0)) ((c .if1 .taken)) ((c .before .before .size .given .1))
+    ∙ signed-minus ((c .before .before .before .before .before .before .before .before .args .sheet .now)) ((c .before .before .before .before .before .before .before .before .args .at))
+    ((c .before .before .before .before .before .before .before .before .pre .0)) ((c .before .before .before .before .before .before .byte-at .result))
+    ((c .before .before .before .before .before .before .byte-at .ensures)) ((c .before .before .before .before .read-digits .result)) (behind-sign (c .before .before .before .before)) n
+    ((c .before .before .size .given .0 .1 .0)) ((c .if1 .taken)) ((c .before .before .size .given .1))
 
 cast-t12 : tie.Need-cast-t12
 cast-t12 c = omega (arith, small (c .before))
@@ -69,7 +76,10 @@ returns-3 : tie.Need-returns-3
 returns-3 c =
     let n = (c .before .before .size .given .0 .0) in
     ap (λ x. Value x ((c .before .before .size .given .0 .1 .0))) (small-signed n (small (c .before)))
-    ∙ signed-plain ((c .before .before .before .before .before .before .before .before .args .sheet .now)) ((c .before .before .before .before .before .before .before .before .args .at)) ((c .before .before .before .before .before .before .before .before .pre .0)) ((c .before .before .before .before .before .before .byte-at .result)) ((c .before .before .before .before .before .before .byte-at .ensures)) ((c .before .before .before .before .read-digits .result)) (behind-sign (c .before .before .before .before)) n ((c .before .before .size .given .0 .1 .0)) ((c .if1 .left)) ((c .before .before .size .given .1))
+    ∙ signed-plain ((c .before .before .before .before .before .before .before .before .args .sheet .now)) ((c .before .before .before .before .before .before .before .before .args .at))
+    ((c .before .before .before .before .before .before .before .before .pre .0)) ((c .before .before .before .before .before .before .byte-at .result))
+    ((c .before .before .before .before .before .before .byte-at .ensures)) ((c .before .before .before .before .read-digits .result)) (behind-sign (c .before .before .before .before)) n
+    ((c .before .before .size .given .0 .1 .0)) ((c .if1 .left)) ((c .before .before .size .given .1))
 
 pub read-signed-spec : {M : Type 1} → statement M
 read-signed-spec =

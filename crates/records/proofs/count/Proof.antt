@@ -41,7 +41,8 @@ satisfies-requires c κs = search needs
 
 add-n : tie.Need-add-n Inv-loop μ-loop
 add-n c =
-    let o = bit-one (testOf ((c .before .before .before .before .before .args .t)) (keptAt 0 (getD ((c .before .before .before .before .before .args .t1)) ((c .before .before .before .loop .i)) noRecord))) in
+    let o = bit-one (testOf ((c .before .before .before .before .before .args .t))
+    (keptAt 0 (getD ((c .before .before .before .before .before .args .t1)) ((c .before .before .before .loop .i)) noRecord))) in
     let e = (c .satisfies .ensures) in
     omega (arith, (c .before .before .before .loop .inv .0), (c .before .before .before .loop .inv .1 .most))
 
@@ -61,8 +62,10 @@ returns c =
     let es = (c .before .before .before .args .t1) in
     let t = (c .before .before .before .args .t) in
     let e = (c .before .before .capped .ensures) in
-    let n : (c .before .loop .n) ≡ count (testOf t) (span 0 ((c .before .before .capped .result)) (λ j. keptAt 0 (getD es j noRecord))) = count-over _ _ _ _ _ ((c .before .loop .inv .1)) (omega arith) in
-    let m = count-span (testOf t) (testOf t) 0 (keptIn h) (λ j. keptAt 0 (getD es j noRecord)) (λ j. keptAt (endIn h - (keptIn h - j)) (getD es j noRecord)) (λ j. any-number t 0 (endIn h - (keptIn h - j)) (getD es j noRecord)) in
+    let n : (c .before .loop .n) ≡ count (testOf t) (span 0 ((c .before .before .capped .result)) (λ j. keptAt 0 (getD es j noRecord))) = count-over _ _ _ _ _ ((c .before .loop .inv .1))
+    (omega arith) in
+    let m = count-span (testOf t) (testOf t) 0 (keptIn h) (λ j. keptAt 0 (getD es j noRecord)) (λ j. keptAt (endIn h - (keptIn h - j)) (getD es j noRecord))
+    (λ j. any-number t 0 (endIn h - (keptIn h - j)) (getD es j noRecord)) in
     (n ∙ ap (λ k. count (testOf t) (span 0 k (λ j. keptAt 0 (getD es j noRecord)))) e ∙ m, omega (arith, (c .before .loop .inv .0), (c .before .loop .inv .1 .most)))
 
 pub count-spec : {M : Type 1} → statement M

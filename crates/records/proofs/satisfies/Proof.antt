@@ -19,7 +19,13 @@ cast-if2 c = search needs
 
 returns : tie.Need-returns
 returns c =
-    rw ((c .before .before .before .before .t .given .1), ← ((c .before .before .before .before .before .before .fate-number .ensures)), eq-eqb _ 1 ((c .before .before .if1 .taken)), eq-eqb _ _ ((c .if2 .taken)))
+    rw (
+      (c .before .before .before .before .t .given .1),
+      ← ((c .before .before .before .before .before .before .fate-number .ensures)),
+      eq-eqb _ 1 ((c .before .before .if1 .taken)),
+      eq-eqb _ _
+          ((c .if2 .taken)),
+    )
 
 enum-told : tie.Need-enum-told
 enum-told c = search needs
@@ -32,7 +38,13 @@ enum-told-3 c = search needs
 
 returns-2 : tie.Need-returns-2
 returns-2 c =
-    rw ((c .before .before .before .before .t .given .1), ← ((c .before .before .before .before .before .before .fate-number .ensures)), eq-eqb _ 1 ((c .before .before .if1 .taken)), ne-eqb _ _ ((c .if2 .left)))
+    rw (
+      (c .before .before .before .before .t .given .1),
+      ← ((c .before .before .before .before .before .before .fate-number .ensures)),
+      eq-eqb _ 1 ((c .before .before .if1 .taken)),
+      ne-eqb _ _
+          ((c .if2 .left)),
+    )
 
 returns-3 : tie.Need-returns-3
 returns-3 c =

@@ -56,7 +56,15 @@ slice-set-from-v : tie.Need-slice-set-from-v Inv-loop μ-loop
 slice-set-from-v c =
     let a = (c .before .before .before .before .before .before .before .args) in
     let l = ap length (c .before .before .loop .inv .1) ∙ length-copied (a .into .now) (a .values .now) (a .from) (a .to) (c .before .before .loop .i) in
-    omega (arith, l, (c .before .before .loop .inv .0), (c .before .before .before .lesser2 .ensures), (c .before .before .before .before .lesser .ensures), (c .before .before .before .before .before .before .rest .ensures), (c .before .loop-test))
+    omega (
+      arith,
+      l,
+      (c .before .before .loop .inv .0),
+      (c .before .before .before .lesser2 .ensures),
+      (c .before .before .before .before .lesser .ensures),
+      (c .before .before .before .before .before .before .rest .ensures),
+      (c .before .loop-test),
+    )
 
 add-i : tie.Need-add-i Inv-loop μ-loop
 add-i c = omega arith
@@ -76,7 +84,14 @@ same-length c =
 returns : tie.Need-returns Inv-loop μ-loop
 returns c =
     let a = (c .before .before .before .before .before .before .args) in
-    let e : (c .before .loop .i) ≡ min (a .n) (min (length (a .into .now) - a .to) (length (a .values .now) - a .from)) = omega (arith, (c .before .loop .inv .0), (c .before .before .lesser2 .ensures), (c .before .before .before .lesser .ensures), (c .before .before .before .before .before .rest .ensures), (c .before .before .before .before .rest2 .ensures)) in
+    let e : (c .before .loop .i) ≡ min (a .n) (min (length (a .into .now) - a .to) (length (a .values .now) - a .from)) = omega (
+      arith,
+      (c .before .loop .inv .0),
+      (c .before .before .lesser2 .ensures),
+      (c .before .before .before .lesser .ensures),
+      (c .before .before .before .before .before .rest .ensures),
+      (c .before .before .before .before .rest2 .ensures),
+    ) in
     (c .before .loop .inv .1) ∙ ap (copied (a .into .now) (a .values .now) (a .from) (a .to)) e
 
 pub copy-spec : {M : Type 1} → statement M

@@ -64,7 +64,8 @@ cast-put-naming c = omega arith
 
 put-naming-requires : tie.Need-put-naming-requires Inv-loop μ-loop
 put-naming-requires c κs =
-    adding-room _ _ _ _ _ _ _ _ _ _ ((c .before .before .before .before .before .before .before .before .loop .inv .1)) (omega arith) (named (c .before .before .before .before) ∙ (c .before .before .before .if2 .taken)) ((c .before .before .before .before .before .before .before .before .before .before .pre .3))
+    adding-room _ _ _ _ _ _ _ _ _ _ ((c .before .before .before .before .before .before .before .before .loop .inv .1)) (omega arith)
+    (named (c .before .before .before .before) ∙ (c .before .before .before .if2 .taken)) ((c .before .before .before .before .before .before .before .before .before .before .pre .3))
 
 add-next : tie.Need-add-next Inv-loop μ-loop
 add-next c = omega arith
@@ -83,8 +84,13 @@ loop-again c =
     let h : (c .before .before .before .before .before .loop .i) < (c .before .before .before .before .before .before .before .args .end) = omega arith in
     let r = adding-room _ _ _ _ _ _ _ _ _ _ ((c .before .before .before .before .before .loop .inv .1)) h e ((c .before .before .before .before .before .before .before .pre .3)) in
     let o = w .1 in
-    let g = w .2 in
-    (omega arith, rw (w .5 ∙ w .4 .ensures, w .6) (adding-put _ _ _ _ _ _ _ _ _ _ ((c .before .before .before .before .before .loop .inv .1)) h e r (toZ-ofZ (fits32 (pos (c .before .before .before .before .before .loop .i)) (omega (arith, (c .before .before .before .before .before .before .before .pre .1))))) (toZ-ofZ (fits32 (o .result) (o .ok)) ∙ o .ensures) (toZ-ofZ (fits32 (g .result) (g .ok)) ∙ g .ensures))))
+    let g = w .2 in (
+      omega arith,
+      rw (w .5 ∙ w .4 .ensures, w .6)
+          (adding-put _ _ _ _ _ _ _ _ _ _ ((c .before .before .before .before .before .loop .inv .1)) h e r
+          (toZ-ofZ (fits32 (pos (c .before .before .before .before .before .loop .i)) (omega (arith, (c .before .before .before .before .before .before .before .pre .1)))))
+          (toZ-ofZ (fits32 (o .result) (o .ok)) ∙ o .ensures) (toZ-ofZ (fits32 (g .result) (g .ok)) ∙ g .ensures)),
+    ))
     (λ w.
     let h : (c .before .before .before .before .before .loop .i) < (c .before .before .before .before .before .before .before .args .end) = omega arith in
     (omega arith, rw (w .1, w .2) (adding-skip _ _ _ _ _ _ _ _ _ _ ((c .before .before .before .before .before .loop .inv .1)) h (named (c .before) ∙ w .0 .left))))

@@ -38,7 +38,8 @@ exactly : (c : tie.After-capped2 Inv-loop μ-loop) → let a = (c .before .befor
 exactly c =
     let s = (c .before .before) in
     let a = s .args in
-    ap₂ (λ y n. testedIn false (a .m) (lowers (a .table .now)) (gaps (a .table .now)) (uppers (a .table .now)) (min (a .k) 64) y (row (a .values .now) (a .at) n)) (toZ-ofZ (s .fits .x)) (c .capped2 .ensures)
+    ap₂ (λ y n. testedIn false (a .m) (lowers (a .table .now)) (gaps (a .table .now)) (uppers (a .table .now)) (min (a .k) 64) y (row (a .values .now) (a .at) n)) (toZ-ofZ (s .fits .x))
+    (c .capped2 .ensures)
 
 -- the rule at hand
 module _ (c : tie.After-pair-holds Inv-loop μ-loop) where
@@ -51,7 +52,8 @@ module _ (c : tie.After-pair-holds Inv-loop μ-loop) where
   abbrev size : ℕ
   size = c .before .before .before .before .before .before .capped2 .result
 
-  tested : c .pair-holds .result ≡ holdsAt (lowers (start .args .table .now)) (gaps (start .args .table .now)) (uppers (start .args .table .now)) (value (withValue (start .args .m) (toZ w32 (ofZ w32 (start .args .x))) (row (start .args .values .now) (start .args .at) size))) at-hand
+  tested : c .pair-holds .result ≡ holdsAt (lowers (start .args .table .now)) (gaps (start .args .table .now)) (uppers (start .args .table .now))
+      (value (withValue (start .args .m) (toZ w32 (ofZ w32 (start .args .x))) (row (start .args .values .now) (start .args .at) size))) at-hand
   tested =
       let a = start .args in
       let g = c .before .gap-of in
@@ -85,7 +87,8 @@ pair-holds-requires c κs = search needs
 returns : tie.Need-returns Inv-loop μ-loop
 unfolding testedIn
 returns c =
-    all-stop _ _ _ _ (c .before .before .before .before .before .before .loop .inv) (omega arith) (sym (tested (c .before)) ∙ not-true _ (c .if1 .taken)) ∙ exactly (c .before .before .before .before .before .before .before)
+    all-stop _ _ _ _ (c .before .before .before .before .before .before .loop .inv) (omega arith) (sym (tested (c .before)) ∙ not-true _ (c .if1 .taken))
+    ∙ exactly (c .before .before .before .before .before .before .before)
 
 add-i : tie.Need-add-i Inv-loop μ-loop
 add-i c = omega arith

@@ -37,7 +37,9 @@ unfolding firmBy flagIn
 returns c =
     let i = (c .before .before .before .before .args .index .now) in
     rw (c .before .before .before .if1 .taken)
-    (ap (λ n. eqb n 1) ((c .number .ensures) ∙ ap natural (toZ-ofZ (fits32 (getD i (64 + (c .before .before .listed .result)) (pos 0)) (c .before .number-arg .given)) ∙ ap (λ k. getD i (64 + k) (pos 0)) ((c .before .before .listed .ensures .0)))))
+    (ap (λ n. eqb n 1) ((c .number .ensures)
+    ∙ ap natural (toZ-ofZ (fits32 (getD i (64 + (c .before .before .listed .result)) (pos 0)) (c .before .number-arg .given)) ∙ ap (λ k. getD i (64 + k) (pos 0))
+    ((c .before .before .listed .ensures .0)))))
 
 firm-named-requires : tie.Need-firm-named-requires
 firm-named-requires c κs = search needs

@@ -27,7 +27,8 @@ loop-holds : tie.Need-loop-holds Inv-loop μ-loop
 loop-holds c = walk-begin _ _ _
 
 -- the rule at hand
-tested : (c : tie.After-names-firmly Inv-loop μ-loop) → let b = c .before .before .before .before .before .before .before .args .table .now in c .names-firmly .result ≡ firmAt (lowers b) (uppers b) (firms b) (c .before .before .before .before .before .before .before .args .m) (c .before .before .before .before .before .loop .i)
+tested : (c : tie.After-names-firmly Inv-loop μ-loop) → let b = c .before .before .before .before .before .before .before .args .table .now in c .names-firmly .result ≡ firmAt (lowers b) (uppers b)
+    (firms b) (c .before .before .before .before .before .before .before .args .m) (c .before .before .before .before .before .loop .i)
 tested c =
     let m = c .before .before .before .before .before .before .before .args .m in
     let f = c .before .before .before .firm-of .ensures in

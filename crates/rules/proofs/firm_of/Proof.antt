@@ -32,7 +32,8 @@ number-requires c κs = search needs
 returns : tie.Need-returns
 returns c =
     let s = c .before .before in
-    ap (λ n. eqb n 1) (c .number .ensures ∙ ap natural (toZ-ofZ (fits32 (getD (s .args .table .now) (4 * s .args .i + 3) (pos 0)) (c .before .number-arg .given)))) ∙ sym (at-firm (s .args .table .now) (s .args .i) (s .pre))
+    ap (λ n. eqb n 1) (c .number .ensures ∙ ap natural (toZ-ofZ (fits32 (getD (s .args .table .now) (4 * s .args .i + 3) (pos 0)) (c .before .number-arg .given))))
+    ∙ sym (at-firm (s .args .table .now) (s .args .i) (s .pre))
 
 pub firm-of-spec : {M : Type 1} → statement M
 firm-of-spec =

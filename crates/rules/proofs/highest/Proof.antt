@@ -41,8 +41,12 @@ loop-less : tie.Need-loop-less Inv-loop μ-loop
 loop-less c = omega arith
 
 loop-again : tie.Need-loop-again Inv-loop μ-loop
-loop-again c =
-    (omega arith, none-above-next (lowers (c .before .before .before .before .before .before .args .table .now)) (uppers (c .before .before .before .before .before .before .args .table .now)) _ _ _ _ _ _ (c .before .before .before .before .before .loop .inv .1) (c .before .before .before .lower-of .ensures) (c .before .before .upper-of .ensures) (c .before .larger .ensures) (c .larger2 .ensures))
+loop-again c = (
+  omega arith,
+  none-above-next (lowers (c .before .before .before .before .before .before .args .table .now)) (uppers (c .before .before .before .before .before .before .args .table .now)) _ _ _
+      _ _ _ (c .before .before .before .before .before .loop .inv .1) (c .before .before .before .lower-of .ensures) (c .before .before .upper-of .ensures) (c .before .larger .ensures)
+      (c .larger2 .ensures),
+)
 
 returns : tie.Need-returns Inv-loop μ-loop
 returns c = let e : c .before .loop .i ≡ c .before .before .args .end = omega arith in rw (sym e) (c .before .loop .inv .1)

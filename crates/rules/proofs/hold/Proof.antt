@@ -38,7 +38,10 @@ unfolding testedBy
 returns-2 c =
     let s = (c .before .before) in
     let a = s .args in
-    rw (c .before .if1 .left) ((c .all-hold .ensures) ∙ ap (λ y. testedIn false (a .m) (lowers (a .table .now)) (gaps (a .table .now)) (uppers (a .table .now)) (min (a .k) 64) y (row (a .values .now) (a .at) (min (a .n) 32))) (toZ-ofZ (s .fits .x)))
+    rw (c .before .if1 .left)
+    ((c .all-hold .ensures)
+    ∙ ap (λ y. testedIn false (a .m) (lowers (a .table .now)) (gaps (a .table .now)) (uppers (a .table .now)) (min (a .k) 64) y (row (a .values .now) (a .at) (min (a .n) 32)))
+    (toZ-ofZ (s .fits .x)))
 
 pub hold-spec : {M : Type 1} → statement M
 hold-spec =

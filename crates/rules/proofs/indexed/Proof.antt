@@ -57,7 +57,9 @@ array-set-from-index c = omega arith
 
 firm-below-requires : tie.Need-firm-below-requires Inv-loop μ-loop
 firm-below-requires c κs =
-    let s = c .before .before .before .before .before .before in subst (λ n. NoneAbove (lowers (s .args .table .now)) (uppers (s .args .table .now)) n (c .before .before .before .before .highest .result)) (c .before .before .before .before .before .capped .ensures) (c .before .before .before .before .highest .ensures)
+    let s = c .before .before .before .before .before .before in subst
+    (λ n. NoneAbove (lowers (s .args .table .now)) (uppers (s .args .table .now)) n (c .before .before .before .before .highest .result))
+    (c .before .before .before .before .before .capped .ensures) (c .before .before .before .before .highest .ensures)
 
 bit-requires : tie.Need-bit-requires Inv-loop μ-loop
 bit-requires c κs = search needs
@@ -86,12 +88,15 @@ loop-again c =
     let h : (c .before .before .before .before .before .loop .m) < 33 = omega arith in
     let few = indexing-few _ _ _ _ _ _ _ _ (c .before .before .before .before .before .loop .inv) size h _ _ (c .before .before .add-namings .ensures) in
     rw (toZ-ofZ (fits32 (pos next) (omega arith)), toZ-ofZ (fits32 (b .result) (b .ok)) ∙ b .ensures)
-    (indexing-next _ _ _ _ _ _ _ _ (c .before .before .before .before .before .loop .inv) size h _ _ (c .before .before .add-namings .ensures) (c .before .firm-below .result) ((c .before .firm-below .ensures) ∙ ap (λ n. firmIn (lowers (a .table .now)) (uppers (a .table .now)) (firms (a .table .now)) n (c .before .before .before .before .before .loop .m)) (sym (c .before .before .before .before .before .before .before .capped .ensures))))
+    (indexing-next _ _ _ _ _ _ _ _ (c .before .before .before .before .before .loop .inv) size h _ _ (c .before .before .add-namings .ensures) (c .before .firm-below .result)
+    ((c .before .firm-below .ensures) ∙ ap (λ n. firmIn (lowers (a .table .now)) (uppers (a .table .now)) (firms (a .table .now)) n (c .before .before .before .before .before .loop .m))
+    (sym (c .before .before .before .before .before .before .before .capped .ensures))))
 
 returns : tie.Need-returns Inv-loop μ-loop
 returns c =
     let a = (c .before .before .before .before .args) in
-    subst (Indexed (c .before .loop .index) (lowers (a .table .now)) (gaps (a .table .now)) (uppers (a .table .now)) (firms (a .table .now))) (c .before .before .before .capped .ensures) (indexing-over _ _ _ _ _ _ _ _ (c .before .loop .inv) (omega arith))
+    subst (Indexed (c .before .loop .index) (lowers (a .table .now)) (gaps (a .table .now)) (uppers (a .table .now)) (firms (a .table .now))) (c .before .before .before .capped .ensures)
+    (indexing-over _ _ _ _ _ _ _ _ (c .before .loop .inv) (omega arith))
 
 pub indexed-spec : {M : Type 1} → statement M
 indexed-spec =

@@ -59,7 +59,8 @@ returns c =
     let p = (c .before .before .before .before .place-in .result) in
     let e = flag _ (s .fits .o) (c .before .if2 .taken) in
     let p-is : p ≡ beyond (a .o) = omega (arith, place-is (c .before .before .before .before), natural-below (a .o) e) in
-    let v = toZ-ofZ (fits32 (getD (a .values .now) (a .at + p) (pos 0)) (c .before .before .v .given)) ∙ near-is (a .values .now) (a .at) (a .n) (a .y) p (s .pre .0) (c .before .before .before .if1 .taken) ∙ ap (otherAt (value (row (a .values .now) (a .at) (a .n))) (a .y)) p-is in
+    let v = toZ-ofZ (fits32 (getD (a .values .now) (a .at + p) (pos 0)) (c .before .before .v .given)) ∙ near-is (a .values .now) (a .at) (a .n) (a .y) p (s .pre .0)
+    (c .before .before .before .if1 .taken) ∙ ap (otherAt (value (row (a .values .now) (a .at) (a .n))) (a .y)) p-is in
     rw (upper-side (value (row (a .values .now) (a .at) (a .n))) (a .y) (a .o) (a .g) e) ((c .less-by .ensures) ∙ ap₂ ltZ (ap₂ _+ℤ_ v (toZ-ofZ (s .fits .g))) (toZ-ofZ (s .fits .y)))
 
 less-by-requires-2 : tie.Need-less-by-requires-2
@@ -72,7 +73,8 @@ returns-2 c =
     let p = (c .before .before .before .before .place-in .result) in
     let e = flag _ (s .fits .o) (c .before .if2 .left) in
     let p-is : p ≡ natural (a .o) = omega (arith, place-is (c .before .before .before .before), behind-none (a .o) e) in
-    let v = toZ-ofZ (fits32 (getD (a .values .now) (a .at + p) (pos 0)) (c .before .before .v .given)) ∙ near-is (a .values .now) (a .at) (a .n) (a .y) p (s .pre .0) (c .before .before .before .if1 .taken) ∙ ap (otherAt (value (row (a .values .now) (a .at) (a .n))) (a .y)) p-is in
+    let v = toZ-ofZ (fits32 (getD (a .values .now) (a .at + p) (pos 0)) (c .before .before .v .given)) ∙ near-is (a .values .now) (a .at) (a .n) (a .y) p (s .pre .0)
+    (c .before .before .before .if1 .taken) ∙ ap (otherAt (value (row (a .values .now) (a .at) (a .n))) (a .y)) p-is in
     rw (lower-side (value (row (a .values .now) (a .at) (a .n))) (a .y) (a .o) (a .g) e) ((c .less-by2 .ensures) ∙ ap₂ ltZ (ap₂ _+ℤ_ (toZ-ofZ (s .fits .y)) (toZ-ofZ (s .fits .g))) v)
 
 cast-result : tie.Need-cast-result

@@ -36,7 +36,8 @@ abbrev μ-loop : tie.MeasureT-loop
 μ-loop index values at n m x y size p last k₀ k = last - k
 
 -- the row that is tested is the one given
-exactly : (s : tie.Start Inv-loop μ-loop) → let a = s .args in indexedIn (a .index .now) (a .m) (toZ w32 (ofZ w32 (a .x))) (row (a .values .now) (a .at) (a .n)) ≡ indexedIn (a .index .now) (a .m) (a .x) (row (a .values .now) (a .at) (a .n))
+exactly : (s : tie.Start Inv-loop μ-loop) → let a = s .args in indexedIn (a .index .now) (a .m) (toZ w32 (ofZ w32 (a .x))) (row (a .values .now) (a .at) (a .n)) ≡ indexedIn (a .index .now) (a .m)
+    (a .x) (row (a .values .now) (a .at) (a .n))
 exactly s = let a = s .args in ap (λ y. indexedIn (a .index .now) (a .m) y (row (a .values .now) (a .at) (a .n))) (toZ-ofZ (s .fits .x))
 
 -- the naming at hand
@@ -101,8 +102,12 @@ cast-k c = omega arith
 loop-holds : tie.Need-loop-holds Inv-loop μ-loop
 loop-holds c =
     let i = (c .before .before .before .before .before .before .before .before .args .index .now) in
-    reading-begin i (c .before .before .before .before .before .before .before .before .args .m) _ _ (c .before .before .capped .result) (c .before .before .before .before .before .listed .result) (c .number2 .result) (c .before .before .before .before .before .listed .ensures .0)
-    ((c .before .before .capped .ensures) ∙ ap (λ n. min n 128) ((c .before .before .before .number .ensures) ∙ ap natural (toZ-ofZ (fits32 (getD i ((c .before .before .before .before .before .listed .result) + 1) (pos 0)) (c .before .before .before .before .number-arg .given)))))
+    reading-begin i (c .before .before .before .before .before .before .before .before .args .m) _ _ (c .before .before .capped .result) (c .before .before .before .before .before .listed .result)
+    (c .number2 .result) (c .before .before .before .before .before .listed .ensures .0)
+    ((c .before .before .capped .ensures)
+    ∙ ap (λ n. min n 128)
+    ((c .before .before .before .number .ensures)
+    ∙ ap natural (toZ-ofZ (fits32 (getD i ((c .before .before .before .before .before .listed .result) + 1) (pos 0)) (c .before .before .before .before .number-arg .given)))))
     ((c .number2 .ensures) ∙ ap natural (toZ-ofZ (fits32 (getD i (c .before .before .before .before .before .listed .result) (pos 0)) (c .before .number-arg2 .given))))
 
 mul-naming-holds : tie.Need-mul-naming-holds Inv-loop μ-loop
@@ -135,7 +140,8 @@ naming-holds-requires c κs =
 
 returns : tie.Need-returns Inv-loop μ-loop
 returns c =
-    reading-stop _ _ _ _ _ (c .before .before .before .before .before .loop .k) (c .before .before .before .before .before .loop .inv) (omega arith) (sym (tested (c .before)) ∙ not-true _ (c .if1 .taken)) ∙ exactly (c .before .before .before .before .before .before .before .before .before .before .before .before .before .before)
+    reading-stop _ _ _ _ _ (c .before .before .before .before .before .loop .k) (c .before .before .before .before .before .loop .inv) (omega arith)
+    (sym (tested (c .before)) ∙ not-true _ (c .if1 .taken)) ∙ exactly (c .before .before .before .before .before .before .before .before .before .before .before .before .before .before)
 
 add-k : tie.Need-add-k Inv-loop μ-loop
 add-k c = omega arith
@@ -145,7 +151,8 @@ loop-less c = omega arith
 
 loop-again : tie.Need-loop-again Inv-loop μ-loop
 loop-again c =
-    reading-next _ _ _ _ _ (c .before .before .before .before .before .loop .k) (c .before .before .before .before .before .loop .inv) (omega arith) (sym (tested (c .before)) ∙ not-false _ (c .if1 .left))
+    reading-next _ _ _ _ _ (c .before .before .before .before .before .loop .k) (c .before .before .before .before .before .loop .inv) (omega arith)
+    (sym (tested (c .before)) ∙ not-false _ (c .if1 .left))
 
 returns-2 : tie.Need-returns-2 Inv-loop μ-loop
 returns-2 c =

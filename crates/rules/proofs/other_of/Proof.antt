@@ -41,7 +41,8 @@ returns-2 : tie.Need-returns-2
 returns-2 c =
     let a = (c .before .before .before .lower-of .ensures) in
     let p = (c .before .place-of2) in
-    toZ-ofZ (fits32 _ (c .below .ok)) ∙ (c .below .ensures) ∙ ap (λ z. negsuc (natural z)) (toZ-ofZ (fits32 (p .result) (p .ok)) ∙ p .ensures) ∙ ap (λ k. negsuc (placeOf (c .before .before .before .before .args .m) k)) a
+    toZ-ofZ (fits32 _ (c .below .ok)) ∙ (c .below .ensures) ∙ ap (λ z. negsuc (natural z)) (toZ-ofZ (fits32 (p .result) (p .ok)) ∙ p .ensures)
+    ∙ ap (λ k. negsuc (placeOf (c .before .before .before .before .args .m) k)) a
     ∙ other-lower _ _ _ (λ z. (c .before .before .if1 .left) (a ∙ z))
 
 pub other-of-spec : {M : Type 1} → statement M

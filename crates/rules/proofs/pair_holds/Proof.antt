@@ -18,7 +18,8 @@ use Rattle.rules.proofs.less_by.Reads as less-by-reads
 use Rattle.rules.proofs.value_with.Reads as value-with-reads
 
 -- the measure counts as what was given
-x : (s : tie.Start) → (k : ℕ) → let a = s .args in value (withValue (a .m) (toZ w32 (ofZ w32 (a .x))) (row (a .values .now) (a .at) (a .n))) k ≡ value (withValue (a .m) (a .x) (row (a .values .now) (a .at) (a .n))) k
+x : (s : tie.Start) → (k : ℕ) → let a = s .args in value (withValue (a .m) (toZ w32 (ofZ w32 (a .x))) (row (a .values .now) (a .at) (a .n))) k ≡ value
+    (withValue (a .m) (a .x) (row (a .values .now) (a .at) (a .n))) k
 x s k = let a = s .args in ap (λ y. value (withValue (a .m) y (row (a .values .now) (a .at) (a .n))) k) (toZ-ofZ (s .fits .x))
 
 value-with-requires : tie.Need-value-with-requires
@@ -37,7 +38,8 @@ returns c =
     let low = (c .before .before .value-with) in
     let high = (c .before .value-with2) in
     (c .less-by .ensures)
-    ∙ ap₂ ltZ (ap₂ _+ℤ_ (toZ-ofZ (fits32 (low .result) (low .ok)) ∙ low .ensures ∙ x s (s .args .a)) (toZ-ofZ (s .fits .g))) (toZ-ofZ (fits32 (high .result) (high .ok)) ∙ high .ensures ∙ x s (s .args .b))
+    ∙ ap₂ ltZ (ap₂ _+ℤ_ (toZ-ofZ (fits32 (low .result) (low .ok)) ∙ low .ensures ∙ x s (s .args .a)) (toZ-ofZ (s .fits .g)))
+    (toZ-ofZ (fits32 (high .result) (high .ok)) ∙ high .ensures ∙ x s (s .args .b))
 
 pub pair-holds-spec : {M : Type 1} → statement M
 pair-holds-spec =

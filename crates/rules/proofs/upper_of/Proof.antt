@@ -31,7 +31,8 @@ number-requires c κs = search needs
 returns : tie.Need-returns
 returns c =
     let s = c .before .before in
-    c .number .ensures ∙ ap natural (toZ-ofZ (fits32 (getD (s .args .table .now) (4 * s .args .i + 2) (pos 0)) (c .before .number-arg .given))) ∙ sym (at-upper (s .args .table .now) (s .args .i) (s .pre))
+    c .number .ensures ∙ ap natural (toZ-ofZ (fits32 (getD (s .args .table .now) (4 * s .args .i + 2) (pos 0)) (c .before .number-arg .given)))
+    ∙ sym (at-upper (s .args .table .now) (s .args .i) (s .pre))
 
 pub upper-of-spec : {M : Type 1} → statement M
 upper-of-spec =

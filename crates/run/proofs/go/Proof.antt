@@ -64,17 +64,21 @@ use Rattle.moves.proofs.sent_record.Reads as sent-record-reads
 use Rattle.writer.proofs.put.Reads as put-reads
 
 abbrev Inv-loop2 : tie.InvT-loop2
-Inv-loop2 sound reserve sheet from area head base draft values arrived confirmed table edits₀ counts index at i ended stop line named slot next seat e side marked j₀ edits j = (Marked side edits₀ edits j) × (j ≤ marked) × (marked ≤ 256)
+Inv-loop2 sound reserve sheet from area head base draft values arrived confirmed table edits₀ counts index at i ended stop line named first next second e side marked j₀ edits j =
+    (Marked side edits₀ edits j) × (j ≤ marked) × (marked ≤ 256)
 
 abbrev μ-loop2 : tie.MeasureT-loop2
-μ-loop2 sound reserve sheet from area head base draft values arrived confirmed table edits₀ counts index at i ended stop line named slot next seat e side marked j₀ edits j = marked - j
+μ-loop2 sound reserve sheet from area head base draft values arrived confirmed table edits₀ counts index at i ended stop line named first next second e side marked j₀ edits j = marked - j
 
 abbrev Inv-loop : tie.InvT-loop
-Inv-loop sound reserve sheet from area₀ head₀ base₀ draft₀ values₀ arrived₀ confirmed₀ table₀ edits₀ counts₀ index₀ at₀ i₀ ended₀ stop₀ area head base draft values arrived confirmed table edits counts index at i ended stop =
-    Course sound reserve sheet from area₀ (view (stateOf (headFrom head₀) base₀ draft₀ values₀ arrived₀ confirmed₀ table₀ edits₀)) area (stateOf (headFrom head) base draft values arrived confirmed table edits) counts index at i ended stop
+Inv-loop sound reserve sheet from area₀ head₀ base₀ draft₀ values₀ arrived₀ confirmed₀ table₀ edits₀ counts₀ index₀ at₀ i₀ ended₀ stop₀ area head base draft values arrived confirmed table edits
+    counts index at i ended stop =
+    Course sound reserve sheet from area₀ (view (stateOf (headFrom head₀) base₀ draft₀ values₀ arrived₀ confirmed₀ table₀ edits₀)) area
+    (stateOf (headFrom head) base draft values arrived confirmed table edits) counts index at i ended stop
 
 abbrev μ-loop : tie.MeasureT-loop
-μ-loop sound reserve sheet from area₀ head₀ base₀ draft₀ values₀ arrived₀ confirmed₀ table₀ edits₀ counts₀ index₀ at₀ i₀ ended₀ stop₀ area head base draft values arrived confirmed table edits counts index at i ended stop = length sheet - i
+μ-loop sound reserve sheet from area₀ head₀ base₀ draft₀ values₀ arrived₀ confirmed₀ table₀ edits₀ counts₀ index₀ at₀ i₀ ended₀ stop₀ area head base draft values arrived confirmed table edits counts
+    index at i ended stop = length sheet - i
 
 -- ---- the places of the code, as tools/named writes them
 
@@ -417,7 +421,9 @@ sheet-fits : (c : tie.After-shared-slice-known Inv-loop2 μ-loop2 Inv-loop μ-lo
 sheet-fits c = omega arith
 
 -- a line is begun: the run goes on, and the sheet and the area have room for it
-on-line : (c : tie.In-loop Inv-loop2 μ-loop2 Inv-loop μ-loop) → SoundIn ((Start-from-In-loop c) .args .sound) (spread (state-at (c .before))) × Going ((Start-from-In-loop c) .args .reserve) ((Start-from-In-loop c) .args .sheet .now) ((Start-from-In-loop c) .args .from) ((Start-from-In-loop c) .args .area .now) (view (started ((After-numbers-from-In-loop c)))) (c .before .loop .area) (state-at (c .before)) (c .before .loop .counts) (c .before .loop .at) (c .before .loop .i)
+on-line : (c : tie.In-loop Inv-loop2 μ-loop2 Inv-loop μ-loop) → SoundIn ((Start-from-In-loop c) .args .sound) (spread (state-at (c .before))) × Going ((Start-from-In-loop c) .args .reserve)
+    ((Start-from-In-loop c) .args .sheet .now) ((Start-from-In-loop c) .args .from) ((Start-from-In-loop c) .args .area .now) (view (started ((After-numbers-from-In-loop c))))
+    (c .before .loop .area) (state-at (c .before)) (c .before .loop .counts) (c .before .loop .at) (c .before .loop .i)
 on-line c = (c .before .loop .inv .under) ((inside (c .before .loop .inv) (c .loop-test .taken)) .0)
 
 begun : (c : tie.In-loop Inv-loop2 μ-loop2 Inv-loop μ-loop) → (c .before .loop .i) < length ((Start-from-In-loop c) .args .sheet .now)
@@ -432,21 +438,28 @@ read-is-line c =
     let i = ((At-loop-from-After-read-line c) .loop .i) in
     let sheet = ((Start-from-After-read-line c) .args .sheet .now) in
     let given = take (length sheet - i) (drop i sheet) in
-    let e : given ≡ drop i sheet = lent-rest i sheet in
-    ((c .read-line .ensures .0) ∙ ap (λ bs. lineCall (upTo lineFeed bs)) e, ap (λ l. l .end) (c .read-line .ensures .1) ∙ line-length (lineCall (upTo lineFeed given)) (length (upTo lineFeed given)) ∙ ap (λ bs. length (upTo lineFeed bs)) e)
+    let e : given ≡ drop i sheet = lent-rest i sheet in (
+      (c .read-line .ensures .0) ∙ ap (λ bs. lineCall (upTo lineFeed bs)) e,
+      ap (λ l. l .end) (c .read-line .ensures .1) ∙ line-length (lineCall (upTo lineFeed given)) (length (upTo lineFeed given))
+          ∙ ap (λ bs. length (upTo lineFeed bs)) e,
+    )
 
-end-is : (c : tie.After-read-line Inv-loop2 μ-loop2 Inv-loop μ-loop) → ((At-loop-from-After-read-line c) .loop .i) + (c .read-line .result .end) ≡ ((At-loop-from-After-read-line c) .loop .i) + length (line c)
+end-is : (c : tie.After-read-line Inv-loop2 μ-loop2 Inv-loop μ-loop) → ((At-loop-from-After-read-line c) .loop .i) + (c .read-line .result .end) ≡ ((At-loop-from-After-read-line c) .loop .i) +
+    length (line c)
 end-is c = ap (λ n. ((At-loop-from-After-read-line c) .loop .i) + n) (read-is-line c .1)
 
-end-most : (c : tie.After-read-line Inv-loop2 μ-loop2 Inv-loop μ-loop) → ((At-loop-from-After-read-line c) .loop .i) + (c .read-line .result .end) ≤ length ((Start-from-After-read-line c) .args .sheet .now)
+end-most : (c : tie.After-read-line Inv-loop2 μ-loop2 Inv-loop μ-loop) → ((At-loop-from-After-read-line c) .loop .i) + (c .read-line .result .end) ≤ length
+    ((Start-from-After-read-line c) .args .sheet .now)
 end-most c =
     let h = begun (c .before .before) in
-    line-within ((Start-from-After-read-line c) .args .sheet .now) ((At-loop-from-After-read-line c) .loop .i) (((At-loop-from-After-read-line c) .loop .i) + (c .read-line .result .end)) (end-is c) (omega (arith, h))
+    line-within ((Start-from-After-read-line c) .args .sheet .now) ((At-loop-from-After-read-line c) .loop .i) (((At-loop-from-After-read-line c) .loop .i) + (c .read-line .result .end)) (end-is c)
+    (omega (arith, h))
 
 end-fits : (c : tie.After-read-line Inv-loop2 μ-loop2 Inv-loop μ-loop) → Fits w64 (((At-loop-from-After-read-line c) .loop .i) + (c .read-line .result .end) + 1)
 end-fits c = let e = end-most c in fits-le (le-next e) (sheet-fits ((After-shared-slice-known-from-After-read-line c)))
 
-nearer : (c : tie.After-read-line Inv-loop2 μ-loop2 Inv-loop μ-loop) → length ((Start-from-After-read-line c) .args .sheet .now) - (((At-loop-from-After-read-line c) .loop .i) + (c .read-line .result .end) + 1) < length ((Start-from-After-read-line c) .args .sheet .now) - ((At-loop-from-After-read-line c) .loop .i)
+nearer : (c : tie.After-read-line Inv-loop2 μ-loop2 Inv-loop μ-loop) → length ((Start-from-After-read-line c) .args .sheet .now) -
+    (((At-loop-from-After-read-line c) .loop .i) + (c .read-line .result .end) + 1) < length ((Start-from-After-read-line c) .args .sheet .now) - ((At-loop-from-After-read-line c) .loop .i)
 nearer c = let h = begun (c .before .before) in omega (arith, h)
 
 -- ---- the call
@@ -468,7 +481,9 @@ state-next c =
 abbrev counts-next : tie.After-loop2 Inv-loop2 μ-loop2 Inv-loop μ-loop → List ℕ
 counts-next c = ((After-make-from-After-loop2 c) .make .last .1 .1 .1 .1 .1 .1 .1 .1 .1 .1 .0)
 
-made : (c : tie.After-loop2 Inv-loop2 μ-loop2 Inv-loop μ-loop) → Makes ((After-read-line-from-After-loop2 c) .read-line .result) (state-at ((At-loop-from-After-loop2 c))) (state-next c) ((At-loop-from-After-loop2 c) .loop .counts) (counts-next c) ((At-loop-from-After-loop2 c) .loop .index) ((After-make-from-After-loop2 c) .make .last .1 .1 .1 .1 .1 .1 .1 .1 .0) ((After-make-from-After-loop2 c) .make .result)
+made : (c : tie.After-loop2 Inv-loop2 μ-loop2 Inv-loop μ-loop) → Makes ((After-read-line-from-After-loop2 c) .read-line .result) (state-at ((At-loop-from-After-loop2 c))) (state-next c)
+    ((At-loop-from-After-loop2 c) .loop .counts) (counts-next c) ((At-loop-from-After-loop2 c) .loop .index) ((After-make-from-After-loop2 c) .make .last .1 .1 .1 .1 .1 .1 .1 .1 .0)
+    ((After-make-from-After-loop2 c) .make .result)
 made c =
     let l = ((After-read-line-from-After-loop2 c) .read-line .result) in
     let e = ((After-make-from-After-loop2 c) .make .result) in
@@ -491,7 +506,9 @@ made c =
       next = λ y. ap (λ k. k .next) seen ∙ ((After-second-look-from-After-loop2 c) .second-look .ensures) y ∙ (λ i. earlierAt (head i) (sym seen i .named) (sym seen i .standing));
       saw = λ y. ap (λ k. k .seen) seen ∙ ap (λ n. getD es n noRecord) (((After-slot2-from-After-loop2 c) .slot2 .ensures .0) ∙ sym (ap (λ k. slotAt (k .next)) seen));
     })
-    (subst (λ x. Marked (natural (l .a)) (noted e es) (c .before .loop2 .edits) x) j (subst (λ x. Marked (natural (l .a)) x (c .before .loop2 .edits) (c .before .loop2 .j)) note (subst (λ x. Marked x ((Joined1-from-After-loop2 c) .if1 .edits) (c .before .loop2 .edits) (c .before .loop2 .j)) side (c .before .loop2 .inv .0))))
+    (subst (λ x. Marked (natural (l .a)) (noted e es) (c .before .loop2 .edits) x) j
+    (subst (λ x. Marked (natural (l .a)) x (c .before .loop2 .edits) (c .before .loop2 .j)) note
+    (subst (λ x. Marked x ((Joined1-from-After-loop2 c) .if1 .edits) (c .before .loop2 .edits) (c .before .loop2 .j)) side (c .before .loop2 .inv .0))))
 
 -- ---- its answer, put into the rest of the area
 
@@ -499,28 +516,34 @@ abbrev values-now : tie.After-put Inv-loop2 μ-loop2 Inv-loop μ-loop → List �
 values-now c = ((After-make-from-After-put c) .make .last .1 .1 .1 .1 .0)
 
 abbrev told : tie.After-put Inv-loop2 μ-loop2 Inv-loop μ-loop → List ℕ
-told c = lineOf ((After-make-from-After-put c) .make .result .answer) (take (((After-make-from-After-put c) .make .result .from) + ((After-make-from-After-put c) .make .result .width) - ((After-make-from-After-put c) .make .result .from)) (drop ((After-make-from-After-put c) .make .result .from) (values-now c)))
+told c = lineOf ((After-make-from-After-put c) .make .result .answer)
+    (take (((After-make-from-After-put c) .make .result .from) + ((After-make-from-After-put c) .make .result .width) - ((After-make-from-After-put c) .make .result .from))
+    (drop ((After-make-from-After-put c) .make .result .from) (values-now c)))
 
 told-is : (c : tie.After-put Inv-loop2 μ-loop2 Inv-loop μ-loop) → told c ≡ text (lineStep (line ((After-read-line-from-After-put c))) (view (state-at ((At-loop-from-After-put c)))) .answer)
 unfolding lineOf lineStep
 told-is c =
     let j = made ((After-loop2-from-After-put c)) in
-    ap (λ vs. text (withRow (answerOf ((After-make-from-After-put c) .make .result .answer)) vs)) (lent-row (values-now c) ((After-make-from-After-put c) .make .result .from) ((After-make-from-After-put c) .make .result .width) (le-same (le-sum (j .from) (j .width)) (j .sized .values)))
+    ap (λ vs. text (withRow (answerOf ((After-make-from-After-put c) .make .result .answer)) vs))
+    (lent-row (values-now c) ((After-make-from-After-put c) .make .result .from) ((After-make-from-After-put c) .make .result .width) (le-same (le-sum (j .from) (j .width)) (j .sized .values)))
     ∙ ap text (j .answer ∙ ap (λ o. stepOf o (view (state-at ((At-loop-from-After-put c)))) .answer) ((read-is-line ((After-read-line-from-After-put c))) .0))
 
-left-is : (c : tie.After-put Inv-loop2 μ-loop2 Inv-loop μ-loop) → view (state-next ((After-loop2-from-After-put c))) ≡ lineStep (line ((After-read-line-from-After-put c))) (view (state-at ((At-loop-from-After-put c)))) .plan
+left-is : (c : tie.After-put Inv-loop2 μ-loop2 Inv-loop μ-loop) → view (state-next ((After-loop2-from-After-put c))) ≡ lineStep (line ((After-read-line-from-After-put c)))
+    (view (state-at ((At-loop-from-After-put c)))) .plan
 unfolding lineStep
 left-is c = (made ((After-loop2-from-After-put c))) .plan ∙ ap (λ o. stepOf o (view (state-at ((At-loop-from-After-put c)))) .plan) ((read-is-line ((After-read-line-from-After-put c))) .0)
 
 enough : (c : tie.After-put Inv-loop2 μ-loop2 Inv-loop μ-loop) → ((Start-from-After-put c) .args .reserve) ≤ length ((Start-from-After-put c) .args .area .now) - ((At-loop-from-After-put c) .loop .at)
-enough c = subst (λ n. ((Start-from-After-put c) .args .reserve) ≤ n - ((At-loop-from-After-put c) .loop .at)) ((on-line ((In-loop-from-After-put c))) .1 .same) ((inside ((At-loop-from-After-put c) .loop .inv) ((In-loop-from-After-put c) .loop-test .taken)) .2)
+enough c = subst (λ n. ((Start-from-After-put c) .args .reserve) ≤ n - ((At-loop-from-After-put c) .loop .at)) ((on-line ((In-loop-from-After-put c))) .1 .same)
+    ((inside ((At-loop-from-After-put c) .loop .inv) ((In-loop-from-After-put c) .loop-test .taken)) .2)
 
 -- what was put, and how many bytes
 abbrev room : tie.After-put Inv-loop2 μ-loop2 Inv-loop μ-loop → List ℕ
 room c = drop ((At-loop-from-After-put c) .loop .at) ((At-loop-from-After-put c) .loop .area)
 
 put-is : (c : tie.After-put Inv-loop2 μ-loop2 Inv-loop μ-loop) → (c .put .result) ≡ cond (leb (length (told c)) (length (room c))) (length (told c)) 0
-put-is c = subst (λ xs. (c .put .result) ≡ cond (leb (length (told c)) (length xs)) (length (told c)) 0) (lent-rest ((At-loop-from-After-put c) .loop .at) ((At-loop-from-After-put c) .loop .area)) (c .put .ensures .1)
+put-is c = subst (λ xs. (c .put .result) ≡ cond (leb (length (told c)) (length xs)) (length (told c)) 0) (lent-rest ((At-loop-from-After-put c) .loop .at) ((At-loop-from-After-put c) .loop .area))
+    (c .put .ensures .1)
 
 some-told : (c : tie.After-put Inv-loop2 μ-loop2 Inv-loop μ-loop) → 0 < length (told c)
 some-told c = text-some (told c) (lineStep (line ((After-read-line-from-After-put c))) (view (state-at ((At-loop-from-After-put c)))) .answer) (told-is c)
@@ -538,23 +561,30 @@ at-most : (c : tie.After-put Inv-loop2 μ-loop2 Inv-loop μ-loop) → ((At-loop-
 at-most c =
     let g = (on-line ((In-loop-from-After-put c))) .1 in
     cases (eqb (c .put .result) 0) (λ e. let z = eqb-true (c .put .result) 0 e in let m = g .most in omega (arith, z, m))
-    (λ e. let h = eqb-false (c .put .result) 0 e in put-most _ _ (length (told c)) (length (room c)) (length ((At-loop-from-After-put c) .loop .area)) _ (count-is c h) (fits-now c h) (length-drop ((At-loop-from-After-put c) .loop .at) ((At-loop-from-After-put c) .loop .area)) (g .same) (g .most))
+    (λ e. let h = eqb-false (c .put .result) 0 e in put-most _ _ (length (told c)) (length (room c)) (length ((At-loop-from-After-put c) .loop .area)) _ (count-is c h) (fits-now c h)
+    (length-drop ((At-loop-from-After-put c) .loop .at) ((At-loop-from-After-put c) .loop .area)) (g .same) (g .most))
 
 -- the rest of the area as it was lent, and after
 abbrev rest-after : tie.After-put Inv-loop2 μ-loop2 Inv-loop μ-loop → List ℕ
 rest-after c = (c .put .last .1 .1 .0)
 
 abbrev area-now : tie.After-put Inv-loop2 μ-loop2 Inv-loop μ-loop → List ℕ
-area-now c = putMid ((At-loop-from-After-put c) .loop .at) (length ((At-loop-from-After-put c) .loop .area) - ((At-loop-from-After-put c) .loop .at)) ((At-loop-from-After-put c) .loop .area) (rest-after c)
+area-now c = putMid ((At-loop-from-After-put c) .loop .at) (length ((At-loop-from-After-put c) .loop .area) - ((At-loop-from-After-put c) .loop .at)) ((At-loop-from-After-put c) .loop .area)
+    (rest-after c)
 
 after-is : (c : tie.After-put Inv-loop2 μ-loop2 Inv-loop μ-loop) → rest-after c ≡ cond (leb (length (told c)) (length (room c))) (inFront (told c) (room c)) (room c)
-after-is c = subst (λ xs. rest-after c ≡ cond (leb (length (told c)) (length xs)) (inFront (told c) xs) xs) (lent-rest ((At-loop-from-After-put c) .loop .at) ((At-loop-from-After-put c) .loop .area)) (c .put .ensures .0)
+after-is c = subst (λ xs. rest-after c ≡ cond (leb (length (told c)) (length xs)) (inFront (told c) xs) xs)
+    (lent-rest ((At-loop-from-After-put c) .loop .at) ((At-loop-from-After-put c) .loop .area)) (c .put .ensures .0)
 
-area-after : (c : tie.After-put Inv-loop2 μ-loop2 Inv-loop μ-loop) → ((c .put .result) ≡ 0 → ⊥) → area-now c ≡ take ((At-loop-from-After-put c) .loop .at) ((At-loop-from-After-put c) .loop .area) ++ inFront (told c) (room c)
-area-after c h = put-back ((At-loop-from-After-put c) .loop .at) ((At-loop-from-After-put c) .loop .area) (rest-after c) ∙ ap (λ xs. take ((At-loop-from-After-put c) .loop .at) ((At-loop-from-After-put c) .loop .area) ++ xs) (after-is c ∙ rw (fits-now c h))
+area-after : (c : tie.After-put Inv-loop2 μ-loop2 Inv-loop μ-loop) → ((c .put .result) ≡ 0 → ⊥) → area-now c ≡ take ((At-loop-from-After-put c) .loop .at) ((At-loop-from-After-put c) .loop .area) ++
+    inFront (told c) (room c)
+area-after c h = put-back ((At-loop-from-After-put c) .loop .at) ((At-loop-from-After-put c) .loop .area) (rest-after c)
+    ∙ ap (λ xs. take ((At-loop-from-After-put c) .loop .at) ((At-loop-from-After-put c) .loop .area) ++ xs) (after-is c ∙ rw (fits-now c h))
 
 area-same : (c : tie.After-put Inv-loop2 μ-loop2 Inv-loop μ-loop) → (c .put .result) ≡ 0 → area-now c ≡ ((At-loop-from-After-put c) .loop .area)
-area-same c e = put-back ((At-loop-from-After-put c) .loop .at) ((At-loop-from-After-put c) .loop .area) (rest-after c) ∙ ap (λ xs. take ((At-loop-from-After-put c) .loop .at) ((At-loop-from-After-put c) .loop .area) ++ xs) (after-is c ∙ rw (unfit-now c e)) ∙ take-append-drop ((At-loop-from-After-put c) .loop .at) ((At-loop-from-After-put c) .loop .area)
+area-same c e = put-back ((At-loop-from-After-put c) .loop .at) ((At-loop-from-After-put c) .loop .area) (rest-after c)
+    ∙ ap (λ xs. take ((At-loop-from-After-put c) .loop .at) ((At-loop-from-After-put c) .loop .area) ++ xs) (after-is c ∙ rw (unfit-now c e))
+    ∙ take-append-drop ((At-loop-from-After-put c) .loop .at) ((At-loop-from-After-put c) .loop .area)
 
 -- ---- the run after it
 
@@ -567,20 +597,27 @@ ended-at : {reserve : ℕ} {sheet : List ℕ} {from : ℕ} {lent : List ℕ} {st
 ended-at {at = at} {k = k} e h z a = let w : at + k ≡ at = omega (arith, z) in rw (e, h, w) a
 
 going-on : (c : tie.After-put Inv-loop2 μ-loop2 Inv-loop μ-loop) → ((c .put .result) ≡ 0 → ⊥)
-    → Going ((Start-from-After-put c) .args .reserve) ((Start-from-After-put c) .args .sheet .now) ((Start-from-After-put c) .args .from) ((Start-from-After-put c) .args .area .now) (view (started ((After-numbers-from-After-put c)))) (area-now c) (state-next ((After-loop2-from-After-put c))) (counts-next ((After-loop2-from-After-put c))) (((At-loop-from-After-put c) .loop .at) + (c .put .result)) (((At-loop-from-After-put c) .loop .i) + ((After-read-line-from-After-put c) .read-line .result .end) + 1)
+    → Going ((Start-from-After-put c) .args .reserve) ((Start-from-After-put c) .args .sheet .now) ((Start-from-After-put c) .args .from) ((Start-from-After-put c) .args .area .now)
+    (view (started ((After-numbers-from-After-put c)))) (area-now c) (state-next ((After-loop2-from-After-put c))) (counts-next ((After-loop2-from-After-put c)))
+    (((At-loop-from-After-put c) .loop .at) + (c .put .result)) (((At-loop-from-After-put c) .loop .i) + ((After-read-line-from-After-put c) .read-line .result .end) + 1)
 going-on c h =
     let j = made ((After-loop2-from-After-put c)) in
     moved (area-after c h) (ap (λ n. ((At-loop-from-After-put c) .loop .at) + n) (count-is c h)) (ap (λ n. n + 1) (end-is ((After-read-line-from-After-put c))))
-    (next-line _ _ _ _ _ _ _ _ _ _ ((on-line ((In-loop-from-After-put c))) .1) (begun ((In-loop-from-After-put c))) (enough c) (state-next ((After-loop2-from-After-put c))) (counts-next ((After-loop2-from-After-put c))) (told c) (told-is c) (left-is c) (fits-now c h) (j .sized) (j .long) (j .tallied ((on-line ((In-loop-from-After-put c))) .1 .tallied)))
+    (next-line _ _ _ _ _ _ _ _ _ _ ((on-line ((In-loop-from-After-put c))) .1) (begun ((In-loop-from-After-put c))) (enough c) (state-next ((After-loop2-from-After-put c)))
+    (counts-next ((After-loop2-from-After-put c))) (told c) (told-is c) (left-is c) (fits-now c h) (j .sized) (j .long) (j .tallied ((on-line ((In-loop-from-After-put c))) .1 .tallied)))
 
 ending : (c : tie.After-put Inv-loop2 μ-loop2 Inv-loop μ-loop) → (c .put .result) ≡ 0
-    → Advanced ((Start-from-After-put c) .args .reserve) ((Start-from-After-put c) .args .sheet .now) ((Start-from-After-put c) .args .from) (view (started ((After-numbers-from-After-put c)))) ((Start-from-After-put c) .args .area .now) (view (state-next ((After-loop2-from-After-put c)))) (((At-loop-from-After-put c) .loop .i) + ((After-read-line-from-After-put c) .read-line .result .end) + 1) (((At-loop-from-After-put c) .loop .at) + (c .put .result)) true (area-now c)
+    → Advanced ((Start-from-After-put c) .args .reserve) ((Start-from-After-put c) .args .sheet .now) ((Start-from-After-put c) .args .from) (view (started ((After-numbers-from-After-put c))))
+    ((Start-from-After-put c) .args .area .now) (view (state-next ((After-loop2-from-After-put c))))
+    (((At-loop-from-After-put c) .loop .i) + ((After-read-line-from-After-put c) .read-line .result .end) + 1) (((At-loop-from-After-put c) .loop .at) + (c .put .result)) true (area-now c)
 ending c e =
     ended-at (area-same c e) (ap (λ n. n + 1) (end-is ((After-read-line-from-After-put c)))) e
-    (unfit _ _ _ _ _ _ _ _ _ _ ((on-line ((In-loop-from-After-put c))) .1) (begun ((In-loop-from-After-put c))) (enough c) (state-next ((After-loop2-from-After-put c))) (counts-next ((After-loop2-from-After-put c))) (told c) (told-is c) (left-is c) (unfit-now c e))
+    (unfit _ _ _ _ _ _ _ _ _ _ ((on-line ((In-loop-from-After-put c))) .1) (begun ((In-loop-from-After-put c))) (enough c) (state-next ((After-loop2-from-After-put c)))
+    (counts-next ((After-loop2-from-After-put c))) (told c) (told-is c) (left-is c) (unfit-now c e))
 
 same-now : (c : tie.After-put Inv-loop2 μ-loop2 Inv-loop μ-loop) → length (area-now c) ≡ length ((Start-from-After-put c) .args .area .now)
-same-now c = cases (eqb (c .put .result) 0) (λ e. ap length (area-same c (eqb-true (c .put .result) 0 e)) ∙ (on-line ((In-loop-from-After-put c))) .1 .same) (λ e. going-on c (eqb-false (c .put .result) 0 e) .same)
+same-now c = cases (eqb (c .put .result) 0) (λ e. ap length (area-same c (eqb-true (c .put .result) 0 e)) ∙ (on-line ((In-loop-from-After-put c))) .1 .same)
+    (λ e. going-on c (eqb-false (c .put .result) 0 e) .same)
 
 numbers-requires : tie.Need-numbers-requires Inv-loop2 μ-loop2 Inv-loop μ-loop
 numbers-requires c κs = search needs
@@ -597,9 +634,13 @@ loop-holds c =
       indexed = λ e drawn. absurd (subst (λ b. T (not b)) (ap (λ q. is blank (modeOf (q .head .mode))) (started-is ((After-numbers-from-After-last c))) ∙ s .pre .1 e) drawn);
       last = (c .last .ensures) ∙ (let z : length (s .args .area .now) ≡ length (s .args .area .now) - 0 = omega arith in ap (λ n. lastOf (length (s .args .sheet .now)) false n (s .args .reserve)) z);
       over = λ e. absurd (is-yes e);
-      under = λ e. subst (λ q. SoundIn (s .args .sound) (spread q) × Going (s .args .reserve) (s .args .sheet .now) (s .args .from) (s .args .area .now) (view q) (s .args .area .now) q (s .args .t) 0 (s .args .from))
-          (sym (started-is ((After-numbers-from-After-last c))))
-          (λ y. blank-holds (spread p) (eqb-true _ 0 (s .pre .1 y)), begins (s .args .reserve) (s .args .sheet .now) (s .args .from) (s .args .area .now) p (s .args .t) (owned-spread p (s .good .0)) (owned-table p (s .good .0)) (s .pre .0));
+      under = λ e. subst (λ q. SoundIn (s .args .sound) (spread q) × Going (s .args .reserve) (s .args .sheet .now) (s .args .from) (s .args .area .now) (view q) (s .args .area .now) q
+          (s .args .t) 0 (s .args .from))
+          (sym (started-is ((After-numbers-from-After-last c)))) (
+            λ y. blank-holds (spread p) (eqb-true _ 0 (s .pre .1 y)),
+            begins (s .args .reserve) (s .args .sheet .now) (s .args .from) (s .args .area .now) p (s .args .t) (owned-spread p (s .good .0))
+                (owned-table p (s .good .0)) (s .pre .0),
+          );
     }
 
 sub-read-line : tie.Need-sub-read-line Inv-loop2 μ-loop2 Inv-loop μ-loop
@@ -660,8 +701,13 @@ number-requires : tie.Need-number-requires Inv-loop2 μ-loop2 Inv-loop μ-loop
 number-requires c κs = search needs
 
 loop2-holds : tie.Need-loop2-holds Inv-loop2 μ-loop2 Inv-loop μ-loop
-loop2-holds c =
-    (marked-begin _ (c .before .before .if1 .edits) (ap length (noted-is (c .before .before)) ∙ noted-length ((After-make-from-After-number c) .make .result) ((At-loop-from-After-number c) .loop .edits) ((on-line ((In-loop-from-After-number c))) .1 .sized .edits)), omega arith, ((After-make-from-After-number c) .make .ensures .marked))
+loop2-holds c = (
+  marked-begin _ (c .before .before .if1 .edits)
+      (ap length (noted-is (c .before .before)) ∙ noted-length ((After-make-from-After-number c) .make .result) ((At-loop-from-After-number c) .loop .edits)
+      ((on-line ((In-loop-from-After-number c))) .1 .sized .edits)),
+  omega arith,
+  ((After-make-from-After-number c) .make .ensures .marked),
+)
 
 mul-r : tie.Need-mul-r Inv-loop2 μ-loop2 Inv-loop μ-loop
 mul-r c = omega (arith, (c .loop2-test .taken), (c .before .loop2 .inv .2))
@@ -696,8 +742,13 @@ loop2-again c =
     let k = ((At-loop2-from-Joined2 c) .loop2 .inv) in
     let m : ((At-loop2-from-Joined2 c) .loop2 .j) < 256 = omega (arith, l, k .2) in (
       on (c .if2 .came)
-          (λ w. subst (λ es. Marked ((After-number-from-Joined2 c) .number .result) ((Joined1-from-Joined2 c) .if1 .edits) es (((At-loop2-from-Joined2 c) .loop2 .j) + 1)) (sym (w .2)) (marked-next ((After-number-from-Joined2 c) .number .result) ((Joined1-from-Joined2 c) .if1 .edits) ((At-loop2-from-Joined2 c) .loop2 .edits) ((At-loop2-from-Joined2 c) .loop2 .j) (w .1 .result) m (k .0) (w .1 .ensures)))
-          (λ w. subst (λ es. Marked ((After-number-from-Joined2 c) .number .result) ((Joined1-from-Joined2 c) .if1 .edits) es (((At-loop2-from-Joined2 c) .loop2 .j) + 1)) (sym (w .1)) (marked-passed ((After-number-from-Joined2 c) .number .result) ((Joined1-from-Joined2 c) .if1 .edits) ((At-loop2-from-Joined2 c) .loop2 .edits) ((At-loop2-from-Joined2 c) .loop2 .j) m (k .0) (mark-sent-other ((After-number-from-Joined2 c) .number .result) (getD ((At-loop2-from-Joined2 c) .loop2 .edits) ((At-loop2-from-Joined2 c) .loop2 .j) noRecord) (sym (c .before .satisfies .ensures) ∙ w .0 .left)))),
+          (λ w. subst (λ es. Marked ((After-number-from-Joined2 c) .number .result) ((Joined1-from-Joined2 c) .if1 .edits) es (((At-loop2-from-Joined2 c) .loop2 .j) + 1)) (sym (w .2))
+          (marked-next ((After-number-from-Joined2 c) .number .result) ((Joined1-from-Joined2 c) .if1 .edits) ((At-loop2-from-Joined2 c) .loop2 .edits) ((At-loop2-from-Joined2 c) .loop2 .j)
+          (w .1 .result) m (k .0) (w .1 .ensures)))
+          (λ w. subst (λ es. Marked ((After-number-from-Joined2 c) .number .result) ((Joined1-from-Joined2 c) .if1 .edits) es (((At-loop2-from-Joined2 c) .loop2 .j) + 1)) (sym (w .1))
+          (marked-passed ((After-number-from-Joined2 c) .number .result) ((Joined1-from-Joined2 c) .if1 .edits) ((At-loop2-from-Joined2 c) .loop2 .edits) ((At-loop2-from-Joined2 c) .loop2 .j) m
+          (k .0) (mark-sent-other ((After-number-from-Joined2 c) .number .result) (getD ((At-loop2-from-Joined2 c) .loop2 .edits) ((At-loop2-from-Joined2 c) .loop2 .j) noRecord)
+          (sym (c .before .satisfies .ensures) ∙ w .0 .left)))),
       omega (arith, l),
       k .2,
     )
@@ -763,7 +814,13 @@ loop-again c =
       indexed = λ e. made ((After-loop2-from-After-last2 c)) .indexed ((At-loop-from-After-last2 c) .loop .inv .indexed e);
       last = (c .last2 .ensures);
       over = λ e. ending ((After-put-from-After-last2 c)) (eqb-true _ 0 e);
-      under = λ e. (let j = made ((After-loop2-from-After-last2 c)) in sound-made {l = lineIn ((After-read-line-from-After-last2 c) .read-line .result)} {p = spread (state-at ((At-loop-from-After-last2 c)))} {q = spread (state-next ((After-loop2-from-After-last2 c)))} {a = ((After-make-from-After-last2 c) .make .result .answer)} {vs = row ((state-next ((After-loop2-from-After-last2 c))) .values) ((After-make-from-After-last2 c) .make .result .from) ((After-make-from-After-last2 c) .make .result .width)} (record { answer = j .answer; plan = j .plan }) ((on-line ((In-loop-from-After-last2 c))) .0), going-on ((After-put-from-After-last2 c)) (eqb-false _ 0 e));
+      under = λ e. (
+        let j = made ((After-loop2-from-After-last2 c)) in sound-made {l = lineIn ((After-read-line-from-After-last2 c) .read-line .result)}
+            {p = spread (state-at ((At-loop-from-After-last2 c)))} {q = spread (state-next ((After-loop2-from-After-last2 c)))} {a = ((After-make-from-After-last2 c) .make .result .answer)}
+            {vs = row ((state-next ((After-loop2-from-After-last2 c))) .values) ((After-make-from-After-last2 c) .make .result .from) ((After-make-from-After-last2 c) .make .result .width)}
+            (record { answer = j .answer; plan = j .plan }) ((on-line ((In-loop-from-After-last2 c))) .0),
+        going-on ((After-put-from-After-last2 c)) (eqb-false _ 0 e),
+      );
     }
 
 from-numbers-requires-2 : tie.Need-from-numbers-requires-2 Inv-loop2 μ-loop2 Inv-loop μ-loop
@@ -782,11 +839,15 @@ returns : tie.Need-returns Inv-loop2 μ-loop2 Inv-loop μ-loop
 returns c =
     let a = ((Start-from-After-reached c) .args) in
     let q = state-at ((At-loop-from-After-reached c)) in
-    let state : (c .before .of .result) ≡ q = (c .before .of .ensures) ∙ ap (λ h. stateOf h (q .base) (q .draft) (q .values) (q .arrived) (q .confirmed) (q .table) (q .edits)) (c .before .before .from-numbers2 .ensures) in
+    let state : (c .before .of .result) ≡ q = (c .before .of .ensures) ∙ ap (λ h. stateOf h (q .base) (q .draft) (q .values) (q .arrived) (q .confirmed) (q .table) (q .edits))
+    (c .before .before .from-numbers2 .ensures) in
     let done = finished ((At-loop-from-After-reached c) .loop .inv) ((After-loop-from-After-reached c) .loop-test .left) in
-    subst (λ r. Advanced (a .reserve) (a .sheet .now) (a .from) (view (a .p)) (a .area .now) (view (r .state)) (r .next) (r .written) (r .ended) ((At-loop-from-After-reached c) .loop .area)) (sym (c .reached .ensures))
-    (subst (λ x. Advanced (a .reserve) (a .sheet .now) (a .from) (view (a .p)) (a .area .now) (view x) ((At-loop-from-After-reached c) .loop .i) ((At-loop-from-After-reached c) .loop .at) ((At-loop-from-After-reached c) .loop .ended) ((At-loop-from-After-reached c) .loop .area)) (sym state)
-    (subst (λ x. Advanced (a .reserve) (a .sheet .now) (a .from) (view x) (a .area .now) (view q) ((At-loop-from-After-reached c) .loop .i) ((At-loop-from-After-reached c) .loop .at) ((At-loop-from-After-reached c) .loop .ended) ((At-loop-from-After-reached c) .loop .area)) (started-is ((After-numbers-from-After-reached c))) done))
+    subst (λ r. Advanced (a .reserve) (a .sheet .now) (a .from) (view (a .p)) (a .area .now) (view (r .state)) (r .next) (r .written) (r .ended) ((At-loop-from-After-reached c) .loop .area))
+    (sym (c .reached .ensures))
+    (subst (λ x. Advanced (a .reserve) (a .sheet .now) (a .from) (view (a .p)) (a .area .now) (view x) ((At-loop-from-After-reached c) .loop .i) ((At-loop-from-After-reached c) .loop .at)
+    ((At-loop-from-After-reached c) .loop .ended) ((At-loop-from-After-reached c) .loop .area)) (sym state)
+    (subst (λ x. Advanced (a .reserve) (a .sheet .now) (a .from) (view x) (a .area .now) (view q) ((At-loop-from-After-reached c) .loop .i) ((At-loop-from-After-reached c) .loop .at)
+    ((At-loop-from-After-reached c) .loop .ended) ((At-loop-from-After-reached c) .loop .area)) (started-is ((After-numbers-from-After-reached c))) done))
 
 pub go-spec : {M : Type 1} → statement M
 go-spec =

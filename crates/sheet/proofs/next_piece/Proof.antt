@@ -26,7 +26,9 @@ same-length-2 c = search needs
 returns-2 : tie.Need-returns-2
 returns-2 c =
     let a = (c .before .before .before .before .before .before .before .before .args) in
-    piece-run (a .sheet .now) (a .from) (a .p) (a .area .now) (owned-ranged (a .p) ((c .before .before .before .before .before .before .before .before .good .0))) (c .before .before .before .advance .result .state) _ _ (c .before .before .before .advance .result .ended) _ (c .before .before .before .before .before .if1 .left) (c .before .before .before .advance .ensures)
+    piece-run (a .sheet .now) (a .from) (a .p) (a .area .now) (owned-ranged (a .p) ((c .before .before .before .before .before .before .before .before .good .0)))
+    (c .before .before .before .advance .result .state) _ _ (c .before .before .before .advance .result .ended) _ (c .before .before .before .before .before .if1 .left)
+    (c .before .before .before .advance .ensures)
 
 pub next-piece-spec : {M : Type 1} → statement M
 next-piece-spec =

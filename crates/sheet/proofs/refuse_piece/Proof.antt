@@ -32,7 +32,8 @@ returns-3 : tie.Need-returns-3
 returns-3 c =
     let s = c .before .before .before .before .before .before .before .before in
     let a = s .args in
-    piece-refused (a .sheet .now) (a .from) (a .p) (a .area .now) (s .pre) _ _ (c .before .before .before .refuse-sheet .ensures) (c .if2 .left) (omega (arith, c .before .before .before .before .before .if1 .left))
+    piece-refused (a .sheet .now) (a .from) (a .p) (a .area .now) (s .pre) _ _ (c .before .before .before .refuse-sheet .ensures) (c .if2 .left)
+    (omega (arith, c .before .before .before .before .before .if1 .left))
 
 pub refuse-piece-spec : {M : Type 1} → statement M
 refuse-piece-spec =

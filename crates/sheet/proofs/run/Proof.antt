@@ -29,7 +29,8 @@ same-length c = search needs
 returns : tie.Need-returns
 unfolding screen replies
 returns c =
-    rw (lt-ltb 65536 (length ((c .before .before .before .before .before .before .before .args .sheet .now))) ((c .before .before .before .before .if1 .taken))) ((c .before .before .refuse-sheet .ensures))
+    rw (lt-ltb 65536 (length ((c .before .before .before .before .before .before .before .args .sheet .now))) ((c .before .before .before .before .if1 .taken)))
+    ((c .before .before .refuse-sheet .ensures))
 
 blank-requires : tie.Need-blank-requires
 blank-requires c κs = search needs
@@ -40,7 +41,9 @@ advance-requires c κs = search needs
 handed-requires : tie.Need-handed-requires
 handed-requires c κs =
     let a = (c .before .before .before .before .before .before .before .before .args) in
-    let h = subst (λ p. Advanced 0 (a .sheet .now) 0 (view p) (a .area .now) (view (c .before .before .advance .result .state)) (c .before .before .advance .result .next) (c .before .before .advance .result .written) (c .before .before .advance .result .ended) (c .before .before .advance .last .1 .1 .1 .1 .0)) ((c .before .before .before .before .blank .ensures)) ((c .before .before .advance .ensures)) in
+    let h = subst (λ p. Advanced 0 (a .sheet .now) 0 (view p) (a .area .now) (view (c .before .before .advance .result .state)) (c .before .before .advance .result .next)
+    (c .before .before .advance .result .written) (c .before .before .advance .result .ended) (c .before .before .advance .last .1 .1 .1 .1 .0))
+    ((c .before .before .before .before .blank .ensures)) ((c .before .before .advance .ensures)) in
     let m = written-most (a .sheet .now) (a .area .now) _ _ _ _ _ h in
     let g = area-most (c .before .before .before .before .before .before .before .before) in omega (arith, m, g)
 
@@ -50,7 +53,9 @@ same-length-2 c = search needs
 returns-2 : tie.Need-returns-2
 returns-2 c =
     let a = (c .before .before .before .before .before .before .before .before .before .args) in
-    let h = subst (λ p. Advanced 0 (a .sheet .now) 0 (view p) (a .area .now) (view (c .before .before .before .advance .result .state)) (c .before .before .before .advance .result .next) (c .before .before .before .advance .result .written) (c .before .before .before .advance .result .ended) (c .before .before .before .advance .last .1 .1 .1 .1 .0)) ((c .before .before .before .before .before .blank .ensures)) ((c .before .before .before .advance .ensures)) in
+    let h = subst (λ p. Advanced 0 (a .sheet .now) 0 (view p) (a .area .now) (view (c .before .before .before .advance .result .state)) (c .before .before .before .advance .result .next)
+    (c .before .before .before .advance .result .written) (c .before .before .before .advance .result .ended) (c .before .before .before .advance .last .1 .1 .1 .1 .0))
+    ((c .before .before .before .before .before .blank .ensures)) ((c .before .before .before .advance .ensures)) in
     screened-is (a .sheet .now) (a .area .now) _ _ _ _ _ h _ ((c .handed .ensures)) (le-ltb 65536 (length (a .sheet .now)) ((c .before .before .before .before .before .before .if1 .left)))
 
 pub run-spec : {M : Type 1} → statement M

@@ -25,8 +25,11 @@ add-result-2 c = search needs
 returns : tie.Need-returns
 returns c =
     let s = (c .before .before .before .args) in
-    let l = numbers-length (s .count) (s .a) (s .b) (s .c) in
-    (omega (arith, l, (c .before .before .told-width .ensures), (c .before .told-width2 .ensures), (c .told-width3 .ensures)), omega (arith, (c .before .before .told-width .ensures), (c .before .told-width2 .ensures), (c .told-width3 .ensures)))
+    let l = numbers-length (s .count) (s .a) (s .b) (s .c) in (
+      omega (arith, l, (c .before .before .told-width .ensures), (c .before .told-width2 .ensures), (c .told-width3 .ensures)),
+      omega
+          (arith, (c .before .before .told-width .ensures), (c .before .told-width2 .ensures), (c .told-width3 .ensures)),
+    )
 
 pub numbers-width-spec : {M : Type 1} → statement M
 numbers-width-spec =

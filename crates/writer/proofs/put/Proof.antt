@@ -26,14 +26,17 @@ same-length c = search needs
 
 returns : tie.Need-returns
 returns c =
-    let s = (c .before .before .before .before .before .before .before .before .args) in line-put (s .answer) (s .row .now) _ (s .area .now) _ _ (ap (λ a. lineOf a (s .row .now)) (c .before .before .before .before .before .answer .given .1) ∙ line-refused ((c .before .before .before .before .before .answer .given .0 .0)) ((c .before .before .before .before .before .answer .given .0 .1 .0)) (s .row .now)) (c .before .before .put-refusal .ensures)
+    let s = (c .before .before .before .before .before .before .before .before .args) in line-put (s .answer) (s .row .now) _ (s .area .now) _ _
+    (ap (λ a. lineOf a (s .row .now)) (c .before .before .before .before .before .answer .given .1) ∙ line-refused ((c .before .before .before .before .before .answer .given .0 .0))
+    ((c .before .before .before .before .before .answer .given .0 .1 .0)) (s .row .now)) (c .before .before .put-refusal .ensures)
 
 same-length-2 : tie.Need-same-length-2
 same-length-2 c = search needs
 
 returns-2 : tie.Need-returns-2
 returns-2 c =
-    let s = (c .before .before .before .before .before .before .before .before .args) in line-put (s .answer) (s .row .now) _ (s .area .now) _ _ (ap (λ a. lineOf a (s .row .now)) (c .before .before .before .before .before .answer2 .given .1)) (c .before .before .put-given .ensures)
+    let s = (c .before .before .before .before .before .before .before .before .args) in line-put (s .answer) (s .row .now) _ (s .area .now) _ _
+    (ap (λ a. lineOf a (s .row .now)) (c .before .before .before .before .before .answer2 .given .1)) (c .before .before .put-given .ensures)
 
 pub put-spec : {M : Type 1} → statement M
 put-spec =

@@ -15,8 +15,10 @@ abbrev μ-loop : tie.MeasureT-loop
 μ-loop n end area₀ m₀ i₀ area m i = m
 
 loop-holds : tie.Need-loop-holds Inv-loop μ-loop
-loop-holds c =
-    (writing-begin ((c .args .n)) ((c .args .end) - length (digits ((c .args .n)))) ((c .args .area .now)) ((c .args .end)) (omega (arith, (c .pre .0))) (omega (arith, (c .pre .0), (c .pre .1))), omega arith)
+loop-holds c = (
+  writing-begin ((c .args .n)) ((c .args .end) - length (digits ((c .args .n)))) ((c .args .area .now)) ((c .args .end)) (omega (arith, (c .pre .0))) (omega (arith, (c .pre .0), (c .pre .1))),
+  omega arith,
+)
 
 -- where two digits are left there is room for both
 room : (c : tie.At-loop Inv-loop μ-loop) → 10 ≤ c .loop .m → (1 < c .loop .i) × (c .loop .i ≤ length (c .loop .area))

@@ -24,8 +24,13 @@ same-length c = search needs
 
 returns : tie.Need-returns
 returns c =
-    let e : (c .before .before .put-back .result) ≡ (c .before .before .before .before .before .before .args .at) = omega (arith, (c .before .before .put-back .ensures .1), (c .before .before .before .before .width .ensures .0)) in
-    (((c .before .before .put-back .ensures .0)) ∙ ap (λ k. sets ((c .before .before .before .before .before .before .args .area .now)) k (digits ((c .before .before .before .before .before .before .args .n)))) e, omega (arith, (c .before .before .before .before .width .ensures .0)))
+    let e : (c .before .before .put-back .result) ≡ (c .before .before .before .before .before .before .args .at) = omega
+    (arith, (c .before .before .put-back .ensures .1), (c .before .before .before .before .width .ensures .0)) in (
+      ((c .before .before .put-back .ensures .0))
+          ∙ ap (λ k. sets ((c .before .before .before .before .before .before .args .area .now)) k (digits ((c .before .before .before .before .before .before .args .n)))) e,
+      omega
+          (arith, (c .before .before .before .before .width .ensures .0)),
+    )
 
 pub put-digits-spec : {M : Type 1} → statement M
 put-digits-spec = tie.close (tie.spec width-requires add-end put-back-requires same-length returns)

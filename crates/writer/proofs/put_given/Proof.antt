@@ -19,7 +19,8 @@ same-length c = search needs
 
 returns : tie.Need-returns
 returns c =
-    let s = (c .before .before .before .before .before .before .args) in line-put (Given (s .count) (s .a) (s .b) (s .c)) (s .row .now) _ (s .area .now) _ _ (ap (lineOf (Given (s .count) (s .a) (s .b) (s .c))) (no-values (s .row .now) (c .before .before .before .before .if1 .taken))) (c .before .before .put-alone .ensures)
+    let s = (c .before .before .before .before .before .before .args) in line-put (Given (s .count) (s .a) (s .b) (s .c)) (s .row .now) _ (s .area .now) _ _
+    (ap (lineOf (Given (s .count) (s .a) (s .b) (s .c))) (no-values (s .row .now) (c .before .before .before .before .if1 .taken))) (c .before .before .put-alone .ensures)
 
 put-parts-requires : tie.Need-put-parts-requires
 put-parts-requires c κs = search needs
@@ -29,7 +30,8 @@ same-length-2 c = search needs
 
 returns-2 : tie.Need-returns-2
 returns-2 c =
-    let s = (c .before .before .before .before .before .before .args) in line-put (Given (s .count) (s .a) (s .b) (s .c)) (s .row .now) _ (s .area .now) _ _ (line-behind (s .count) (s .a) (s .b) (s .c) (s .row .now) (omega (arith, (c .before .before .before .before .if1 .left)))) (c .before .before .put-parts .ensures)
+    let s = (c .before .before .before .before .before .before .args) in line-put (Given (s .count) (s .a) (s .b) (s .c)) (s .row .now) _ (s .area .now) _ _
+    (line-behind (s .count) (s .a) (s .b) (s .c) (s .row .now) (omega (arith, (c .before .before .before .before .if1 .left)))) (c .before .before .put-parts .ensures)
 
 pub put-given-spec : {M : Type 1} → statement M
 put-given-spec =

@@ -12,10 +12,12 @@ use Rattle.writer.proofs.put_head.Reads as reads
 use Rattle.writer.proofs.put_head.Lts as lts
 use Rattle.writer.proofs.put_numbers.Reads as put-numbers-reads
 
-put : (c : tie.After-put-numbers) → let s = c .before .before .before .args in c .put-numbers .last .1 .1 .1 .1 .1 .0 ≡ sets (s .area .now) 0 (headOf (s .first) (s .second) (s .count) (s .a) (s .b) (s .c))
+put : (c : tie.After-put-numbers) → let s = c .before .before .before .args in c .put-numbers .last .1 .1 .1 .1 .1 .0 ≡ sets (s .area .now) 0
+    (headOf (s .first) (s .second) (s .count) (s .a) (s .b) (s .c))
 put c =
     let s = c .before .before .before in
-    put-up-to (set (set (s .args .area .now) 0 (s .args .first)) 1 (s .args .second)) _ (s .args .end) _ (numbersOf (s .args .count) (s .args .a) (s .args .b) (s .args .c)) (c .put-numbers .ensures .0) (c .put-numbers .ensures .1) (s .pre .0)
+    put-up-to (set (set (s .args .area .now) 0 (s .args .first)) 1 (s .args .second)) _ (s .args .end) _ (numbersOf (s .args .count) (s .args .a) (s .args .b) (s .args .c))
+    (c .put-numbers .ensures .0) (c .put-numbers .ensures .1) (s .pre .0)
 
 slice-write-area : tie.Need-slice-write-area
 slice-write-area c = search needs

@@ -39,7 +39,8 @@ same-length c = search needs
 
 returns-2 : tie.Need-returns-2
 returns-2 c =
-    let s = (c .before .before .before .before .before .before .before .args) in is-ended (headOf (s .first) (s .second) (s .count) (s .a) (s .b) (s .c)) (s .area .now) _ _ (c .before .before .put-head .ensures) (wide (c .before .before .before .before .before)) (omega arith)
+    let s = (c .before .before .before .before .before .before .before .args) in is-ended (headOf (s .first) (s .second) (s .count) (s .a) (s .b) (s .c)) (s .area .now) _ _
+    (c .before .before .put-head .ensures) (wide (c .before .before .before .before .before)) (omega arith)
 
 pub put-line-spec : {M : Type 1} → statement M
 put-line-spec =

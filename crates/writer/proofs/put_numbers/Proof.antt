@@ -21,16 +21,34 @@ put-told-requires-2 : tie.Need-put-told-requires-2
 put-told-requires-2 c κs =
     let s = (c .before .before .before .before .before .before .args) in
     let l = numbers-length (s .count) (s .a) (s .b) (s .c) in
-    let m = put-length _ (s .area .now) _ (toldOf 2 (s .count) (s .c)) (c .before .before .before .put-told .ensures .0) in
-    (omega (arith, l, (c .before .before .before .before .before .before .pre .0), (c .before .before .before .put-told .ensures .1)), omega (arith, m, (c .before .before .before .before .before .before .pre .1), (c .before .before .before .put-told .ensures .1)))
+    let m = put-length _ (s .area .now) _ (toldOf 2 (s .count) (s .c)) (c .before .before .before .put-told .ensures .0) in (
+      omega (arith, l, (c .before .before .before .before .before .before .pre .0), (c .before .before .before .put-told .ensures .1)),
+      omega
+          (arith, m, (c .before .before .before .before .before .before .pre .1), (c .before .before .before .put-told .ensures .1)),
+    )
 
 put-told-requires-3 : tie.Need-put-told-requires-3
 put-told-requires-3 c κs =
     let s = (c .before .before .before .before .before .before .before .before .before .before .args) in
     let l = numbers-length (s .count) (s .a) (s .b) (s .c) in
     let m = put-length _ (s .area .now) _ (toldOf 2 (s .count) (s .c)) (c .before .before .before .before .before .before .before .put-told .ensures .0) in
-    let n = put-length _ _ _ (toldOf 1 (s .count) (s .b)) (c .before .before .before .put-told2 .ensures .0) in
-    (omega (arith, l, (c .before .before .before .before .before .before .before .before .before .before .pre .0), (c .before .before .before .before .before .before .before .put-told .ensures .1), (c .before .before .before .put-told2 .ensures .1)), omega (arith, m, n, (c .before .before .before .before .before .before .before .before .before .before .pre .1), (c .before .before .before .before .before .before .before .put-told .ensures .1), (c .before .before .before .put-told2 .ensures .1)))
+    let n = put-length _ _ _ (toldOf 1 (s .count) (s .b)) (c .before .before .before .put-told2 .ensures .0) in (
+      omega (
+        arith,
+        l,
+        (c .before .before .before .before .before .before .before .before .before .before .pre .0),
+        (c .before .before .before .before .before .before .before .put-told .ensures .1),
+        (c .before .before .before .put-told2 .ensures .1),
+      ),
+      omega (
+        arith,
+        m,
+        n,
+        (c .before .before .before .before .before .before .before .before .before .before .pre .1),
+        (c .before .before .before .before .before .before .before .put-told .ensures .1),
+        (c .before .before .before .put-told2 .ensures .1),
+      ),
+    )
 
 same-length : tie.Need-same-length
 same-length c = search needs
@@ -44,8 +62,13 @@ returns c =
     let l = numbers-length (s .count) (s .a) (s .b) (s .c) in
     let m = length-append y z in
     let n = length-append x (y ++ z) in
-    let two = put-both (s .area .now) _ _ (s .end) _ _ y z (c .before .before .before .before .before .before .before .before .before .before .put-told .ensures .0) (c .before .before .before .before .before .before .before .before .before .before .put-told .ensures .1) (c .before .before .before .before .before .before .put-told2 .ensures .0) (c .before .before .before .before .before .before .put-told2 .ensures .1) (omega (arith, l, m, (c .before .before .before .before .before .before .before .before .before .before .before .before .before .pre .0))) in
-    put-as (numbers-told (s .count) (s .a) (s .b) (s .c)) (s .area .now) _ (s .end) _ (put-both (s .area .now) _ _ (s .end) _ _ x (y ++ z) (two .0) (two .1) (c .before .before .put-told3 .ensures .0) (c .before .before .put-told3 .ensures .1) (omega (arith, l, m, n, (c .before .before .before .before .before .before .before .before .before .before .before .before .before .pre .0))))
+    let two = put-both (s .area .now) _ _ (s .end) _ _ y z (c .before .before .before .before .before .before .before .before .before .before .put-told .ensures .0)
+    (c .before .before .before .before .before .before .before .before .before .before .put-told .ensures .1) (c .before .before .before .before .before .before .put-told2 .ensures .0)
+    (c .before .before .before .before .before .before .put-told2 .ensures .1)
+    (omega (arith, l, m, (c .before .before .before .before .before .before .before .before .before .before .before .before .before .pre .0))) in
+    put-as (numbers-told (s .count) (s .a) (s .b) (s .c)) (s .area .now) _ (s .end) _
+    (put-both (s .area .now) _ _ (s .end) _ _ x (y ++ z) (two .0) (two .1) (c .before .before .put-told3 .ensures .0) (c .before .before .put-told3 .ensures .1)
+    (omega (arith, l, m, n, (c .before .before .before .before .before .before .before .before .before .before .before .before .before .pre .0))))
 
 pub put-numbers-spec : {M : Type 1} → statement M
 put-numbers-spec =

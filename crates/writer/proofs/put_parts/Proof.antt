@@ -68,10 +68,12 @@ module _ (c : tie.After-put-row) where
   front = headOf 111 107 (h p .args .count) (h p .args .a) (h p .args .b) (h p .args .c) ++ spaced (h p .args .row .now)
 
   row-put : c .put-row .last .1 .1 .0 ≡ sets (h p .args .area .now) 0 front
-  row-put = put-behind (h p .args .area .now) _ _ _ (headOf 111 107 (h p .args .count) (h p .args .a) (h p .args .b) (h p .args .c)) (spaced (h p .args .row .now)) (p .put-head .ensures) (head-end p) (c .put-row .ensures .0)
+  row-put = put-behind (h p .args .area .now) _ _ _ (headOf 111 107 (h p .args .count) (h p .args .a) (h p .args .b) (h p .args .c)) (spaced (h p .args .row .now)) (p .put-head .ensures)
+      (head-end p) (c .put-row .ensures .0)
 
   row-end : c .put-row .result ≡ length front
-  row-end = let l = length-append (headOf 111 107 (h p .args .count) (h p .args .a) (h p .args .b) (h p .args .c)) (spaced (h p .args .row .now)) in omega (arith, l, head-end p, c .put-row .ensures .1)
+  row-end = let l = length-append (headOf 111 107 (h p .args .count) (h p .args .a) (h p .args .b) (h p .args .c)) (spaced (h p .args .row .now)) in omega
+      (arith, l, head-end p, c .put-row .ensures .1)
 
   row-length : length (c .put-row .last .1 .1 .0) ≡ length (h p .args .area .now)
   row-length = put-length (c .put-row .last .1 .1 .0) (h p .args .area .now) 0 front row-put
@@ -129,7 +131,8 @@ same-length c =
 returns-3 : tie.Need-returns-3
 returns-3 c =
     let q = (c .before .before) in
-    is-ended (front q) ((c .before .before .before .before .before .before .before .before .before .before .before .before .before .args .area .now)) _ _ (row-put q) (row-end q) (omega (arith, whole-length q, fits-whole (c .before .before .before .before .before .before)))
+    is-ended (front q) ((c .before .before .before .before .before .before .before .before .before .before .before .before .before .args .area .now)) _ _ (row-put q) (row-end q)
+    (omega (arith, whole-length q, fits-whole (c .before .before .before .before .before .before)))
 
 pub put-parts-spec : {M : Type 1} → statement M
 put-parts-spec =

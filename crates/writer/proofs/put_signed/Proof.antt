@@ -51,11 +51,18 @@ add-put-digits c = search needs
 
 put-digits-requires : tie.Need-put-digits-requires
 put-digits-requires c κs =
-    omega (arith, ap length (bytes (c .before)), (c .before .before .before .before .pre), length-set (c .before .before .before .before .args .area .now) (c .before .before .before .before .args .at) minus)
+    omega (
+      arith,
+      ap length (bytes (c .before)),
+      (c .before .before .before .before .pre),
+      length-set (c .before .before .before .before .args .area .now)
+          (c .before .before .before .before .args .at) minus,
+    )
 
 same-length : tie.Need-same-length
 same-length c =
-    put-length _ (c .before .before .before .before .before .before .before .args .area .now) (c .before .before .before .before .before .before .before .args .at) (written (c .before .before .before .before .before .before .before .args .x)) (put (c .before .before))
+    put-length _ (c .before .before .before .before .before .before .before .args .area .now) (c .before .before .before .before .before .before .before .args .at)
+    (written (c .before .before .before .before .before .before .before .args .x)) (put (c .before .before))
 
 returns : tie.Need-returns
 returns c =
@@ -69,11 +76,16 @@ put-digits-requires-2 c κs = omega (arith, ap length (bytes₂ (c .before)), (c
 
 same-length-2 : tie.Need-same-length-2
 same-length-2 c =
-    put-length _ (c .before .before .before .before .before .before .before .args .area .now) (c .before .before .before .before .before .before .before .args .at) (digits (c .before .before .before .before .size2 .result)) (c .before .before .put-digits2 .ensures .0)
+    put-length _ (c .before .before .before .before .before .before .before .args .area .now) (c .before .before .before .before .before .before .before .args .at)
+    (digits (c .before .before .before .before .size2 .result)) (c .before .before .put-digits2 .ensures .0)
 
 returns-2 : tie.Need-returns-2
-returns-2 c =
-    ((c .before .before .put-digits2 .ensures .0) ∙ ap (sets (c .before .before .before .before .before .before .before .args .area .now) (c .before .before .before .before .before .before .before .args .at)) (sym (bytes₂ (c .before .before .before .before))), omega (arith, (c .before .before .put-digits2 .ensures .1), ap length (bytes₂ (c .before .before .before .before))))
+returns-2 c = (
+  (c .before .before .put-digits2 .ensures .0)
+      ∙ ap (sets (c .before .before .before .before .before .before .before .args .area .now) (c .before .before .before .before .before .before .before .args .at))
+      (sym (bytes₂ (c .before .before .before .before))),
+  omega (arith, (c .before .before .put-digits2 .ensures .1), ap length (bytes₂ (c .before .before .before .before))),
+)
 
 pub put-signed-spec : {M : Type 1} → statement M
 put-signed-spec =

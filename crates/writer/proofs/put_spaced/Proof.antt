@@ -26,8 +26,12 @@ same-length c = search needs
 
 returns : tie.Need-returns
 returns c =
-    let at = (c .before .before .put-back .result) in
-    (ap (λ l. set l (at - 1) 32) ((c .before .before .put-back .ensures .0)) ∙ sets-back ((c .before .before .before .before .before .args .area .now)) (at - 1) (32 ∷ []) at (digits ((c .before .before .before .before .before .args .n))) (omega (arith, (c .before .before .put-back .ensures .1), (c .before .before .before .before .before .pre .0))), omega (arith, (c .before .before .put-back .ensures .1)))
+    let at = (c .before .before .put-back .result) in (
+      ap (λ l. set l (at - 1) 32) ((c .before .before .put-back .ensures .0)) ∙ sets-back ((c .before .before .before .before .before .args .area .now)) (at - 1) (32 ∷ []) at
+          (digits ((c .before .before .before .before .before .args .n))) (omega (arith, (c .before .before .put-back .ensures .1), (c .before .before .before .before .before .pre .0))),
+      omega
+          (arith, (c .before .before .put-back .ensures .1)),
+    )
 
 pub put-spaced-spec : {M : Type 1} → statement M
 put-spaced-spec =

@@ -24,7 +24,8 @@ abbrev μ-loop : tie.MeasureT-loop
 μ-loop row room left₀ i₀ left i = length row - i
 
 -- the width of the value at hand
-wide-as : (c : tie.After-signed-width Inv-loop μ-loop) → c .signed-width .result ≡ length (written (getD (c .before .before .before .before .before .args .row .now) (c .before .before .before .loop .i) (pos 0)))
+wide-as : (c : tie.After-signed-width Inv-loop μ-loop) → c .signed-width .result ≡ length
+    (written (getD (c .before .before .before .before .before .args .row .now) (c .before .before .before .loop .i) (pos 0)))
 wide-as c = c .signed-width .ensures .0 ∙ ap (λ x. length (written x)) (toZ-ofZ (fits32 _ (c .before .x .given)))
 
 row-most-requires : tie.Need-row-most-requires Inv-loop μ-loop
