@@ -83,8 +83,8 @@ pub record Guarantee (p : Plan) (h : History) : Type 0 where
   -- Each accepted closing move lowers it by exactly one.
   pub lowers : T (active (p .mode)) → (c : Call) → T (closes c) → T (accepts p c) → leftIn p ≡ suc (leftIn (following p c))
   -- An edit accepted while joining raises it by one, or by two exactly if it is late.
-  pub raises : T (active (p .mode)) → (s client n m kind k : ℤ) → T (accepts p (edit s client n m kind k)) → leftIn (following p (edit s client n m kind k)) ≡ suc
-      (bit (isLate (natural s) h) + leftIn p)
+  pub raises : T (active (p .mode)) → (s client n m kind k : ℤ) → T (accepts p (edit s client n m kind k))
+      → leftIn (following p (edit s client n m kind k)) ≡ suc (bit (isLate (natural s) h) + leftIn p)
   -- No other call moves it.
   pub stays : T (active (p .mode)) → (c : Call) → T (not (closes c)) → T (not (edits c)) → leftIn (following p c) ≡ leftIn p
   -- Carried on without an accepted edit, whatever is refused or read in between, the join is still under way or was completed.

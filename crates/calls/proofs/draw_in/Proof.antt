@@ -23,6 +23,50 @@ use Rattle.heads.proofs.from_numbers.Reads as from-numbers-reads
 use Rattle.heads.proofs.numbers.Reads as numbers-reads
 use Rattle.rows.proofs.capped.Reads as capped-reads
 
+-- ---- the places of the code, as tools/named writes them
+
+abbrev After-decide-draw-from-After-struct-told5 : tie.After-struct-told5 → tie.After-decide-draw
+After-decide-draw-from-After-struct-told5 c = c .before
+
+abbrev After-struct-told-from-After-struct-told5 : tie.After-struct-told5 → tie.After-struct-told
+After-struct-told-from-After-struct-told5 c = c .before .before .before .before .before
+
+abbrev After-capped-from-After-struct-told5 : tie.After-struct-told5 → tie.After-capped
+After-capped-from-After-struct-told5 c = c .before .before .before .before .before .before .before .before
+
+abbrev After-from-numbers-from-After-struct-told5 : tie.After-struct-told5 → tie.After-from-numbers
+After-from-numbers-from-After-struct-told5 c = c .before .before .before .before .before .before .before .before .before
+
+abbrev Start-from-After-struct-told5 : tie.After-struct-told5 → tie.Start
+Start-from-After-struct-told5 c = c .before .before .before .before .before .before .before .before .before .before .before
+
+abbrev After-is-opened-from-After-plain-effect : tie.After-plain-effect → tie.After-is-opened
+After-is-opened-from-After-plain-effect c = c .before .before .before
+
+abbrev After-note-rule-from-After-plain-effect : tie.After-plain-effect → tie.After-note-rule
+After-note-rule-from-After-plain-effect c = c .before .before .before .before .before .before .before
+
+abbrev After-is-drawn-from-After-plain-effect : tie.After-plain-effect → tie.After-is-drawn
+After-is-drawn-from-After-plain-effect c = c .before .before .before .before .before .before .before .before .before .before .before .before
+
+abbrev After-struct-told5-from-After-plain-effect : tie.After-plain-effect → tie.After-struct-told5
+After-struct-told5-from-After-plain-effect c = c .before .before .before .before .before .before .before .before .before .before .before .before .before .before
+
+abbrev After-decide-draw-from-After-plain-effect : tie.After-plain-effect → tie.After-decide-draw
+After-decide-draw-from-After-plain-effect c = After-decide-draw-from-After-struct-told5 (After-struct-told5-from-After-plain-effect c)
+
+abbrev After-struct-told-from-After-plain-effect : tie.After-plain-effect → tie.After-struct-told
+After-struct-told-from-After-plain-effect c = After-struct-told-from-After-struct-told5 (After-struct-told5-from-After-plain-effect c)
+
+abbrev After-capped-from-After-plain-effect : tie.After-plain-effect → tie.After-capped
+After-capped-from-After-plain-effect c = After-capped-from-After-struct-told5 (After-struct-told5-from-After-plain-effect c)
+
+abbrev After-from-numbers-from-After-plain-effect : tie.After-plain-effect → tie.After-from-numbers
+After-from-numbers-from-After-plain-effect c = After-from-numbers-from-After-struct-told5 (After-struct-told5-from-After-plain-effect c)
+
+abbrev Start-from-After-plain-effect : tie.After-plain-effect → tie.Start
+Start-from-After-plain-effect c = Start-from-After-struct-told5 (After-struct-told5-from-After-plain-effect c)
+
 from-numbers-requires : tie.Need-from-numbers-requires
 from-numbers-requires c κs = search needs
 
@@ -58,31 +102,27 @@ plain-effect-requires c κs = search needs
 
 returns : tie.Need-returns
 returns c =
-    let s = (c .before .before .before .before .before .before .before .before .before .before .before .before .before .before .before .before .before .before .before .before .before .before .before
-    .before .before) in
+    let s = ((Start-from-After-plain-effect c)) in
     let a = s .args in
     let l = a .l in
-    let h = (c .before .before .before .before .before .before .before .before .before .before .before .before .before .before .before .before .before .before .before .before .before .before .before
-    .from-numbers .result) in
-    let d = (c .before .before .before .before .before .before .before .before .before .before .before .before .before .before .before .decide-draw .result) in
-    let g = (c .before .before .before .before .before .before .before .before .before .before .before .before .before .before .before .before .before .before .before .struct-told .given) in
+    let h = ((After-from-numbers-from-After-plain-effect c) .from-numbers .result) in
+    let d = ((After-decide-draw-from-After-plain-effect c) .decide-draw .result) in
+    let g = ((After-struct-told-from-After-plain-effect c) .struct-told .given) in
     let to-a = toZ-ofZ (fits32 (l .a) (g .1 .0 .1)) in
     let to-b = toZ-ofZ (fits32 (l .b) (g .1 .1 .0 .1)) in
     let to-c = toZ-ofZ (fits32 (l .c) (g .1 .1 .1 .0 .1)) in
     let to-d = toZ-ofZ (fits32 (l .d) (g .1 .1 .1 .1 .0 .1)) in
-    λ base draft arrived confirmed look t sound. lent
-    (c .before .before .before .before .before .before .before .before .before .before .before .before .before .before .before .before .before .before .before .before .before .before .before
-    .from-numbers .ensures) (c .plain-effect .ensures) (ap headFrom (c .before .numbers .ensures) ∙ head-numbers (d .head))
+    λ base draft arrived confirmed look t sound. lent ((After-from-numbers-from-After-plain-effect c) .from-numbers .ensures) (c .plain-effect .ensures)
+    (ap headFrom (c .before .numbers .ensures) ∙ head-numbers (d .head))
     (draw-making l h base draft (a .values .now) arrived confirmed (a .table .now) (a .index .now) look t sound (s .pre) d
-    (c .before .before .before .before .before .before .before .before .before .before .before .before .before .before .before .before .before .before .before .before .before .before .capped .ensures)
-    (toZ-ofZ (fits32 (d .value) (c .before .before .before .before .before .before .before .before .before .before .before .before .before .before .struct-told5 .given .1 .0 .1)))
-    ((c .before .before .before .before .before .before .before .note-rule .ensures)
-    ∙ (λ j. cond ((c .before .before .before .before .before .before .before .before .before .before .before .before .is-drawn .ensures) j)
-    (withRule (a .table .now) (min (h .rules) 63) (to-a j) (to-b j) (to-c j) (to-d j)) (a .table .now)))
-    ((c .before .before .before .before .before .before .before .before .before .before .before .before .before .before .before .decide-draw .ensures)
+    ((After-capped-from-After-plain-effect c) .capped .ensures)
+    (toZ-ofZ (fits32 (d .value) ((After-struct-told5-from-After-plain-effect c) .struct-told5 .given .1 .0 .1)))
+    (((After-note-rule-from-After-plain-effect c) .note-rule .ensures)
+    ∙ (λ j. cond (((After-is-drawn-from-After-plain-effect c) .is-drawn .ensures) j) (withRule (a .table .now) (min (h .rules) 63) (to-a j) (to-b j) (to-c j) (to-d j)) (a .table .now)))
+    (((After-decide-draw-from-After-plain-effect c) .decide-draw .ensures)
     ∙ (λ j. drawDecision (l .op) (to-a j) (to-b j) (to-c j) (to-d j) h (lowers (a .table .now)) (gaps (a .table .now)) (uppers (a .table .now)) (a .values .now)))
-    (λ e. (c .before .before .note-index .ensures .0) ((c .before .before .before .is-opened .ensures) ∙ e))
-    (λ e. (c .before .before .note-index .ensures .1) ((c .before .before .before .is-opened .ensures) ∙ e)))
+    (λ e. (c .before .before .note-index .ensures .0) (((After-is-opened-from-After-plain-effect c) .is-opened .ensures) ∙ e))
+    (λ e. (c .before .before .note-index .ensures .1) (((After-is-opened-from-After-plain-effect c) .is-opened .ensures) ∙ e)))
 
 pub draw-in-spec : {M : Type 1} → statement M
 draw-in-spec =

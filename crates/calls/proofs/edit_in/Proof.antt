@@ -32,6 +32,116 @@ use Rattle.heads.proofs.index.Reads as index-reads
 use Rattle.heads.proofs.numbers.Reads as numbers-reads
 use Rattle.rows.proofs.capped.Reads as capped-reads
 
+-- ---- the places of the code, as tools/named writes them
+
+abbrev Start-from-After-from-numbers : tie.After-from-numbers → tie.Start
+Start-from-After-from-numbers c = c .before .before
+
+abbrev After-decide-edit-from-After-refusal : tie.After-refusal → tie.After-decide-edit
+After-decide-edit-from-After-refusal c = c .before .before .before .before
+
+abbrev After-from-numbers-from-After-refusal : tie.After-refusal → tie.After-from-numbers
+After-from-numbers-from-After-refusal c = c .before .before .before .before .before .before .before
+
+abbrev Start-from-After-refusal : tie.After-refusal → tie.Start
+Start-from-After-refusal c = c .before .before .before .before .before .before .before .before .before
+
+abbrev After-struct-told-from-After-struct-told2 : tie.After-struct-told2 → tie.After-struct-told
+After-struct-told-from-After-struct-told2 c = c .before
+
+abbrev After-known-told2-from-After-struct-told2 : tie.After-struct-told2 → tie.After-known-told2
+After-known-told2-from-After-struct-told2 c = c .before .before
+
+abbrev After-ruling2-from-After-struct-told2 : tie.After-struct-told2 → tie.After-ruling2
+After-ruling2-from-After-struct-told2 c = c .before .before .before
+
+abbrev After-decide-edit-from-After-struct-told2 : tie.After-struct-told2 → tie.After-decide-edit
+After-decide-edit-from-After-struct-told2 c = c .before .before .before .before .before
+
+abbrev After-from-numbers-from-After-struct-told2 : tie.After-struct-told2 → tie.After-from-numbers
+After-from-numbers-from-After-struct-told2 c = c .before .before .before .before .before .before .before .before
+
+abbrev Start-from-After-struct-told2 : tie.After-struct-told2 → tie.Start
+Start-from-After-struct-told2 c = c .before .before .before .before .before .before .before .before .before .before
+
+abbrev After-numbers-from-After-plain-effect : tie.After-plain-effect → tie.After-numbers
+After-numbers-from-After-plain-effect c = c .before .before .before
+
+abbrev After-edit-head-from-After-plain-effect : tie.After-plain-effect → tie.After-edit-head
+After-edit-head-from-After-plain-effect c = c .before .before .before .before
+
+abbrev After-spot-from-After-plain-effect : tie.After-plain-effect → tie.After-spot
+After-spot-from-After-plain-effect c = c .before .before .before .before .before
+
+abbrev After-struct-told2-from-After-plain-effect : tie.After-plain-effect → tie.After-struct-told2
+After-struct-told2-from-After-plain-effect c = c .before .before .before .before .before .before
+
+abbrev After-struct-told-from-After-plain-effect : tie.After-plain-effect → tie.After-struct-told
+After-struct-told-from-After-plain-effect c = c .before .before .before .before .before .before .before
+
+abbrev After-known-told2-from-After-plain-effect : tie.After-plain-effect → tie.After-known-told2
+After-known-told2-from-After-plain-effect c = c .before .before .before .before .before .before .before .before
+
+abbrev After-ruling2-from-After-plain-effect : tie.After-plain-effect → tie.After-ruling2
+After-ruling2-from-After-plain-effect c = c .before .before .before .before .before .before .before .before .before
+
+abbrev After-decide-edit-from-After-plain-effect : tie.After-plain-effect → tie.After-decide-edit
+After-decide-edit-from-After-plain-effect c = c .before .before .before .before .before .before .before .before .before .before .before
+
+abbrev After-from-numbers-from-After-plain-effect : tie.After-plain-effect → tie.After-from-numbers
+After-from-numbers-from-After-plain-effect c = c .before .before .before .before .before .before .before .before .before .before .before .before .before .before
+
+abbrev After-note-kept-from-After-keeping : tie.After-keeping → tie.After-note-kept
+After-note-kept-from-After-keeping c = c .before .before .before
+
+abbrev After-index-from-After-keeping : tie.After-keeping → tie.After-index
+After-index-from-After-keeping c = c .before .before .before .before .before .before
+
+abbrev After-number-from-After-keeping : tie.After-keeping → tie.After-number
+After-number-from-After-keeping c = c .before .before .before .before .before .before .before
+
+abbrev After-struct-told3-from-After-keeping : tie.After-keeping → tie.After-struct-told3
+After-struct-told3-from-After-keeping c = c .before .before .before .before .before .before .before .before
+
+abbrev Else1-from-After-keeping : tie.After-keeping → tie.Else1
+Else1-from-After-keeping c = c .before .before .before .before .before .before .before .before .before
+
+abbrev After-is-whole-from-After-keeping : tie.After-keeping → tie.After-is-whole
+After-is-whole-from-After-keeping c = c .before .before .before .before .before .before .before .before .before .before
+
+abbrev After-numbers-from-After-keeping : tie.After-keeping → tie.After-numbers
+After-numbers-from-After-keeping c = c .before .before .before .before .before .before .before .before .before .before .before
+
+abbrev After-edit-head-from-After-keeping : tie.After-keeping → tie.After-edit-head
+After-edit-head-from-After-keeping c = c .before .before .before .before .before .before .before .before .before .before .before .before
+
+abbrev After-spot-from-After-keeping : tie.After-keeping → tie.After-spot
+After-spot-from-After-keeping c = c .before .before .before .before .before .before .before .before .before .before .before .before .before
+
+abbrev After-struct-told2-from-After-keeping : tie.After-keeping → tie.After-struct-told2
+After-struct-told2-from-After-keeping c = c .before .before .before .before .before .before .before .before .before .before .before .before .before .before
+
+abbrev Start-from-After-plain-effect : tie.After-plain-effect → tie.Start
+Start-from-After-plain-effect c = Start-from-After-from-numbers (After-from-numbers-from-After-plain-effect c)
+
+abbrev After-struct-told-from-After-keeping : tie.After-keeping → tie.After-struct-told
+After-struct-told-from-After-keeping c = After-struct-told-from-After-struct-told2 (After-struct-told2-from-After-keeping c)
+
+abbrev After-known-told2-from-After-keeping : tie.After-keeping → tie.After-known-told2
+After-known-told2-from-After-keeping c = After-known-told2-from-After-struct-told2 (After-struct-told2-from-After-keeping c)
+
+abbrev After-ruling2-from-After-keeping : tie.After-keeping → tie.After-ruling2
+After-ruling2-from-After-keeping c = After-ruling2-from-After-struct-told2 (After-struct-told2-from-After-keeping c)
+
+abbrev After-decide-edit-from-After-keeping : tie.After-keeping → tie.After-decide-edit
+After-decide-edit-from-After-keeping c = After-decide-edit-from-After-struct-told2 (After-struct-told2-from-After-keeping c)
+
+abbrev After-from-numbers-from-After-keeping : tie.After-keeping → tie.After-from-numbers
+After-from-numbers-from-After-keeping c = After-from-numbers-from-After-struct-told2 (After-struct-told2-from-After-keeping c)
+
+abbrev Start-from-After-keeping : tie.After-keeping → tie.Start
+Start-from-After-keeping c = Start-from-After-struct-told2 (After-struct-told2-from-After-keeping c)
+
 from-numbers-requires : tie.Need-from-numbers-requires
 from-numbers-requires c κs = search needs
 
@@ -70,24 +180,23 @@ plain-effect-requires c κs = search needs
 
 returns : tie.Need-returns
 returns c =
-    let s = (c .before .before .before .before .before .before .before .before .before .before .before .before .before .before .before .before) in
+    let s = ((Start-from-After-plain-effect c)) in
     let a = s .args in
     let l = a .l in
-    let h = (c .before .before .before .before .before .before .before .before .before .before .before .before .before .before .from-numbers .result) in
-    let x = (c .before .before .before .before .before .before .before .before .before .ruling2 .given .0 .1 .0) in
-    let to-a = toZ-ofZ (fits32 (l .a) ((c .before .before .before .before .before .before .before .struct-told .given .1 .0 .1))) in
-    let to-d = toZ-ofZ (fits32 (l .d) ((c .before .before .before .before .before .before .struct-told2 .given .1 .1 .1 .1 .0 .1))) in
-    let to-x = toZ-ofZ (fits32 x ((c .before .before .before .before .before .before .before .before .known-told2 .given .1 .0 .1))) in
-    λ base draft confirmed. lent (c .before .before .before .before .before .before .before .before .before .before .before .before .before .before .from-numbers .ensures) refl refl
+    let h = ((After-from-numbers-from-After-plain-effect c) .from-numbers .result) in
+    let x = ((After-ruling2-from-After-plain-effect c) .ruling2 .given .0 .1 .0) in
+    let to-a = toZ-ofZ (fits32 (l .a) (((After-struct-told-from-After-plain-effect c) .struct-told .given .1 .0 .1))) in
+    let to-d = toZ-ofZ (fits32 (l .d) (((After-struct-told2-from-After-plain-effect c) .struct-told2 .given .1 .1 .1 .1 .0 .1))) in
+    let to-x = toZ-ofZ (fits32 x (((After-known-told2-from-After-plain-effect c) .known-told2 .given .1 .0 .1))) in
+    λ base draft confirmed. lent ((After-from-numbers-from-After-plain-effect c) .from-numbers .ensures) refl refl
     (edit-making l h base draft (a .values .now) (a .arrived .now) confirmed (a .table .now) (a .index .now) (a .look) (a .counts .now) (a .sound) (s .pre)
-    (c .before .before .before .before .before .before .before .before .before .before .before .decide-edit .result)
-    (c .before .before .before .before .before .before .before .before .before .before .before .decide-edit .ensures)
+    ((After-decide-edit-from-After-plain-effect c) .decide-edit .result) ((After-decide-edit-from-After-plain-effect c) .decide-edit .ensures)
     (edit-made l h base draft (a .values .now) (a .arrived .now) confirmed (a .table .now) (a .index .now) (a .look) (a .counts .now) (a .sound)
-    (c .before .before .before .before .before .before .before .before .before .ruling2 .given .0 .0) x
-    (c .before .before .before .before .before .before .before .before .before .ruling2 .given .1)
+    ((After-ruling2-from-After-plain-effect c) .ruling2 .given .0 .0) x ((After-ruling2-from-After-plain-effect c) .ruling2 .given .1)
     (sym (c .before .before .is-whole .ensures) ∙ (c .before .if1 .taken)) (c .plain-effect .ensures)
-    (ap headFrom (c .before .before .before .numbers .ensures) ∙ head-numbers (c .before .before .before .before .edit-head .result) ∙ (c .before .before .before .before .edit-head .ensures))
-    (λ j. set (a .values .now) (((c .before .before .before .before .before .spot .ensures .0) ∙ (λ k. spotOf (natural (to-a k)) (natural (to-d k)))) j) (to-x j))))
+    (ap headFrom ((After-numbers-from-After-plain-effect c) .numbers .ensures) ∙ head-numbers ((After-edit-head-from-After-plain-effect c) .edit-head .result)
+    ∙ ((After-edit-head-from-After-plain-effect c) .edit-head .ensures))
+    (λ j. set (a .values .now) ((((After-spot-from-After-plain-effect c) .spot .ensures .0) ∙ (λ k. spotOf (natural (to-a k)) (natural (to-d k)))) j) (to-x j))))
 
 number-requires : tie.Need-number-requires
 number-requires c κs = search needs
@@ -112,51 +221,39 @@ keeping-requires c κs = search needs
 
 returns-2 : tie.Need-returns-2
 returns-2 c =
-    let s = (c .before .before .before .before .before .before .before .before .before) in
+    let s = ((Start-from-After-refusal c)) in
     let a = s .args in
     let l = a .l in
-    let h = (c .before .before .before .before .before .before .before .from-numbers .result) in
-    λ base draft confirmed. lent (c .before .before .before .before .before .before .before .from-numbers .ensures) refl
-    (sym (c .before .before .before .before .before .before .before .from-numbers .ensures))
+    let h = ((After-from-numbers-from-After-refusal c) .from-numbers .result) in
+    λ base draft confirmed. lent ((After-from-numbers-from-After-refusal c) .from-numbers .ensures) refl (sym ((After-from-numbers-from-After-refusal c) .from-numbers .ensures))
     (edit-making l h base draft (a .values .now) (a .arrived .now) confirmed (a .table .now) (a .index .now) (a .look) (a .counts .now) (a .sound) (s .pre)
-    (c .before .before .before .before .decide-edit .result) (c .before .before .before .before .decide-edit .ensures)
+    ((After-decide-edit-from-After-refusal c) .decide-edit .result) ((After-decide-edit-from-After-refusal c) .decide-edit .ensures)
     (edit-refused l h base draft (a .values .now) (a .arrived .now) confirmed (a .table .now) (a .index .now) (a .look) (a .counts .now) (a .sound) (c .before .before .ruling .given .0 .0)
     (c .before .before .ruling .given .1) (c .refusal .ensures)))
 
 returns-3 : tie.Need-returns-3
 returns-3 c =
-    let s = (c .before .before .before .before .before .before .before .before .before .before .before .before .before .before .before .before .before .before .before .before .before .before .before
-    .before) in
+    let s = ((Start-from-After-keeping c)) in
     let a = s .args in
     let l = a .l in
-    let h = (c .before .before .before .before .before .before .before .before .before .before .before .before .before .before .before .before .before .before .before .before .before .before
-    .from-numbers .result) in
-    let x = (c .before .before .before .before .before .before .before .before .before .before .before .before .before .before .before .before .before .ruling2 .given .0 .1 .0) in
-    let to-a = toZ-ofZ (fits32 (l .a) ((c .before .before .before .before .before .before .before .before .before .before .before .before .before .before .before .struct-told .given .1 .0 .1))) in
-    let to-d = toZ-ofZ (fits32 (l .d) ((c .before .before .before .before .before .before .before .before .before .before .before .before .before .before .struct-told2 .given .1 .1 .1 .1 .0 .1))) in
-    let to-x = toZ-ofZ (fits32 x ((c .before .before .before .before .before .before .before .before .before .before .before .before .before .before .before .before .known-told2 .given .1 .0 .1))) in
-    let side = (c .before .before .before .before .before .before .before .number .ensures)
-    ∙ ap natural (toZ-ofZ (fits32 (l .a) ((c .before .before .before .before .before .before .before .before .struct-told3 .given .1 .0 .1)))) in
-    let place = (c .before .before .before .before .before .before .index .ensures .0) ∙ ap indexOf side in
-    λ base draft confirmed. lent
-    (c .before .before .before .before .before .before .before .before .before .before .before .before .before .before .before .before .before .before .before .before .before .before
-    .from-numbers .ensures) refl refl
+    let h = ((After-from-numbers-from-After-keeping c) .from-numbers .result) in
+    let x = ((After-ruling2-from-After-keeping c) .ruling2 .given .0 .1 .0) in
+    let to-a = toZ-ofZ (fits32 (l .a) (((After-struct-told-from-After-keeping c) .struct-told .given .1 .0 .1))) in
+    let to-d = toZ-ofZ (fits32 (l .d) (((After-struct-told2-from-After-keeping c) .struct-told2 .given .1 .1 .1 .1 .0 .1))) in
+    let to-x = toZ-ofZ (fits32 x (((After-known-told2-from-After-keeping c) .known-told2 .given .1 .0 .1))) in
+    let side = ((After-number-from-After-keeping c) .number .ensures) ∙ ap natural (toZ-ofZ (fits32 (l .a) (((After-struct-told3-from-After-keeping c) .struct-told3 .given .1 .0 .1)))) in
+    let place = ((After-index-from-After-keeping c) .index .ensures .0) ∙ ap indexOf side in
+    λ base draft confirmed. lent ((After-from-numbers-from-After-keeping c) .from-numbers .ensures) refl refl
     (edit-making l h base draft (a .values .now) (a .arrived .now) confirmed (a .table .now) (a .index .now) (a .look) (a .counts .now) (a .sound) (s .pre)
-    (c .before .before .before .before .before .before .before .before .before .before .before .before .before .before .before .before .before .before .before .decide-edit .result)
-    (c .before .before .before .before .before .before .before .before .before .before .before .before .before .before .before .before .before .before .before .decide-edit .ensures)
+    ((After-decide-edit-from-After-keeping c) .decide-edit .result) ((After-decide-edit-from-After-keeping c) .decide-edit .ensures)
     (edit-kept l h base draft (a .values .now) (a .arrived .now) confirmed (a .table .now) (a .index .now) (a .look) (a .counts .now) (a .sound)
-    (c .before .before .before .before .before .before .before .before .before .before .before .before .before .before .before .before .before .ruling2 .given .0 .0) x
-    (c .before .before .before .before .before .before .before .before .before .before .before .before .before .before .before .before .before .ruling2 .given .1)
-    (sym (c .before .before .before .before .before .before .before .before .before .before .is-whole .ensures)
-    ∙ (c .before .before .before .before .before .before .before .before .before .if1 .left))
+    ((After-ruling2-from-After-keeping c) .ruling2 .given .0 .0) x ((After-ruling2-from-After-keeping c) .ruling2 .given .1)
+    (sym ((After-is-whole-from-After-keeping c) .is-whole .ensures) ∙ ((Else1-from-After-keeping c) .if1 .left))
     ((c .keeping .ensures) ∙ (λ j. stored (Answer.Given 1 (h .next) 0 0) ((c .before .before .capped .ensures) j) ((c .before .edit-record .ensures) j)))
-    (ap headFrom (c .before .before .before .before .before .before .before .before .before .before .before .numbers .ensures)
-    ∙ head-numbers (c .before .before .before .before .before .before .before .before .before .before .before .before .edit-head .result)
-    ∙ (c .before .before .before .before .before .before .before .before .before .before .before .before .edit-head .ensures))
-    (λ j. set (a .values .now)
-    (((c .before .before .before .before .before .before .before .before .before .before .before .before .before .spot .ensures .0) ∙ (λ k. spotOf (natural (to-a k)) (natural (to-d k)))) j)
-    (to-x j))
-    ((c .before .before .before .note-kept .ensures) ∙ (λ j. oneUnsent (side j) (getD (a .arrived .now) (place j) false) (a .counts .now)))))
+    (ap headFrom ((After-numbers-from-After-keeping c) .numbers .ensures) ∙ head-numbers ((After-edit-head-from-After-keeping c) .edit-head .result)
+    ∙ ((After-edit-head-from-After-keeping c) .edit-head .ensures))
+    (λ j. set (a .values .now) ((((After-spot-from-After-keeping c) .spot .ensures .0) ∙ (λ k. spotOf (natural (to-a k)) (natural (to-d k)))) j) (to-x j))
+    (((After-note-kept-from-After-keeping c) .note-kept .ensures) ∙ (λ j. oneUnsent (side j) (getD (a .arrived .now) (place j) false) (a .counts .now)))))
 
 pub edit-in-spec : {M : Type 1} → statement M
 edit-in-spec =

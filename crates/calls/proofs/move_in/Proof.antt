@@ -26,6 +26,50 @@ use Rattle.heads.proofs.numbers.Reads as numbers-reads
 use Rattle.moves.proofs.lengths.Reads as lengths-reads
 use Rattle.moves.proofs.make_move.Reads as make-move-reads
 
+-- ---- the places of the code, as tools/named writes them
+
+abbrev After-index-from-After-make-move-arg4 : tie.After-make-move-arg4 → tie.After-index
+After-index-from-After-make-move-arg4 c = c .before .before .before .before .before .before
+
+abbrev After-number-from-After-make-move-arg4 : tie.After-make-move-arg4 → tie.After-number
+After-number-from-After-make-move-arg4 c = c .before .before .before .before .before .before .before
+
+abbrev After-struct-told-from-After-make-move-arg4 : tie.After-make-move-arg4 → tie.After-struct-told
+After-struct-told-from-After-make-move-arg4 c = c .before .before .before .before .before .before .before .before
+
+abbrev After-from-numbers-from-After-make-move-arg4 : tie.After-make-move-arg4 → tie.After-from-numbers
+After-from-numbers-from-After-make-move-arg4 c = c .before .before .before .before .before .before .before .before .before
+
+abbrev Start-from-After-make-move-arg4 : tie.After-make-move-arg4 → tie.Start
+Start-from-After-make-move-arg4 c = c .before .before .before .before .before .before .before .before .before .before .before
+
+abbrev After-numbers-from-After-plain-effect : tie.After-plain-effect → tie.After-numbers
+After-numbers-from-After-plain-effect c = c .before .before .before .before
+
+abbrev After-lengths-from-After-plain-effect : tie.After-plain-effect → tie.After-lengths
+After-lengths-from-After-plain-effect c = c .before .before .before .before .before
+
+abbrev After-make-move-from-After-plain-effect : tie.After-plain-effect → tie.After-make-move
+After-make-move-from-After-plain-effect c = c .before .before .before .before .before .before .before .before .before .before .before
+
+abbrev After-make-move-arg4-from-After-plain-effect : tie.After-plain-effect → tie.After-make-move-arg4
+After-make-move-arg4-from-After-plain-effect c = c .before .before .before .before .before .before .before .before .before .before .before .before .before .before
+
+abbrev After-index-from-After-plain-effect : tie.After-plain-effect → tie.After-index
+After-index-from-After-plain-effect c = After-index-from-After-make-move-arg4 (After-make-move-arg4-from-After-plain-effect c)
+
+abbrev After-number-from-After-plain-effect : tie.After-plain-effect → tie.After-number
+After-number-from-After-plain-effect c = After-number-from-After-make-move-arg4 (After-make-move-arg4-from-After-plain-effect c)
+
+abbrev After-struct-told-from-After-plain-effect : tie.After-plain-effect → tie.After-struct-told
+After-struct-told-from-After-plain-effect c = After-struct-told-from-After-make-move-arg4 (After-make-move-arg4-from-After-plain-effect c)
+
+abbrev After-from-numbers-from-After-plain-effect : tie.After-plain-effect → tie.After-from-numbers
+After-from-numbers-from-After-plain-effect c = After-from-numbers-from-After-make-move-arg4 (After-make-move-arg4-from-After-plain-effect c)
+
+abbrev Start-from-After-plain-effect : tie.After-plain-effect → tie.Start
+Start-from-After-plain-effect c = Start-from-After-make-move-arg4 (After-make-move-arg4-from-After-plain-effect c)
+
 from-numbers-requires : tie.Need-from-numbers-requires
 from-numbers-requires c κs = search needs
 
@@ -64,33 +108,22 @@ plain-effect-requires c κs = search needs
 
 returns : tie.Need-returns
 returns c =
-    let s = (c .before .before .before .before .before .before .before .before .before .before .before .before .before .before .before .before .before .before .before .before .before .before .before
-    .before .before) in
+    let s = ((Start-from-After-plain-effect c)) in
     let a = s .args in
     let l = a .l in
-    let h = (c .before .before .before .before .before .before .before .before .before .before .before .before .before .before .before .before .before .before .before .before .before .before .before
-    .from-numbers .result) in
-    let r = (c .before .before .before .before .before .before .before .before .before .before .before .make-move .result) in
-    let x = (c .before .before .before .before .before .before .before .before .before .before .before .make-move .last .1) in
+    let h = ((After-from-numbers-from-After-plain-effect c) .from-numbers .result) in
+    let r = ((After-make-move-from-After-plain-effect c) .make-move .result) in
+    let x = ((After-make-move-from-After-plain-effect c) .make-move .last .1) in
     let f = frameFrom h (a .base .now) (a .draft .now) (a .values .now) (a .arrived .now) (a .confirmed .now) in
-    let to-a = toZ-ofZ (fits32 (l .a)
-    ((c .before .before .before .before .before .before .before .before .before .before .before .before .before .before .before .before .before .before .before .before .before .before
-    .struct-told .given .1 .0 .1))) in
-    let i = (c .before .before .before .before .before .before .before .before .before .before .before .before .before .before .before .before .before .before .before .before .index .ensures .0)
-    ∙ ap indexOf ((c .before .before .before .before .before .before .before .before .before .before .before .before .before .before .before .before .before .before .before .before .before
-    .number .ensures) ∙ ap natural to-a) in
-    let m = subst (λ y. Moves (moveCall (l .op) y) f
-    (Counts f (natural y)
-    (getD (a .counts .now)
-    (c .before .before .before .before .before .before .before .before .before .before .before .before .before .before .before .before .before .before .before .before .index .result) 0)
-    (waitingIn (a .counts .now))) (movedTo r (x .0) (x .1 .0) (x .1 .1 .0) (x .1 .1 .1 .0) (x .1 .1 .1 .1 .0))) to-a
-    (c .before .before .before .before .before .before .before .before .before .before .before .make-move .ensures) in
-    λ table index look sound. lent
-    (c .before .before .before .before .before .before .before .before .before .before .before .before .before .before .before .before .before .before .before .before .before .before .before
-    .from-numbers .ensures) (c .plain-effect .ensures) (ap headFrom (c .before .before .before .before .numbers .ensures) ∙ head-numbers (r .head))
+    let to-a = toZ-ofZ (fits32 (l .a) (((After-struct-told-from-After-plain-effect c) .struct-told .given .1 .0 .1))) in
+    let i = ((After-index-from-After-plain-effect c) .index .ensures .0) ∙ ap indexOf (((After-number-from-After-plain-effect c) .number .ensures) ∙ ap natural to-a) in
+    let m = subst (λ y. Moves (moveCall (l .op) y) f (Counts f (natural y) (getD (a .counts .now) ((After-index-from-After-plain-effect c) .index .result) 0) (waitingIn (a .counts .now)))
+    (movedTo r (x .0) (x .1 .0) (x .1 .1 .0) (x .1 .1 .1 .0) (x .1 .1 .1 .1 .0))) to-a ((After-make-move-from-After-plain-effect c) .make-move .ensures) in
+    λ table index look sound. lent ((After-from-numbers-from-After-plain-effect c) .from-numbers .ensures) (c .plain-effect .ensures)
+    (ap headFrom ((After-numbers-from-After-plain-effect c) .numbers .ensures) ∙ head-numbers (r .head))
     (move-making l h (a .base .now) (a .draft .now) (a .values .now) (a .arrived .now) (a .confirmed .now) table index look (a .counts .now) sound (s .pre) r i
     ((c .before .note-move .ensures) ∙ ap (λ b. cond b (moveTally (l .op) h (a .counts .now)) (a .counts .now)) (c .before .before .accepted .ensures)) m
-    (c .before .before .before .before .before .lengths .ensures))
+    ((After-lengths-from-After-plain-effect c) .lengths .ensures))
 
 pub move-in-spec : {M : Type 1} → statement M
 move-in-spec =

@@ -13,6 +13,14 @@ use Rattle.calls.proofs.plain_effect.Reads as plain-effect-reads
 use Rattle.heads.proofs.from_numbers.Reads as from-numbers-reads
 use Rattle.query.proofs.read.Reads as read-reads
 
+-- ---- the places of the code, as tools/named writes them
+
+abbrev After-from-numbers-from-After-plain-effect : tie.After-plain-effect → tie.After-from-numbers
+After-from-numbers-from-After-plain-effect c = c .before .before .before .before .before
+
+abbrev Start-from-After-plain-effect : tie.After-plain-effect → tie.Start
+Start-from-After-plain-effect c = c .before .before .before .before .before .before
+
 from-numbers-requires : tie.Need-from-numbers-requires
 from-numbers-requires c κs = search needs
 
@@ -27,14 +35,14 @@ plain-effect-requires c κs = search needs
 
 returns : tie.Need-returns
 returns c =
-    let s = (c .before .before .before .before .before .before) in
+    let s = ((Start-from-After-plain-effect c)) in
     let a = s .args in
     let l = a .l in
-    let h = (c .before .before .before .before .before .from-numbers .result) in
+    let h = ((After-from-numbers-from-After-plain-effect c) .from-numbers .result) in
     let to-a = toZ-ofZ (fits32 (l .a) ((c .before .before .struct-told .given .1 .0 .1))) in
     rw ((c .plain-effect .ensures))
-    (λ base draft values arrived confirmed table index sound. lent (c .before .before .before .before .before .from-numbers .ensures) refl
-    (sym (c .before .before .before .before .before .from-numbers .ensures))
+    (λ base draft values arrived confirmed table index sound. lent ((After-from-numbers-from-After-plain-effect c) .from-numbers .ensures) refl
+    (sym ((After-from-numbers-from-After-plain-effect c) .from-numbers .ensures))
     (read-making l h base draft values arrived confirmed table index (a .look) (a .counts .now) sound (s .pre .0) (s .pre .1) (c .before .read .result)
     ((c .before .read .ensures) ∙ ap (λ y. readingOf (l .op) y h (a .look .named) (a .look .standing) (leftIn (a .counts .now))) to-a)))
 

@@ -23,6 +23,53 @@ use Rattle.replay.proofs.point_of.Reads as point-of-reads
 use Rattle.replay.proofs.settled_record.Reads as settled-record-reads
 use Rattle.rows.proofs.capped.Reads as capped-reads
 
+-- ---- the places of the code, as tools/named writes them
+
+abbrev After-from-numbers-from-After-missing : tie.After-missing → tie.After-from-numbers
+After-from-numbers-from-After-missing c = c .before .before .before
+
+abbrev Start-from-After-missing : tie.After-missing → tie.Start
+Start-from-After-missing c = c .before .before .before .before
+
+abbrev After-decide-replay-from-After-refusal : tie.After-refusal → tie.After-decide-replay
+After-decide-replay-from-After-refusal c = c .before .before .before .before
+
+abbrev After-from-numbers-from-After-refusal : tie.After-refusal → tie.After-from-numbers
+After-from-numbers-from-After-refusal c = c .before .before .before .before .before .before .before .before .before
+
+abbrev Start-from-After-refusal : tie.After-refusal → tie.Start
+Start-from-After-refusal c = c .before .before .before .before .before .before .before .before .before .before
+
+abbrev After-fate-number-from-After-keeping : tie.After-keeping → tie.After-fate-number
+After-fate-number-from-After-keeping c = c .before .before .before
+
+abbrev After-note-settled-from-After-keeping : tie.After-keeping → tie.After-note-settled
+After-note-settled-from-After-keeping c = c .before .before .before .before
+
+abbrev After-capped-from-After-keeping : tie.After-keeping → tie.After-capped
+After-capped-from-After-keeping c = c .before .before .before .before .before .before
+
+abbrev After-point-of-from-After-keeping : tie.After-keeping → tie.After-point-of
+After-point-of-from-After-keeping c = c .before .before .before .before .before .before .before .before
+
+abbrev After-known-told2-from-After-keeping : tie.After-keeping → tie.After-known-told2
+After-known-told2-from-After-keeping c = c .before .before .before .before .before .before .before .before .before
+
+abbrev After-outcome2-from-After-keeping : tie.After-keeping → tie.After-outcome2
+After-outcome2-from-After-keeping c = c .before .before .before .before .before .before .before .before .before .before
+
+abbrev After-decide-replay-from-After-keeping : tie.After-keeping → tie.After-decide-replay
+After-decide-replay-from-After-keeping c = c .before .before .before .before .before .before .before .before .before .before .before .before
+
+abbrev After-missing-from-After-keeping : tie.After-keeping → tie.After-missing
+After-missing-from-After-keeping c = c .before .before .before .before .before .before .before .before .before .before .before .before .before .before
+
+abbrev After-from-numbers-from-After-keeping : tie.After-keeping → tie.After-from-numbers
+After-from-numbers-from-After-keeping c = After-from-numbers-from-After-missing (After-missing-from-After-keeping c)
+
+abbrev Start-from-After-keeping : tie.After-keeping → tie.Start
+Start-from-After-keeping c = Start-from-After-missing (After-missing-from-After-keeping c)
+
 from-numbers-requires : tie.Need-from-numbers-requires
 from-numbers-requires c κs = search needs
 
@@ -79,39 +126,35 @@ keeping-requires c κs = search needs
 
 returns : tie.Need-returns
 returns c =
-    let s = (c .before .before .before .before .before .before .before .before .before .before) in
+    let s = ((Start-from-After-refusal c)) in
     let a = s .args in
     let l = a .l in
-    let h = (c .before .before .before .before .before .before .before .before .before .from-numbers .result) in
-    λ base values arrived confirmed. lent (c .before .before .before .before .before .before .before .before .before .from-numbers .ensures) refl
-    (sym (c .before .before .before .before .before .before .before .before .before .from-numbers .ensures))
+    let h = ((After-from-numbers-from-After-refusal c) .from-numbers .result) in
+    λ base values arrived confirmed. lent ((After-from-numbers-from-After-refusal c) .from-numbers .ensures) refl (sym ((After-from-numbers-from-After-refusal c) .from-numbers .ensures))
     (replay-making l h base (a .draft .now) values arrived confirmed (a .table .now) (a .index .now) (a .look) (a .counts .now) (a .sound) (s .pre)
-    (c .before .before .before .before .decide-replay .result) (c .before .before .before .before .decide-replay .ensures)
+    ((After-decide-replay-from-After-refusal c) .decide-replay .result) ((After-decide-replay-from-After-refusal c) .decide-replay .ensures)
     (replay-refused l h base (a .draft .now) values arrived confirmed (a .table .now) (a .index .now) (a .look) (a .counts .now) (a .sound) (c .before .before .outcome .given .0 .0)
     (c .before .before .outcome .given .1) (c .refusal .ensures)))
 
 returns-2 : tie.Need-returns-2
 returns-2 c =
-    let s = (c .before .before .before .before .before .before .before .before .before .before .before .before .before .before .before .before .before .before) in
+    let s = ((Start-from-After-keeping c)) in
     let a = s .args in
     let l = a .l in
-    let h = (c .before .before .before .before .before .before .before .before .before .before .before .before .before .before .before .before .before .from-numbers .result) in
-    let b = (c .before .before .before .before .before .before .before .before .before .before .outcome2 .given .0 .0) in
-    let x = (c .before .before .before .before .before .before .before .before .before .before .outcome2 .given .0 .1 .0) in
-    let to-x = toZ-ofZ (fits32 x ((c .before .before .before .before .before .before .before .before .before .known-told2 .given .1 .0 .1))) in
-    λ base values arrived confirmed. lent
-    (c .before .before .before .before .before .before .before .before .before .before .before .before .before .before .before .before .before .from-numbers .ensures) refl
-    (sym (c .before .before .before .before .before .before .before .before .before .before .before .before .before .before .before .before .before .from-numbers .ensures))
+    let h = ((After-from-numbers-from-After-keeping c) .from-numbers .result) in
+    let b = ((After-outcome2-from-After-keeping c) .outcome2 .given .0 .0) in
+    let x = ((After-outcome2-from-After-keeping c) .outcome2 .given .0 .1 .0) in
+    let to-x = toZ-ofZ (fits32 x (((After-known-told2-from-After-keeping c) .known-told2 .given .1 .0 .1))) in
+    λ base values arrived confirmed. lent ((After-from-numbers-from-After-keeping c) .from-numbers .ensures) refl (sym ((After-from-numbers-from-After-keeping c) .from-numbers .ensures))
     (replay-making l h base (a .draft .now) values arrived confirmed (a .table .now) (a .index .now) (a .look) (a .counts .now) (a .sound) (s .pre)
-    (c .before .before .before .before .before .before .before .before .before .before .before .before .decide-replay .result)
-    (c .before .before .before .before .before .before .before .before .before .before .before .before .decide-replay .ensures)
+    ((After-decide-replay-from-After-keeping c) .decide-replay .result) ((After-decide-replay-from-After-keeping c) .decide-replay .ensures)
     (replay-settled l h base (a .draft .now) values arrived confirmed (a .table .now) (a .index .now) (a .look) (a .counts .now) (a .sound) b x
-    (c .before .before .before .before .before .before .before .before .before .before .outcome2 .given .1)
+    ((After-outcome2-from-After-keeping c) .outcome2 .given .1)
     ((c .keeping .ensures)
-    ∙ (λ j. stored (Answer.Given 1 ((c .before .before .before .fate-number .ensures) j) 0 0) (c .before .before .slot .result)
-    (((c .before .settled-record .ensures) ∙ (λ k. settledRecord (a .look .standing) b ((c .before .before .before .before .before .before .capped .ensures) k + 1))) j)))
+    ∙ (λ j. stored (Answer.Given 1 (((After-fate-number-from-After-keeping c) .fate-number .ensures) j) 0 0) (c .before .before .slot .result)
+    (((c .before .settled-record .ensures) ∙ (λ k. settledRecord (a .look .standing) b (((After-capped-from-After-keeping c) .capped .ensures) k + 1))) j)))
     (c .before .before .slot .ensures .0) (c .before .before .slot .ensures .1)
-    (λ j. set (a .draft .now) ((c .before .before .before .before .before .before .before .before .point-of .ensures .0) j) (to-x j)) (c .before .before .before .before .note-settled .ensures)))
+    (λ j. set (a .draft .now) (((After-point-of-from-After-keeping c) .point-of .ensures .0) j) (to-x j)) ((After-note-settled-from-After-keeping c) .note-settled .ensures)))
 
 pub replay-in-spec : {M : Type 1} → statement M
 replay-in-spec =

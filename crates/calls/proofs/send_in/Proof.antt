@@ -19,6 +19,26 @@ use Rattle.heads.proofs.index.Reads as index-reads
 use Rattle.moves.proofs.decide_send.Reads as decide-send-reads
 use Rattle.calls.proofs.plain_effect.Reads as plain-effect-reads
 
+-- ---- the places of the code, as tools/named writes them
+
+abbrev After-decide-send-from-After-plain-effect : tie.After-plain-effect → tie.After-decide-send
+After-decide-send-from-After-plain-effect c = c .before .before .before .before
+
+abbrev After-index-from-After-plain-effect : tie.After-plain-effect → tie.After-index
+After-index-from-After-plain-effect c = c .before .before .before .before .before .before .before
+
+abbrev After-number-from-After-plain-effect : tie.After-plain-effect → tie.After-number
+After-number-from-After-plain-effect c = c .before .before .before .before .before .before .before .before
+
+abbrev After-struct-told-from-After-plain-effect : tie.After-plain-effect → tie.After-struct-told
+After-struct-told-from-After-plain-effect c = c .before .before .before .before .before .before .before .before .before
+
+abbrev After-from-numbers-from-After-plain-effect : tie.After-plain-effect → tie.After-from-numbers
+After-from-numbers-from-After-plain-effect c = c .before .before .before .before .before .before .before .before .before .before
+
+abbrev Start-from-After-plain-effect : tie.After-plain-effect → tie.Start
+Start-from-After-plain-effect c = c .before .before .before .before .before .before .before .before .before .before .before
+
 from-numbers-requires : tie.Need-from-numbers-requires
 from-numbers-requires c κs = search needs
 
@@ -54,21 +74,21 @@ plain-effect-requires c κs = search needs
 
 returns : tie.Need-returns
 returns c =
-    let s = (c .before .before .before .before .before .before .before .before .before .before .before) in
+    let s = ((Start-from-After-plain-effect c)) in
     let a = s .args in
     let l = a .l in
-    let h = (c .before .before .before .before .before .before .before .before .before .before .from-numbers .result) in
-    let d = (c .before .before .before .before .decide-send .result) in
-    let to-a = toZ-ofZ (fits32 (l .a) ((c .before .before .before .before .before .before .before .before .before .struct-told .given .1 .0 .1))) in
+    let h = ((After-from-numbers-from-After-plain-effect c) .from-numbers .result) in
+    let d = ((After-decide-send-from-After-plain-effect c) .decide-send .result) in
+    let to-a = toZ-ofZ (fits32 (l .a) (((After-struct-told-from-After-plain-effect c) .struct-told .given .1 .0 .1))) in
     rw (c .plain-effect .ensures)
-    (λ base draft values confirmed table index look sound. lent (c .before .before .before .before .before .before .before .before .before .before .from-numbers .ensures)
-    refl (sym (c .before .before .before .before .before .before .before .before .before .before .from-numbers .ensures))
+    (λ base draft values confirmed table index look sound. lent ((After-from-numbers-from-After-plain-effect c) .from-numbers .ensures)
+    refl (sym ((After-from-numbers-from-After-plain-effect c) .from-numbers .ensures))
     (send-making l h base draft values (a .arrived .now) confirmed table index look (a .counts .now) sound (s .pre) d
-    ((c .before .before .before .before .before .before .before .before .number .ensures) ∙ ap natural to-a) (c .before .before .before .before .before .before .before .index .ensures .0)
+    (((After-number-from-After-plain-effect c) .number .ensures) ∙ ap natural to-a) ((After-index-from-After-plain-effect c) .index .ensures .0)
     ((c .before .note-sent .ensures)
-    ∙ ap (λ b. cond b (allSent (c .before .before .before .before .before .before .before .before .number .result)
-    (getD (a .arrived .now) (c .before .before .before .before .before .before .before .index .result) false) (a .counts .now)) (a .counts .now)) (c .before .before .accepted .ensures))
-    (c .before .before .before .before .decide-send .ensures)))
+    ∙ ap (λ b. cond b (allSent ((After-number-from-After-plain-effect c) .number .result) (getD (a .arrived .now) ((After-index-from-After-plain-effect c) .index .result) false)
+    (a .counts .now)) (a .counts .now)) (c .before .before .accepted .ensures))
+    ((After-decide-send-from-After-plain-effect c) .decide-send .ensures)))
 
 pub send-in-spec : {M : Type 1} → statement M
 send-in-spec =
