@@ -67,7 +67,7 @@ use Rattle.state.specs.Spread.{spread}
 use Rattle.state.specs.View.{view, stateOf}
 use Rattle.calls.specs.declared.Effect.{Effect}
 use Rattle.calls.specs.declared.Look.{Look}
-use Rattle.calls.specs.Makes.{asked, looksAt, askedAt, IndexedIn, Known, SameIf, Makes, noted, Making, isMove, isDraw, plain, stored}
+use Rattle.calls.specs.Makes.{asked, looksAt, askedAt, firstLook, secondLook, IndexedIn, Known, SameIf, Makes, noted, Making, isMove, isDraw, plain, stored}
 use Rattle.calls.proofs.Turning.{line-edit, line-replay, line-send, line-moves, line-draws, Made, meets-made, edit-rules, move-rules, drawn-before, drawn-blank, indexed-still, edit-held, replay-held, tallied-made, settled-few, edit-counts, send-counts, move-counts, draw-counts}
 
 -- ---- a refusal leaves the state as it was
@@ -140,6 +140,14 @@ module _ {l : Line} {p : State} {index : List ℤ} {look : Look} {t : List ℕ} 
 pub bare-answer : {l : Line} {p q : State} {t t′ : List ℕ} {index index′ : List ℤ} {e : Effect} → Makes l p q t t′ index index′ e → eqb (l .op) 12 ≡ false → answerOf (e .answer) ≡ stepOf (lineIn l)
     (view p) .answer
 bare-answer {q = q} {e = e} m x = sym (alone-row (e .answer)) ∙ sym (ap (λ n. withRow (answerOf (e .answer)) (row (q .values) (e .from) n)) (m .bare x)) ∙ m .answer
+
+-- ---- where a call looks
+
+pub first-looked : (h : Head) (l : Line) {i : ℕ} → i ≡ firstLook h l → looksAt (l .op) ≡ true → i ≡ askedAt h l
+first-looked h l e y = e ∙ ap (λ b. cond b (askedAt h l) 0) y
+
+pub second-looked : (h : Head) (l : Line) (named : ℕ) (standing : EditRecord) {i : ℕ} → i ≡ secondLook h l named standing → eqb (l .op) 8 ≡ true → i ≡ earlierAt h named standing
+second-looked h l named standing e y = e ∙ ap (λ b. cond b (earlierAt h named standing) 0) y
 
 -- ---- heads and the effect in other words
 

@@ -46,9 +46,16 @@ asked l = cond (eqb (l .op) editOp) (l .c) (l .a)
 abbrev pub looksAt : ℕ → Bool
 looksAt op = eqb op editOp || (eqb op replayOp || eqb op fateOp)
 
--- the positions, from 1, of the edit that it names and of the one that this names in turn
+-- the position, from 1, of the edit that it names
 abbrev pub askedAt : Head → Line → ℕ
 askedAt h l = namedAt h (asked l)
+
+-- the positions of the edits that a call looks at: the one that it names, and the one that this names in turn; 0 where it looks at none
+abbrev pub firstLook : Head → Line → ℕ
+firstLook h l = cond (looksAt (l .op)) (askedAt h l) 0
+
+abbrev pub secondLook : Head → Line → ℕ → EditRecord → ℕ
+secondLook h l named standing = cond (eqb (l .op) replayOp) (earlierAt h named standing) 0
 
 -- ---- what the owner hands over is true
 

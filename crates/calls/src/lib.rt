@@ -8,13 +8,12 @@ ghost use lib.Dec.{eqb};
 ghost use lib.IntN.{ℤ};
 ghost use Rattle.calls.specs.declared.Look.{Look};
 ghost use Rattle.heads.specs.Numbers.{headFrom};
-ghost use Rattle.replay.specs.Replays.{earlierAt};
 ghost use Rattle.rules.specs.Table.{lowers, gaps, uppers, firms, withRule};
 ghost use Rattle.rules.specs.Index.{Indexed};
 ghost use Rattle.counts.specs.Tallies.{isAccepted, allSent, moveTally};
 ghost use Rattle.reader.specs.Reads.{lineIn};
 ghost use Rattle.query.specs.Readings.{readCall};
-ghost use Rattle.calls.specs.Makes.{looksAt, askedAt, Making, isMove, isDraw, plain, stored};
+ghost use Rattle.calls.specs.Makes.{firstLook, secondLook, Making, isMove, isDraw, plain, stored};
 ghost use Rattle.state.specs.declared.Answer.the-variants as Answer;
 use counts::Tallies;
 use edit::Ruling;
@@ -62,7 +61,7 @@ pub fn looking(named: usize, standing: EditRecord, next: usize, seen: EditRecord
 
 // The position, from 1, of the kept edit that a call names; 0 for a call that looks at none.
 pub fn first_look(l: Line, h: Head) -> usize
-    ensures { λ r. ⌜ (looksAt (l .op) ≡ true → r ≡ askedAt h l) ⌝ }
+    ensures { λ r. ⌜ r ≡ firstLook h l ⌝ }
 {
     let op = l.op;
     if op == call::EDIT {
@@ -79,7 +78,7 @@ pub fn first_look(l: Line, h: Head) -> usize
 
 // The same of the one that this names in turn; 0 for a call that does not look at it.
 pub fn second_look(l: Line, h: Head, named: usize, standing: EditRecord) -> usize
-    ensures { λ r. ⌜ (eqb (l .op) 8 ≡ true → r ≡ earlierAt h named standing) ⌝ }
+    ensures { λ r. ⌜ r ≡ secondLook h l named standing ⌝ }
 {
     if l.op == call::REPLAY {
         return replay::earlier(h, named, standing);

@@ -21,7 +21,7 @@ use Rattle.replay.specs.Replays.{earlierAt}
 use Rattle.state.specs.Spread.{spread}
 use Rattle.state.proofs.Owned.{owned-spread, owned-table}
 use Rattle.calls.specs.Makes.{noted}
-use Rattle.calls.proofs.Makings.{lent, noted-length, bare-answer}
+use Rattle.calls.proofs.Makings.{lent, first-looked, second-looked, noted-length, bare-answer}
 use Rattle.moves.proofs.Sends.{marked-begin, marked-next, marked-passed, mark-sent-other}
 use Rattle.plan.specs.Turns.{Turns}
 use Rattle.plan.proofs.turn.Statement.{statement}
@@ -325,9 +325,10 @@ returns c =
       tallied = λ y. counted ((Joined1-from-After-of c)) y;
       held = λ x. absurd (is-yes x);
       indexed = λ x. absurd (is-yes x);
-      named = λ y. ap (λ k. k .named) seen ∙ ((After-first-look-from-After-of c) .first-look .ensures) y;
+      named = λ y. ap (λ k. k .named) seen ∙ first-looked (p .head) l ((After-first-look-from-After-of c) .first-look .ensures) y;
       stood = λ y. ap (λ k. k .standing) seen ∙ ap (λ n. getD es n noRecord) (((After-slot-from-After-of c) .slot .ensures .0) ∙ sym (ap (λ k. slotAt (k .named)) seen));
-      next = λ y. ap (λ k. k .next) seen ∙ ((After-second-look-from-After-of c) .second-look .ensures) y ∙ sym (ap (λ k. earlierAt (p .head) (k .named) (k .standing)) seen);
+      next = λ y. ap (λ k. k .next) seen ∙ second-looked (p .head) l ((After-first-look-from-After-of c) .first-look .result) (getD es ((After-slot-from-After-of c) .slot .result) noRecord)
+          ((After-second-look-from-After-of c) .second-look .ensures) y ∙ sym (ap (λ k. earlierAt (p .head) (k .named) (k .standing)) seen);
       saw = λ y. ap (λ k. k .seen) seen ∙ ap (λ n. getD es n noRecord) (((After-slot2-from-After-of c) .slot2 .ensures .0) ∙ sym (ap (λ k. slotAt (k .next)) seen));
     })
     (subst (λ x. Marked (natural (l .a)) (noted e es) ((At-loop-from-After-of c) .loop .edits) x) n

@@ -44,7 +44,7 @@ use Rattle.state.specs.View.{view, stateOf}
 use Rattle.state.proofs.Owned.{owned-spread, owned-table}
 use Rattle.calls.specs.Makes.{askedAt, SoundIn, Makes, noted}
 use Rattle.calls.proofs.Turning.{sound-made, blank-holds}
-use Rattle.calls.proofs.Makings.{noted-length}
+use Rattle.calls.proofs.Makings.{first-looked, second-looked, noted-length}
 use Rattle.run.specs.Progress.{lastOf, Advanced}
 use Rattle.run.proofs.Running.{Going, Course, inside, finished, unfit, next-line, begins, lent-rest, put-back}
 use Rattle.run.proofs.Putting.{text-some, fitted-put, unfitted-put, lent-row}
@@ -501,9 +501,12 @@ made c =
       tallied = λ y. k .1 .tallied;
       held = k .0;
       indexed = (At-loop-from-After-loop2 c) .loop .inv .indexed;
-      named = λ y. ap (λ k. k .named) seen ∙ ((After-first-look-from-After-loop2 c) .first-look .ensures) y ∙ ap (λ h. askedAt h l) head;
+      named = λ y. ap (λ k. k .named) seen ∙ first-looked ((After-from-numbers-from-After-loop2 c) .from-numbers .result) l ((After-first-look-from-After-loop2 c) .first-look .ensures) y
+          ∙ ap (λ h. askedAt h l) head;
       stood = λ y. ap (λ k. k .standing) seen ∙ ap (λ n. getD es n noRecord) (((After-slot-from-After-loop2 c) .slot .ensures .0) ∙ sym (ap (λ k. slotAt (k .named)) seen));
-      next = λ y. ap (λ k. k .next) seen ∙ ((After-second-look-from-After-loop2 c) .second-look .ensures) y ∙ (λ i. earlierAt (head i) (sym seen i .named) (sym seen i .standing));
+      next = λ y. ap (λ k. k .next) seen ∙ second-looked ((After-from-numbers-from-After-loop2 c) .from-numbers .result) l ((After-first-look-from-After-loop2 c) .first-look .result)
+          (getD es ((After-slot-from-After-loop2 c) .slot .result) noRecord) ((After-second-look-from-After-loop2 c) .second-look .ensures) y
+          ∙ (λ i. earlierAt (head i) (sym seen i .named) (sym seen i .standing));
       saw = λ y. ap (λ k. k .seen) seen ∙ ap (λ n. getD es n noRecord) (((After-slot2-from-After-loop2 c) .slot2 .ensures .0) ∙ sym (ap (λ k. slotAt (k .next)) seen));
     })
     (subst (λ x. Marked (natural (l .a)) (noted e es) (c .before .loop2 .edits) x) j
