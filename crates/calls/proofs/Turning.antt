@@ -33,18 +33,18 @@ use Rattle.records.specs.Records.{keptOf, keptAt, noRecord, testOf}
 use Rattle.state.specs.Meets.{answerOf, refusal}
 use Rattle.state.specs.Spread.{MeetsSpread}
 use Rattle.state.specs.Sizes.{Sized}
-use Rattle.state.proofs.Views.{sides-length, sides-most, side-at}
+use Rattle.state.proofs.View.{sides-length, sides-most, side-at}
 use Rattle.edit.specs.declared.Ruling.{Ruling}
 use Rattle.edit.specs.declared.Ruling.the-variants.{Refused as Denied, Granted}
 use Rattle.edit.specs.Edits.{Decision, spotOf, editRuling, editDecision, editIn}
 use Rattle.rules.specs.Rules.{testedIn, firmIn}
-use Rattle.draw.proofs.Draws.{rules-length}
+use Rattle.draw.proofs.Draw.{rules-length}
 use Rattle.edit.proofs.Edits.{edit-sound}
 use Rattle.replay.specs.Replays.{replayIn}
 use Rattle.replay.proofs.Replays.{replay-sound}
 use Rattle.counts.specs.Tallies.{Tallied, settledIn, oneUnsent, allSent, moveTally}
 use Rattle.state.specs.Spread.{isAccepted}
-use Rattle.counts.proofs.Counts.{tallyAfter, tallied-after}
+use Rattle.counts.proofs.Tallies.{tallyAfter, tallied-after}
 use Rattle.draw.specs.Draw.{drawCall}
 use Rattle.moves.specs.Rare.{moveCall}
 use Rattle.query.specs.Readings.{readCall}

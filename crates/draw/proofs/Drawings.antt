@@ -13,7 +13,7 @@ use Rattle.protocol.specs.Calls.{Check, first}
 use Rattle.rules.specs.Rules.{withValue}
 use Rattle.heads.specs.declared.Head.{Head}
 use Rattle.state.specs.Meets.{refusalOf}
-use Rattle.state.proofs.Meeting.{verdict-refused, verdict-fine}
+use Rattle.state.proofs.Meets.{verdict-refused, verdict-fine}
 use Rattle.draw.specs.declared.Drawing.{Drawing}
 use Rattle.draw.specs.Draw.{refusedDrawing, drawBy}
 

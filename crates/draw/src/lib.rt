@@ -218,4 +218,4 @@ pub fn decide_draw<'a>(
     decide_open(h, table, values, old)
 }
 
-// The laws of the calls that draw stand in proofs/Draws.antt.
+// The laws of the calls that draw stand in proofs/Draw.antt.

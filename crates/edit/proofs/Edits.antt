@@ -21,8 +21,8 @@ use Rattle.rows.specs.Rows.{span, row}
 use Rattle.rows.proofs.Spans.{length-span}
 use Rattle.rules.specs.Rules.{RuleTest, testedIn, firmIn}
 use Rattle.rules.specs.Index.{IndexedIf, FirmTest, testedBy, firmBy}
-use Rattle.rules.proofs.Rows.{tested-all, tested-sound, firm-is, made-with, row-set, row-apart}
-use Rattle.rules.proofs.Indexes.{tested-indexed, firm-indexed}
+use Rattle.rules.proofs.Rules.{tested-all, tested-sound, firm-is, made-with, row-set, row-apart}
+use Rattle.rules.proofs.Index.{tested-indexed, firm-indexed}
 use Rattle.records.specs.declared.EditRecord.{EditRecord}
 use Rattle.records.specs.declared.Fate.the-variants.{Unsent}
 use Rattle.heads.specs.declared.Head.{Head}
@@ -34,8 +34,8 @@ use Rattle.state.specs.Spread.{namedIn}
 use Rattle.state.specs.Meets.{answerOf}
 use Rattle.state.specs.Spread.{SameIfRefused, MeetsSpread}
 use Rattle.state.specs.Sizes.{Sized}
-use Rattle.state.proofs.Views.{plan-same, sides-most, sides-length, side-at, sides-modify, lookup-named}
-use Rattle.records.proofs.Logs.{log-snoc}
+use Rattle.state.proofs.View.{plan-same, sides-most, sides-length, side-at, sides-modify, lookup-named}
+use Rattle.records.proofs.Records.{log-snoc}
 use Rattle.reader.specs.declared.Line.{Line}
 use Rattle.edit.specs.Edits.{editChecks, ruled, changeOf, changeIn, editRuling, rulingFrom, Decision, editHead, editDecision, spotOf, slotOf, editFrom, editBy, editIn, stored}
 use Rattle.edit.proofs.Rulings.{made-change}

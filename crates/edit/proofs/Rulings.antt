@@ -16,7 +16,7 @@ use Rattle.change.specs.declared.Made.the-variants.{Made as MadeOf, Refused as 
 use Rattle.change.specs.Change.{viewChange, madeOf}
 use Rattle.change.proofs.Changes.{Fitting, made-fits}
 use Rattle.rows.specs.Rows.{row}
-use Rattle.rules.proofs.Rows.{value-row}
+use Rattle.rules.proofs.Rules.{value-row}
 use Rattle.heads.specs.Heads.{offsetOf}
 use Rattle.edit.specs.Edits.{changeOf, changeIn, spotOf}
 

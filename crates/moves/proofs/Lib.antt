@@ -1,3 +1,3 @@
-pub mod Partings
+pub mod Parting
 pub mod Moves
 pub mod Sends

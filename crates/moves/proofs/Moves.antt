@@ -24,8 +24,8 @@ use Rattle.records.specs.Records.{keptOf}
 use Rattle.state.specs.Spread.{planOf, sideOf}
 use Rattle.state.specs.Meets.{refusalOf, done, number}
 use Rattle.state.specs.Spread.{MeetsSpread}
-use Rattle.state.proofs.Views.{plan-same, sides-most, sides-length, side-at, sides-modify, flags-unset}
-use Rattle.state.proofs.Meeting.{verdict-fine}
+use Rattle.state.proofs.View.{plan-same, sides-most, sides-length, side-at, sides-modify, flags-unset}
+use Rattle.state.proofs.Meets.{verdict-fine}
 use Rattle.state.proofs.Steps.{Checked, refuses, accepts, stored, flag-set, flag-other}
 use Rattle.moves.specs.declared.Sending.{Sending}
 use Rattle.moves.specs.Moves.{sendChecks, sendBy, sendDecision, Marked, turnChecks, stopChecks, confirmChecks, installChecks, installHead}

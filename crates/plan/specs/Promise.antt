@@ -25,6 +25,6 @@ pub data Reached : State → History → Type 0 where
   showed : {p : State} {h : History} → Reached p h → (s : ℤ) (buffer : List ℤ) (refusal : ℕ) (part : List ℤ) → refusal ≡ shown s (view p) buffer .refusal → part ≡ shown s (view p) buffer .front
       → Reached p (recorded (show s (length buffer)) (shownAnswer refusal part) h)
 
--- the theorem (proofs/Promised: `promised`)
+-- the theorem (proofs/Promise: `promised`)
 abbrev pub Promised : Type 0
 Promised = (p : State) (h : History) → Reached p h → Guarantee (view p) h

@@ -1,7 +1,7 @@
 // The plan as others use it: a blank plan and the fourteen calls of document 01, by value, with no precondition. Each promises `Meets call p r`
 // (state/specs/Meets): its answer and the plan after it are those of the protocol's `step`, and a refusal hands the state back as it was. show_in
 // promises `shown` of the whole buffer that it is lent, refused too; show is show_in with the filled part handed back. What every list of them
-// guarantees is proofs/Promised.
+// guarantees is proofs/Promise.
 ghost use mathlib.Core.Path.{_≡_};
 ghost use Rattle.protocol.specs.Calls.{measure, rule, open-plan, split-side, edit, join, send, replay, stop, confirm, install, fate-of, left};
 ghost use mathlib.Core.Bool.{false};

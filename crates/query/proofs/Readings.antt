@@ -24,9 +24,9 @@ use Rattle.heads.specs.Heads.{sidesIn, indexOf, offsetOf, measuresIn, endIn, ke
 use Rattle.records.specs.Records.{fateOf, keptAt, logOf, keptOf, noRecord}
 use Rattle.state.specs.Spread.{planOf}
 use Rattle.heads.proofs.Flags.{index-suc}
-use Rattle.state.proofs.Views.{sides-most, sides-length, side-at, row-length}
-use Rattle.state.proofs.Meeting.{fine-pass}
-use Rattle.records.proofs.Logs.{Placed, placed}
+use Rattle.state.proofs.View.{sides-most, sides-length, side-at, row-length}
+use Rattle.state.proofs.Meets.{fine-pass}
+use Rattle.records.proofs.Records.{Placed, placed}
 use Rattle.state.specs.declared.Answer.{Answer}
 use Rattle.state.specs.Meets.{answerOf}
 use Rattle.state.specs.Spread.{SameIfRefused}

@@ -21,8 +21,8 @@ use Rattle.state.specs.Spread.{planOf}
 use Rattle.records.specs.Records.{keptAt, keptOf, noRecord}
 use Rattle.heads.specs.Heads.{modeOf, sidesIn, endIn, keptIn, namedAt, namedSlot, unsetIn}
 use Rattle.state.specs.Meets.{answerOf, firstOf}
-use Rattle.state.proofs.Views.{flags-unset}
-use Rattle.state.proofs.Meeting.{fine-pass}
+use Rattle.state.proofs.View.{flags-unset}
+use Rattle.state.proofs.Meets.{fine-pass}
 use Rattle.query.specs.Reads.{fateAnswer, showChecks, leftNumber}
 use Rattle.query.proofs.Readings.{fate-is, left-by, show-checks, shown-row}
 use Rattle.counts.specs.Tallies.{settledIn, leftIn, missingIn, Counted, Tallied}

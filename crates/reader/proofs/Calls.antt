@@ -20,7 +20,7 @@ use Rattle.format.proofs.Digits.{and-true}
 use Rattle.reader.specs.declared.Number.the-variants.{Value, Unreadable}
 use Rattle.reader.specs.declared.Line.{Line}
 use Rattle.reader.specs.Reads.{wordAt, numberAt, next, place, opOf, shapeNth, shapeAt, arity, arityOf, takenBy, lineFrom, lineFor, lineIn, Taken}
-use Rattle.reader.proofs.Cuts.{upTo-length, more, words-cut}
+use Rattle.reader.proofs.Cut.{upTo-length, more, words-cut}
 
 -- ---- a call's place in the table
 

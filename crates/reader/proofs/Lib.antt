@@ -1,4 +1,4 @@
-pub mod Cuts
+pub mod Cut
 pub mod Scans
 pub mod Names
 pub mod Calls

@@ -16,7 +16,7 @@ use Rattle.format.specs.Lines.{Form, forms, space, lineFeed, sameBytes}
 use Rattle.format.proofs.Digits.{and-true}
 use Rattle.reader.specs.Cut.{firstLine}
 use Rattle.reader.specs.Reads.{wordAt, isEnd, place, opOf, packedBehind, placeOfCode}
-use Rattle.reader.proofs.Cuts.{upTo-length}
+use Rattle.reader.proofs.Cut.{upTo-length}
 
 abbrev pub Bytes : List ℕ → Type 0
 Bytes bs = (k : ℕ) → getD bs k 0 < 256

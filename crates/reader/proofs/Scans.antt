@@ -26,7 +26,7 @@ use Rattle.reader.specs.declared.Magnitude.{Magnitude}
 use Rattle.reader.specs.declared.Magnitude.the-variants.{Of, Nothing}
 use Rattle.reader.specs.Cut.{firstLine}
 use Rattle.reader.specs.Reads.{wordAt, numberAt, magnitudeAt, followed, isEnd, ending}
-use Rattle.reader.proofs.Cuts.{upTo-over, upTo-stop, upTo-next, line-over, line-here, word-ends, word-goes}
+use Rattle.reader.proofs.Cut.{upTo-over, upTo-stop, upTo-next, line-over, line-here, word-ends, word-goes}
 
 -- ---- the word at a place
 

@@ -20,8 +20,8 @@ use Rattle.rows.specs.Rows.{row}
 use Rattle.rows.proofs.Spans.{length-span}
 use Rattle.rules.specs.Rules.{RuleTest, testedIn}
 use Rattle.rules.specs.Index.{IndexedIf, testedBy}
-use Rattle.rules.proofs.Rows.{made-with, modify-out, tested-all, tested-sound, row-set}
-use Rattle.rules.proofs.Indexes.{tested-indexed}
+use Rattle.rules.proofs.Rules.{made-with, modify-out, tested-all, tested-sound, row-set}
+use Rattle.rules.proofs.Index.{tested-indexed}
 use Rattle.records.specs.declared.EditRecord.{EditRecord}
 use Rattle.heads.specs.declared.Head.{Head}
 use Rattle.state.specs.Spread.{Spread}
@@ -32,8 +32,8 @@ use Rattle.state.specs.Spread.{namedIn}
 use Rattle.state.specs.Meets.{answerOf}
 use Rattle.state.specs.Spread.{SameIfRefused, MeetsSpread}
 use Rattle.state.specs.Sizes.{Sized}
-use Rattle.state.proofs.Views.{plan-same, flags-unset, lookup-named}
-use Rattle.records.proofs.Logs.{Placed, placed, log-modify}
+use Rattle.state.proofs.View.{plan-same, flags-unset, lookup-named}
+use Rattle.records.proofs.Records.{Placed, placed, log-modify}
 use Rattle.replay.specs.declared.Outcome.the-variants.{Settled}
 use Rattle.replay.specs.Replays.{Decision, replayChecks, draftIn, effectiveIn, draftOutcome, settledBy, replayOutcome, settledRecord, replayDecision, pointOf, earlierAt, standingIn, replayFrom, replayBy, replayIn, stored}
 

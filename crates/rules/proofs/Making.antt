@@ -16,7 +16,7 @@ use Rattle.rows.specs.Rows.{span}
 use Rattle.rows.proofs.Spans.{Counted, count-begin, count-next, count-over, span-same, span-snoc, getD-set, getD-other}
 use Rattle.rules.specs.Rules.{namesPair, namesAt, dueAt, firmAt, firmIn}
 use Rattle.rules.specs.Index.{passing, Naming, namingOf, namingsOf, namingAt, withNaming, firstAt, lastAt, namingsIn, flagIn, Indexed, NoneAbove, Added, otherOf}
-use Rattle.rules.proofs.Indexes.{passing-same, passing-yes, passing-no, none-passing, map-snoc}
+use Rattle.rules.proofs.Index.{passing-same, passing-yes, passing-no, none-passing, map-snoc}
 
 -- ---- a naming written anew
 

@@ -13,7 +13,7 @@ use lib.Seq.{drop-drop, take-all, take-at, drop-at}
 use Rattle.format.specs.Lines.{lineFeed, lines}
 use Rattle.format.specs.Sheets.{text, lineStep, inFront}
 use Rattle.reader.specs.Cut.{upTo}
-use Rattle.reader.proofs.Cuts.{lines-over, lines-at}
+use Rattle.reader.proofs.Cut.{lines-over, lines-at}
 use Rattle.protocol.specs.Plan.{Plan}
 use Rattle.state.specs.declared.State.{State}
 use Rattle.state.specs.Spread.{spread}

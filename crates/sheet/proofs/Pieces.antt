@@ -26,7 +26,7 @@ use Rattle.heads.specs.Heads.{sidesIn, keptIn, measuresIn}
 use Rattle.state.specs.declared.State.{State}
 use Rattle.state.specs.Spread.{spread, sideOf}
 use Rattle.state.specs.View.{view}
-use Rattle.state.proofs.Views.{sides-most}
+use Rattle.state.proofs.View.{sides-most}
 use Rattle.state.proofs.Owned.{Ranged}
 use Rattle.run.specs.Progress.{Ran, ran, Advanced}
 use Rattle.sheet.specs.Runs.{handedBack}

@@ -17,7 +17,7 @@ use Rattle.format.specs.Numbers.{digits}
 use Rattle.format.specs.Sheets.{text, lineStep, answerLines, replies, Fitted, behind, fitted, inFront, screened, screen}
 use Rattle.state.specs.View.{view, blankState}
 use Rattle.run.specs.Progress.{Ran, ran, Advanced}
-use Rattle.writer.proofs.Puts.{sets-front}
+use Rattle.writer.proofs.Writes.{sets-front}
 use Rattle.sheet.specs.Runs.{handedBack}
 
 abbrev wholeOf : Ran → Fitted

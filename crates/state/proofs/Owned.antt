@@ -17,7 +17,7 @@ use lib.ListN.{length, getD}
 use lib.Signed.{mag}
 use mir.Syntax.{w32}
 use mir.Val.{Val}
-use Rattle.rules.proofs.Tables.{lowers-length, gaps-length, uppers-length, firms-length}
+use Rattle.rules.proofs.Table.{lowers-length, gaps-length, uppers-length, firms-length}
 use Rattle.records.proofs.EditRecord.{the-type as record-type}
 use Rattle.records.specs.declared.EditRecord.{EditRecord}
 use Rattle.records.specs.Records.{noRecord}
@@ -26,7 +26,7 @@ use Rattle.state.specs.Spread.{spread}
 use Rattle.state.specs.Sizes.{Sized}
 use Rattle.state.proofs.State.{the-type}
 use Rattle.state.proofs.State.Laws.{the-laws}
-use Rattle.state.proofs.Views.{unmapped}
+use Rattle.state.proofs.View.{unmapped}
 
 -- ---- lengths
 

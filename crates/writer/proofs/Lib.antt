@@ -1,3 +1,3 @@
-pub mod Puts
+pub mod Writes
 pub mod Widths
 pub mod Parts

@@ -7,7 +7,7 @@ use Rattle.rules.specs.Table.{lowers, gaps, uppers, withRule}
 use Rattle.heads.specs.Numbers.{headFrom}
 use Rattle.heads.proofs.Heads.{head-numbers}
 use Rattle.draw.specs.Draw.{drawDecision}
-use Rattle.calls.proofs.Makings.{lent, draw-making}
+use Rattle.calls.proofs.Makes.{lent, draw-making}
 use borrow.Author.Needs.{needs}
 use Rattle.calls.proofs.draw_in.Statement.{statement}
 use Rattle.calls.proofs.draw_in.Tie as tie

@@ -11,7 +11,7 @@ use Rattle.state.specs.declared.Answer.the-variants as Answer
 use Rattle.edit.specs.Edits.{spotOf}
 use Rattle.counts.specs.Tallies.{oneUnsent}
 use Rattle.calls.specs.Makes.{stored}
-use Rattle.calls.proofs.Makings.{lent, edit-making, edit-refused, edit-made, edit-kept}
+use Rattle.calls.proofs.Makes.{lent, edit-making, edit-refused, edit-made, edit-kept}
 use borrow.Author.Needs.{needs}
 use Rattle.calls.proofs.edit_in.Statement.{statement}
 use Rattle.calls.proofs.edit_in.Tie as tie

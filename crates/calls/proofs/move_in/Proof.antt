@@ -10,7 +10,7 @@ use Rattle.heads.proofs.Heads.{head-numbers}
 use Rattle.moves.specs.Frames.{frameFrom, movedTo, Moves}
 use Rattle.moves.specs.Rare.{moveCall, Counts}
 use Rattle.counts.specs.Tallies.{waitingIn, moveTally}
-use Rattle.calls.proofs.Makings.{lent, move-making}
+use Rattle.calls.proofs.Makes.{lent, move-making}
 use borrow.Author.Needs.{needs}
 use Rattle.calls.proofs.move_in.Statement.{statement}
 use Rattle.calls.proofs.move_in.Tie as tie

@@ -3,7 +3,7 @@ use mir.Facts.{toZ-ofZ}
 use Rattle.exact.proofs.Ints.{fits32}
 use Rattle.query.specs.Readings.{readingOf}
 use Rattle.counts.specs.Tallies.{leftIn}
-use Rattle.calls.proofs.Makings.{lent, read-making}
+use Rattle.calls.proofs.Makes.{lent, read-making}
 use borrow.Author.Needs.{needs}
 use Rattle.calls.proofs.read_in.Statement.{statement}
 use Rattle.calls.proofs.read_in.Tie as tie

@@ -6,7 +6,7 @@ use Rattle.exact.proofs.Ints.{fits32}
 use Rattle.state.specs.declared.Answer.the-variants as Answer
 use Rattle.replay.specs.Replays.{settledRecord}
 use Rattle.calls.specs.Makes.{stored}
-use Rattle.calls.proofs.Makings.{lent, replay-making, replay-refused, replay-settled}
+use Rattle.calls.proofs.Makes.{lent, replay-making, replay-refused, replay-settled}
 use borrow.Author.Needs.{needs}
 use Rattle.calls.proofs.replay_in.Statement.{statement}
 use Rattle.calls.proofs.replay_in.Tie as tie

@@ -5,7 +5,7 @@ use Rattle.protocol.specs.Lists.{natural}
 use Rattle.counts.specs.Tallies.{allSent}
 use mathlib.Core.Bool.{cond, false}
 use lib.ListN.{getD}
-use Rattle.calls.proofs.Makings.{lent, send-making}
+use Rattle.calls.proofs.Makes.{lent, send-making}
 use borrow.Author.Needs.{needs}
 use Rattle.calls.proofs.send_in.Statement.{statement}
 use Rattle.calls.proofs.send_in.Tie as tie

@@ -2,7 +2,7 @@ use mathlib.Core.Path.{_≡_, sym, ap, _∙_}
 use mathlib.Core.Bool.{true}
 use Rattle.protocol.specs.Calls.{first}
 use Rattle.state.specs.Meets.{number}
-use Rattle.state.proofs.Meeting.{verdict-refused, verdict-fine}
+use Rattle.state.proofs.Meets.{verdict-refused, verdict-fine}
 use Rattle.moves.specs.declared.Sending.{Sending}
 use Rattle.moves.specs.Moves.{sendChecks, sendBy}
 use borrow.Author.Needs.{needs}

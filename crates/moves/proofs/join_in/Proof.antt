@@ -1,6 +1,6 @@
 use mathlib.Core.Path.{sym, _∙_}
 use Rattle.moves.specs.Frames.{frameFrom, around}
-use Rattle.moves.proofs.Partings.{join-refuses, join-accepts}
+use Rattle.moves.proofs.Parting.{join-refuses, join-accepts}
 use borrow.Author.Needs.{needs}
 use Rattle.moves.proofs.join_in.Statement.{statement}
 use Rattle.moves.proofs.join_in.Tie as tie

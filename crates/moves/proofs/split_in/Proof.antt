@@ -5,7 +5,7 @@ use Prim.Native.Nat.{suc}
 use Rattle.protocol.specs.Lists.{natural}
 use Rattle.moves.specs.Frames.{frameFrom, around}
 use Rattle.state.proofs.Steps.{refuses}
-use Rattle.moves.proofs.Partings.{split-checked, split-accepts}
+use Rattle.moves.proofs.Parting.{split-checked, split-accepts}
 use borrow.Author.Needs.{needs}
 use Rattle.moves.proofs.split_in.Statement.{statement}
 use Rattle.moves.proofs.split_in.Tie as tie

@@ -6,7 +6,7 @@ use Rattle.protocol.specs.Lists.{oneTo}
 use Rattle.protocol.specs.Plan.{whole, split, modeNumber, is}
 use Rattle.heads.specs.Heads.{modeOf, sidesIn}
 use Rattle.state.proofs.Steps.{side-tested}
-use Rattle.moves.proofs.Partings.{one-or-two, not-one-or-two}
+use Rattle.moves.proofs.Parting.{one-or-two, not-one-or-two}
 use borrow.Author.Needs.{needs}
 use Rattle.moves.proofs.split_refusal.Statement.{statement}
 use Rattle.moves.proofs.split_refusal.Tie as tie

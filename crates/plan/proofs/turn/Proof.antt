@@ -21,7 +21,7 @@ use Rattle.replay.specs.Replays.{earlierAt}
 use Rattle.state.specs.Spread.{spread}
 use Rattle.state.proofs.Owned.{owned-spread, owned-table}
 use Rattle.calls.specs.Makes.{noted}
-use Rattle.calls.proofs.Makings.{lent, first-looked, second-looked, noted-length, bare-answer}
+use Rattle.calls.proofs.Makes.{lent, first-looked, second-looked, noted-length, bare-answer}
 use Rattle.moves.proofs.Sends.{marked-begin, marked-next, marked-passed, mark-sent-other}
 use Rattle.plan.specs.Turns.{Turns}
 use Rattle.plan.proofs.turn.Statement.{statement}

@@ -12,8 +12,8 @@ use Rattle.rows.specs.Rows.{row}
 use Rattle.heads.specs.Heads.{measuresIn, offsetOf}
 use Rattle.state.specs.Meets.{refusalOf}
 use Rattle.state.specs.Spread.{spread}
-use Rattle.state.proofs.Views.{row-length}
-use Rattle.state.proofs.Meeting.{verdict-refused, verdict-fine, fine-pass}
+use Rattle.state.proofs.View.{row-length}
+use Rattle.state.proofs.Meets.{verdict-refused, verdict-fine, fine-pass}
 use Rattle.query.specs.Reads.{showChecks}
 use Rattle.query.proofs.Readings.{shown-refused, shown-fine}
 use borrow.Author.Needs.{needs}

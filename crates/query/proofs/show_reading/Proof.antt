@@ -2,7 +2,7 @@ use mathlib.Core.Path.{ap, sym, _∙_}
 use Rattle.protocol.specs.Calls.{first}
 use Rattle.query.specs.Reads.{showChecks}
 use Rattle.state.specs.Meets.{done}
-use Rattle.state.proofs.Meeting.{verdict-refused, verdict-fine}
+use Rattle.state.proofs.Meets.{verdict-refused, verdict-fine}
 use Rattle.query.specs.Readings.{showBy}
 use borrow.Author.Needs.{needs}
 use Rattle.query.proofs.show_reading.Statement.{statement}

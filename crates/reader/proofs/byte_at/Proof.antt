@@ -2,7 +2,7 @@ use native.Mathlib.Omega.{arith}
 use mathlib.Core.Path.{sym}
 use lib.ListN.{List·getD-eq-default}
 use Rattle.format.specs.Lines.{lineFeed}
-use Rattle.reader.proofs.Cuts.{getD-within}
+use Rattle.reader.proofs.Cut.{getD-within}
 use borrow.Author.Needs.{needs}
 use Rattle.reader.proofs.byte_at.Statement.{statement}
 use Rattle.reader.proofs.byte_at.Tie as tie

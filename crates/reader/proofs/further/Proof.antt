@@ -4,7 +4,7 @@ use native.Mathlib.Omega.{arith}
 use Prim.Native.Nat.{_-_, _+_, _*_}
 use Rattle.reader.specs.Cut.{firstLine}
 use Rattle.reader.specs.Reads.{ending}
-use Rattle.reader.proofs.Cuts.{upTo-length}
+use Rattle.reader.proofs.Cut.{upTo-length}
 use Rattle.reader.proofs.Scans.{Reading, reading-begin, reading-small, stop-low, stop-long, stop-high, goes-on}
 use Rattle.format.specs.Lines.{lineFeed}
 use Rattle.reader.proofs.further.Statement.{statement}

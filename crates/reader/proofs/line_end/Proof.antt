@@ -4,7 +4,7 @@ use mathlib.Core.Path.{_≡_, refl, ap}
 use lib.ListN.{length, drop}
 use Rattle.format.specs.Lines.{lineFeed}
 use Rattle.reader.specs.Cut.{upTo}
-use Rattle.reader.proofs.Cuts.{upTo-over, upTo-stop, upTo-next}
+use Rattle.reader.proofs.Cut.{upTo-over, upTo-stop, upTo-next}
 use Rattle.reader.proofs.line_end.Statement.{statement}
 use Rattle.reader.proofs.line_end.Tie as tie
 use Rattle.reader.proofs.line_end.Reads as reads

@@ -15,7 +15,7 @@ use mathlib.Core.Path.{_≡_, refl, sym, _∙_}
 use Rattle.format.specs.Lines.{space, lineFeed}
 use Rattle.reader.specs.Cut.{firstLine}
 use Rattle.reader.specs.Reads.{wordAt, takenBy}
-use Rattle.reader.proofs.Cuts.{upTo-length, line-over, line-here}
+use Rattle.reader.proofs.Cut.{upTo-length, line-over, line-here}
 use Rattle.reader.proofs.Calls.{Padded, unread, op-most, found-further, found-within, Listing, listing-begin, listing-unread, listing-next, listing-many, listing-few, listing-all, unnamed, taken-most}
 use Rattle.reader.proofs.read_call.Statement.{statement}
 use Rattle.reader.proofs.read_call.Tie as tie

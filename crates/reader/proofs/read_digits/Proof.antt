@@ -4,7 +4,7 @@ use mathlib.Core.Path.{ap, _∙_}
 use Rattle.format.specs.Lines.{lineFeed}
 use Rattle.reader.specs.Cut.{firstLine}
 use Rattle.reader.specs.Reads.{followed, wordAt}
-use Rattle.reader.proofs.Cuts.{upTo-length}
+use Rattle.reader.proofs.Cut.{upTo-length}
 use Rattle.reader.proofs.Scans.{no-digits, first-digit}
 use borrow.Author.Needs.{needs}
 use Rattle.reader.proofs.read_digits.Statement.{statement}

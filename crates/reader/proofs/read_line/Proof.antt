@@ -3,7 +3,7 @@ use mathlib.Core.Option.{none}
 use Rattle.format.specs.Lines.{lineCall}
 use Rattle.reader.specs.Cut.{firstLine}
 use Rattle.reader.specs.Reads.{lineFor, lineIn}
-use Rattle.reader.proofs.Cuts.{line-rest}
+use Rattle.reader.proofs.Cut.{line-rest}
 use Rattle.reader.proofs.Calls.{no-call}
 use borrow.Author.Needs.{needs}
 use Rattle.reader.proofs.read_line.Statement.{statement}

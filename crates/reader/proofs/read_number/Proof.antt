@@ -9,7 +9,7 @@ use Rattle.format.specs.Numbers.{isDigit}
 use Rattle.format.proofs.Digits.{digit-range}
 use Rattle.reader.specs.declared.Number.the-variants.{Value}
 use Rattle.reader.specs.Reads.{isEnd}
-use Rattle.reader.proofs.Cuts.{upTo-length}
+use Rattle.reader.proofs.Cut.{upTo-length}
 use Rattle.reader.proofs.Scans.{small-signed, digit-alone}
 use borrow.Author.Needs.{needs}
 use Rattle.reader.proofs.read_number.Statement.{statement}

@@ -7,7 +7,7 @@ use Rattle.format.specs.Lines.{lineFeed}
 use Rattle.reader.specs.declared.Number.the-variants.{Value}
 use Rattle.reader.specs.Cut.{firstLine}
 use Rattle.reader.specs.Reads.{magnitudeAt}
-use Rattle.reader.proofs.Cuts.{upTo-length}
+use Rattle.reader.proofs.Cut.{upTo-length}
 use Rattle.reader.proofs.Scans.{small-signed, below-nought, neg-fits, negated, magnitude-small, signed-room, signed-not, signed-minus, signed-plain}
 use borrow.Author.Needs.{needs}
 use Rattle.reader.proofs.read_signed.Statement.{statement}

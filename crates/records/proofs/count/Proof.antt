@@ -1,5 +1,5 @@
 use Rattle.rows.specs.Rows.{span}
-use Rattle.records.proofs.Logs.{any-number}
+use Rattle.records.proofs.Records.{any-number}
 use Rattle.rows.proofs.Spans.{bit-one}
 use Rattle.rows.proofs.Spans.{count-span}
 use borrow.Author.Needs.{needs}

@@ -1,6 +1,6 @@
 use borrow.Author.Tests.{eq-eqb, ne-eqb, lt-ltb, le-ltb}
 use Rattle.records.specs.Records.{fateOf}
-use Rattle.records.proofs.Logs.{open-low}
+use Rattle.records.proofs.Records.{open-low}
 use borrow.Author.Needs.{needs}
 use Rattle.records.proofs.satisfies.Statement.{statement}
 use Rattle.records.proofs.satisfies.Tie as tie

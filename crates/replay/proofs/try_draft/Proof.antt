@@ -20,7 +20,7 @@ use Rattle.change.proofs.Changes.{ranged-in, ranged-out}
 use Rattle.rows.specs.Rows.{row}
 use Rattle.rules.specs.Index.{testedBy}
 use Rattle.rules.specs.Table.{lowers, gaps, uppers}
-use Rattle.rules.proofs.Rows.{value-none, value-row, value-outside}
+use Rattle.rules.proofs.Rules.{value-none, value-row, value-outside}
 use Rattle.replay.specs.declared.Outcome.the-variants.{Settled}
 use Rattle.replay.specs.Replays.{draftIn, effectiveIn, draftOutcome, pointOf}
 use borrow.Author.Needs.{needs}

@@ -6,7 +6,7 @@ use lib.Dec.{eqb}
 use mir.Facts.{toZ-ofZ}
 use Rattle.exact.proofs.Ints.{fits32}
 use Rattle.protocol.specs.Lists.{natural}
-use Rattle.rules.proofs.Tables.{at-firm}
+use Rattle.rules.proofs.Table.{at-firm}
 use borrow.Author.Needs.{needs}
 use Rattle.rules.proofs.firm_of.Statement.{statement}
 use Rattle.rules.proofs.firm_of.Tie as tie

@@ -1,7 +1,7 @@
 use mathlib.Core.Path.{sym, _∙_}
 use mir.Facts.{toZ-ofZ}
 use Rattle.exact.proofs.Ints.{fits32}
-use Rattle.rules.proofs.Tables.{at-gap}
+use Rattle.rules.proofs.Table.{at-gap}
 use borrow.Author.Needs.{needs}
 use Rattle.rules.proofs.gap_of.Statement.{statement}
 use Rattle.rules.proofs.gap_of.Tie as tie

@@ -5,7 +5,7 @@ use mathlib.Core.Path.{sym, ap, _∙_}
 use mir.Facts.{toZ-ofZ}
 use Rattle.exact.proofs.Ints.{fits32}
 use Rattle.protocol.specs.Lists.{natural}
-use Rattle.rules.proofs.Tables.{at-lower}
+use Rattle.rules.proofs.Table.{at-lower}
 use borrow.Author.Needs.{needs}
 use Rattle.rules.proofs.lower_of.Statement.{statement}
 use Rattle.rules.proofs.lower_of.Tie as tie

@@ -13,7 +13,7 @@ use Rattle.protocol.specs.Lists.{natural}
 use Rattle.protocol.specs.Plan.{value}
 use Rattle.rows.specs.Rows.{row}
 use Rattle.rules.specs.Index.{beyond, otherAt, sideHolds}
-use Rattle.rules.proofs.Indexes.{near-is, far-side}
+use Rattle.rules.proofs.Index.{near-is, far-side}
 use Rattle.rules.proofs.Signs.{behind-none}
 use borrow.Author.Needs.{needs}
 use Rattle.rules.proofs.naming_holds.Statement.{statement}

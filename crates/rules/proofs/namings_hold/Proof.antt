@@ -15,8 +15,8 @@ use Rattle.protocol.specs.Plan.{value}
 use Rattle.rows.specs.Rows.{span, row}
 use Rattle.rules.specs.Rules.{withValue}
 use Rattle.rules.specs.Index.{namingHolds, namingAt, sideHolds, indexedIn}
-use Rattle.rules.proofs.Indexes.{reading-begin, reading-next, reading-stop, reading-over, side-same}
-use Rattle.rules.proofs.Rows.{value-room}
+use Rattle.rules.proofs.Index.{reading-begin, reading-next, reading-stop, reading-over, side-same}
+use Rattle.rules.proofs.Rules.{value-room}
 use Rattle.rules.proofs.namings_hold.Statement.{statement}
 use Rattle.rules.proofs.namings_hold.Tie as tie
 use Rattle.rules.proofs.namings_hold.Reads as reads

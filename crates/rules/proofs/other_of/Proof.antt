@@ -4,7 +4,7 @@ use mir.Facts.{toZ-ofZ}
 use Rattle.exact.proofs.Ints.{fits32}
 use Rattle.protocol.specs.Lists.{natural}
 use Rattle.rules.specs.Index.{placeOf}
-use Rattle.rules.proofs.Indexes.{other-upper, other-lower}
+use Rattle.rules.proofs.Index.{other-upper, other-lower}
 use borrow.Author.Needs.{needs}
 use Rattle.rules.proofs.other_of.Statement.{statement}
 use Rattle.rules.proofs.other_of.Tie as tie

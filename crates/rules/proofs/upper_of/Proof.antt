@@ -5,7 +5,7 @@ use mathlib.Core.Path.{sym, ap, _∙_}
 use mir.Facts.{toZ-ofZ}
 use Rattle.exact.proofs.Ints.{fits32}
 use Rattle.protocol.specs.Lists.{natural}
-use Rattle.rules.proofs.Tables.{at-upper}
+use Rattle.rules.proofs.Table.{at-upper}
 use borrow.Author.Needs.{needs}
 use Rattle.rules.proofs.upper_of.Statement.{statement}
 use Rattle.rules.proofs.upper_of.Tie as tie

@@ -36,7 +36,7 @@ use Rattle.moves.specs.Moves.{Marked}
 use Rattle.moves.proofs.Sends.{marked-begin, marked-next, marked-passed, mark-sent-other}
 use Rattle.reader.specs.Cut.{upTo}
 use Rattle.reader.specs.Reads.{lineIn}
-use Rattle.reader.proofs.Cuts.{line-within}
+use Rattle.reader.proofs.Cut.{line-within}
 use Rattle.reader.proofs.Calls.{line-length}
 use Rattle.state.specs.declared.State.{State}
 use Rattle.state.specs.Spread.{spread}
@@ -44,7 +44,7 @@ use Rattle.state.specs.View.{view, stateOf}
 use Rattle.state.proofs.Owned.{owned-spread, owned-table}
 use Rattle.calls.specs.Makes.{askedAt, SoundIn, Makes, noted}
 use Rattle.calls.proofs.Turning.{sound-made, blank-holds}
-use Rattle.calls.proofs.Makings.{first-looked, second-looked, noted-length}
+use Rattle.calls.proofs.Makes.{first-looked, second-looked, noted-length}
 use Rattle.run.specs.Progress.{lastOf, Advanced}
 use Rattle.run.proofs.Running.{Going, Course, inside, finished, unfit, next-line, begins, lent-rest, put-back}
 use Rattle.run.proofs.Putting.{text-some, fitted-put, unfitted-put, lent-row}

@@ -1,7 +1,7 @@
 use borrow.Author.Needs.{needs}
 use mathlib.Core.Path.{ap}
 use Rattle.reader.proofs.Calls.{line-length}
-use Rattle.reader.proofs.Cuts.{upTo-length}
+use Rattle.reader.proofs.Cut.{upTo-length}
 use Rattle.trials.proofs.read.Statement.{statement}
 use Rattle.trials.proofs.read.Tie as tie
 

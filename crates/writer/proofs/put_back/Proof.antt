@@ -1,6 +1,6 @@
 use Prim.Native.Nat.{_-_, _<_, _≤_}
 use native.Mathlib.Omega.{arith}
-use Rattle.writer.proofs.Puts.{Writing, writing-begin, writing-above, writing-last, writing-above-two, writing-next-two, writing-last-two}
+use Rattle.writer.proofs.Writes.{Writing, writing-begin, writing-above, writing-last, writing-above-two, writing-next-two, writing-last-two}
 use Rattle.format.specs.Numbers.{digits}
 use lib.ListN.{length, length-set}
 use Rattle.writer.proofs.put_back.Statement.{statement}

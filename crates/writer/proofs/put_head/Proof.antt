@@ -3,7 +3,7 @@ use mathlib.Core.Path.{_≡_}
 use lib.Seq.{sets}
 use lib.ListN.{set, length-set}
 use Rattle.writer.specs.Writes.{numbersOf, headOf}
-use Rattle.writer.proofs.Puts.{put-length}
+use Rattle.writer.proofs.Writes.{put-length}
 use Rattle.writer.proofs.Parts.{put-up-to}
 use borrow.Author.Needs.{needs}
 use Rattle.writer.proofs.put_head.Statement.{statement}

@@ -2,7 +2,7 @@ use native.Mathlib.Omega.{arith}
 use mathlib.Core.List.{_++_}
 use lib.ListN.{length-append}
 use Rattle.writer.specs.Writes.{toldOf}
-use Rattle.writer.proofs.Puts.{put-length}
+use Rattle.writer.proofs.Writes.{put-length}
 use Rattle.writer.proofs.Parts.{numbers-told, numbers-length, put-both, put-as}
 use borrow.Author.Needs.{needs}
 use Rattle.writer.proofs.put_numbers.Statement.{statement}

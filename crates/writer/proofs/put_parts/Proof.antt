@@ -10,7 +10,7 @@ use borrow.Author.Tests.{not-true, not-false, leb-true, leb-false}
 use Rattle.format.specs.Lines.{lineFeed}
 use Rattle.format.specs.Sheets.{spaced}
 use Rattle.writer.specs.Writes.{headOf, partsOf}
-use Rattle.writer.proofs.Puts.{put-length}
+use Rattle.writer.proofs.Writes.{put-length}
 use Rattle.writer.proofs.Parts.{not-put, is-ended, put-behind, parts-length}
 use borrow.Author.Needs.{needs}
 use Rattle.writer.proofs.put_parts.Statement.{statement}

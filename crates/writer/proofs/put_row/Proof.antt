@@ -9,7 +9,7 @@ use lib.ListN.{length, getD, set, length-set}
 use mir.Facts.{toZ-ofZ}
 use Rattle.exact.proofs.Ints.{fits32}
 use Rattle.format.specs.Numbers.{written}
-use Rattle.writer.proofs.Puts.{Rowing, rowing-room, rowing-next, rowing-over}
+use Rattle.writer.proofs.Writes.{Rowing, rowing-room, rowing-next, rowing-over}
 use Rattle.writer.proofs.put_row.Statement.{statement}
 use Rattle.writer.proofs.put_row.Tie as tie
 use Rattle.writer.proofs.put_row.Reads as reads

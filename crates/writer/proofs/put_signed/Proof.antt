@@ -1,7 +1,7 @@
 use mathlib.Core.List.{_∷_}
 use lib.Seq.{sets}
 use Rattle.format.specs.Numbers.{minus, digits, written}
-use Rattle.writer.proofs.Puts.{put-length, sets-more}
+use Rattle.writer.proofs.Writes.{put-length, sets-more}
 use native.Mathlib.Omega.{arith}
 use mathlib.Core.Path.{_≡_, sym, ap, _∙_}
 use lib.IntN.{natAbs}

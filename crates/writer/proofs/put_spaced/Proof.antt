@@ -4,7 +4,7 @@ use native.Mathlib.Omega.{arith}
 use mathlib.Core.Path.{ap, _∙_}
 use lib.ListN.{set}
 use Rattle.format.specs.Numbers.{digits}
-use Rattle.writer.proofs.Puts.{sets-back}
+use Rattle.writer.proofs.Writes.{sets-back}
 use borrow.Author.Needs.{needs}
 use Rattle.writer.proofs.put_spaced.Statement.{statement}
 use Rattle.writer.proofs.put_spaced.Tie as tie

@@ -21,7 +21,7 @@ use Rattle.records.specs.Records.{keptAt, noRecord, recordOf}
 use Rattle.state.specs.Spread.{planOf, sideOf}
 use Rattle.state.specs.Sizes.{Sized}
 use Rattle.state.specs.Spread.{namedIn}
-use Rattle.records.proofs.Logs.{lookup-record}
+use Rattle.records.proofs.Records.{lookup-record}
 
 -- ---- lengths
 

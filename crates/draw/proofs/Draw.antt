@@ -16,16 +16,16 @@ use Rattle.protocol.proofs.Laws.{is-yes, yes-is, Pass}
 use Rattle.rows.specs.Rows.{row}
 use Rattle.rules.specs.Table.{rulesIn}
 use Rattle.rows.proofs.Spans.{length-span, span-same, span-snoc, getD-set, getD-other}
-use Rattle.rules.proofs.Rows.{holds-is}
+use Rattle.rules.proofs.Rules.{holds-is}
 use Rattle.heads.specs.declared.Head.{Head}
 use Rattle.state.specs.Spread.{Spread}
 use Rattle.heads.specs.Heads.{modeOf, sidesIn, measuresIn}
 use Rattle.state.specs.Spread.{planOf, sideOf, rulesOf}
 use Rattle.state.specs.Sizes.{Sized}
-use Rattle.state.proofs.Views.{plan-same, sides-modify, sides-least, first-row, row-snoc, row-length}
+use Rattle.state.proofs.View.{plan-same, sides-modify, sides-least, first-row, row-snoc, row-length}
 use Rattle.state.specs.Meets.{answerOf, refusal, done}
 use Rattle.state.specs.Spread.{isAccepted, SameIfRefused, MeetsSpread}
-use Rattle.state.proofs.Meeting.{refused-meets, accepted-meets, fine-pass}
+use Rattle.state.proofs.Meets.{refused-meets, accepted-meets, fine-pass}
 use Rattle.state.proofs.Steps.{stored}
 use Rattle.draw.specs.declared.Drawing.{Drawing}
 use Rattle.draw.specs.Draw.{drawCall, measureChecks, ruleChecks, openChecks, ruled, opened, refusedDrawing, drawBy, measureDrawing, measureDecision, ruleDrawing, ruleDecision, openDrawing, openDecision, valueAt, drawDecision, drawnIn}

@@ -16,7 +16,7 @@ use Rattle.protocol.proofs.Laws.{cases, and-false, range, is-yes}
 use Rattle.rows.specs.Rows.{span, row}
 use Rattle.rows.proofs.Spans.{span-next, span-over, all-span}
 use Rattle.rules.specs.Rules.{withValue, pairHolds, holdsAt, namesPair, namesAt, dueAt, testedIn, firmIn}
-use Rattle.rules.proofs.Rows.{value-row, value-outside, value-out, with-other}
+use Rattle.rules.proofs.Rules.{value-row, value-outside, value-out, with-other}
 use Rattle.rules.specs.Index.{passing, placeOf, otherOf, beyond, otherAt, namingOf, namingsOf, namingHolds, sideHolds, namingAt, firstAt, lastAt, namingsIn, flagIn, Indexed, IndexedIf, listedAs, indexedIn, testedBy, firmBy}
 
 -- ---- what passes a test

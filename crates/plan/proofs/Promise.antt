@@ -14,7 +14,7 @@ use Rattle.guarantee.proofs.Guaranteed.{guarantee-traced, reading}
 use Rattle.state.specs.declared.State.{State}
 use Rattle.state.specs.View.{view, blankState}
 use Rattle.state.specs.Meets.{answerOf, refusalOf}
-use Rattle.state.proofs.Meeting.{verdict-fine}
+use Rattle.state.proofs.Meets.{verdict-fine}
 use Rattle.plan.specs.Promise.{shownAnswer, Reached, begun as fromBlank, called as byCall, showed, Promised}
 
 blank-view : view blankState ≡ start

@@ -23,8 +23,8 @@ use Rattle.state.specs.Spread.{planOf, sideOf, rulesOf}
 use Rattle.state.specs.Spread.{refusedAs}
 use Rattle.state.specs.Meets.{refusalOf, done, number}
 use Rattle.state.specs.Spread.{MeetsSpread}
-use Rattle.state.proofs.Views.{plan-same, sides-length, side-at, first-row}
-use Rattle.state.proofs.Meeting.{refused-meets, accepted-meets}
+use Rattle.state.proofs.View.{plan-same, sides-length, side-at, first-row}
+use Rattle.state.proofs.Meets.{refused-meets, accepted-meets}
 use Rattle.moves.specs.Parting.{splitChecks, splitHead, joinHead, splitBase}
 use Rattle.state.proofs.Steps.{Checked, accepts, stored, flag-set, flag-other}
 use Rattle.rows.proofs.Copies.{row-copied, row-beside}

@@ -18,7 +18,7 @@ use Rattle.format.specs.Sheets.{stepOf}
 use Rattle.rows.specs.Rows.{row}
 use Rattle.rules.specs.Index.{Indexed, testedBy, firmBy}
 use Rattle.rules.specs.Table.{lowers, gaps, uppers, firms, withRule}
-use Rattle.rules.proofs.Tables.{rule-length, rule-lower, rule-gap, rule-upper, rule-firm}
+use Rattle.rules.proofs.Table.{rule-length, rule-lower, rule-gap, rule-upper, rule-firm}
 use Rattle.heads.specs.declared.Head.{Head}
 use Rattle.heads.specs.Heads.{modeOf, sidesIn, indexOf, namedAt, slotAt, namedSlot}
 use Rattle.records.specs.declared.EditRecord.{EditRecord}
@@ -31,7 +31,7 @@ use Rattle.state.specs.Sizes.{Sized}
 use Rattle.state.specs.Spread.{namedIn}
 use Rattle.state.specs.Meets.{answerOf, refusal, number}
 use Rattle.state.specs.Spread.{SameIfRefused, MeetsSpread}
-use Rattle.state.proofs.Views.{sides-most}
+use Rattle.state.proofs.View.{sides-most}
 use Rattle.moves.specs.declared.Told.{Told}
 use Rattle.moves.specs.Frames.{frameFrom, movedTo, Moves}
 use Rattle.moves.specs.Rare.{moveCall, Counts}
@@ -52,13 +52,13 @@ use Rattle.moves.proofs.Sends.{send-few}
 use Rattle.moves.proofs.Moves.{Named, send-decided}
 use Rattle.draw.specs.declared.Drawing.{Drawing}
 use Rattle.draw.specs.Draw.{drawCall, drawDecision, drawnIn}
-use Rattle.draw.proofs.Draws.{draw-decided, drawn-sized}
+use Rattle.draw.proofs.Draw.{draw-decided, drawn-sized}
 use Rattle.query.specs.declared.Reading.{Reading}
 use Rattle.query.specs.Readings.{readCall, readingOf}
 use Rattle.query.proofs.Right.{alone-row, readingIn, reading-right, reading-bounds}
 use Rattle.counts.specs.Tallies.{Tallied, waitingIn, settledIn, leftIn, missingIn, oneUnsent, allSent, oneSettled, moveTally}
 use Rattle.state.specs.Spread.{isAccepted}
-use Rattle.counts.proofs.Counts.{tallyAfter, missing-unset}
+use Rattle.counts.proofs.Tallies.{tallyAfter, missing-unset}
 use Rattle.reader.specs.declared.Line.{Line}
 use Rattle.reader.specs.Reads.{lineIn}
 use Rattle.writer.specs.Writes.{withRow}

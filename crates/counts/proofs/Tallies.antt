@@ -18,7 +18,7 @@ use Rattle.guarantee.proofs.Holding.{only, plan}
 use Rattle.rows.proofs.Spans.{getD-set, getD-other, getD-blank}
 use Rattle.heads.specs.Heads.{modeOf, sidesIn, indexOf, unsetIn}
 use Rattle.state.specs.Spread.{Spread, planOf}
-use Rattle.state.proofs.Views.{index-other, flags-unset}
+use Rattle.state.proofs.View.{index-other, flags-unset}
 use Rattle.counts.specs.Tallies.{unsentIn, waitingIn, settledIn, leftIn, missingIn, Counted, Tallied, noTallies, oneUnsent, allSent, oneSettled, begun, oneLess}
 
 pub counted-none : Counted noTallies []
