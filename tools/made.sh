@@ -27,7 +27,7 @@ make_counter() {
     echo "building $counter and proving what it stands on: about four minutes the first time" >&2
     # Without its stamp a program is proved and linked again; with it, rt takes a missing one for made.
     [ -f "$counter" ] || rm -f target/stamp/counter
-    # More at once than there are processors, as in .ci/run: crates of one layer wait for each other.
+    # More at once than there are processors: rt waits for a whole batch before the next, and a larger one leaves a processor idle less often.
     RT_JOBS=${RT_JOBS:-4} rt check counter && mark "$counter"
 }
 

@@ -7,6 +7,7 @@ ghost use Prim.Native.Nat.{ℕ, min};
 ghost use lib.Dec.{eqb};
 ghost use lib.IntN.{ℤ};
 ghost use Rattle.calls.specs.declared.Look.{Look};
+ghost use Rattle.protocol.specs.Numbering.{ruleOp, openOp, editOp, sendOp, replayOp};
 ghost use Rattle.heads.specs.Numbers.{headFrom};
 ghost use Rattle.rules.specs.Table.{lowers, gaps, uppers, firms, withRule};
 ghost use Rattle.rules.specs.Index.{Indexed};
@@ -135,7 +136,7 @@ fn edit_in<'a>(
     counts: &mut Tallies,
     sound: bool,
 ) -> Effect
-    requires { ⌜ l .op ≡ 5 ⌝ }
+    requires { ⌜ l .op ≡ editOp ⌝ }
     ensures { λ r. ⌜ ((base draft : List ℤ) (confirmed : List Bool) → Making l (headFrom (now (head .entry))) base draft (now (values .entry))
         (now (arrived .entry)) confirmed (now (table .entry)) (now (index .entry)) look (now (counts .entry)) sound r (headFrom (now (head .exit))) base draft
         (now (values .exit)) (now (arrived .entry)) confirmed (now (table .entry)) (now (index .entry)) (now (counts .exit))) ⌝ }
@@ -184,7 +185,7 @@ fn replay_in<'a>(
     counts: &mut Tallies,
     sound: bool,
 ) -> Effect
-    requires { ⌜ l .op ≡ 8 ⌝ }
+    requires { ⌜ l .op ≡ replayOp ⌝ }
     ensures { λ r. ⌜ ((base values : List ℤ) (arrived confirmed : List Bool) → Making l (headFrom (now (head .entry))) base (now (draft .entry)) values arrived
         confirmed (now (table .entry)) (now (index .entry)) look (now (counts .entry)) sound r (headFrom (now (head .entry))) base (now (draft .exit)) values
         arrived confirmed (now (table .entry)) (now (index .entry)) (now (counts .exit))) ⌝ }
@@ -229,7 +230,7 @@ fn send_in(
     arrived: &mut [bool; limit::SIDES],
     counts: &mut Tallies,
 ) -> Effect
-    requires { ⌜ l .op ≡ 7 ⌝ }
+    requires { ⌜ l .op ≡ sendOp ⌝ }
     ensures { λ r. ⌜ ((base draft values : List ℤ) (confirmed : List Bool) (table : List ℤ) (index : List ℤ) (look : Look) (sound : Bool) → Making l
         (headFrom (now (head .entry))) base draft values (now (arrived .entry)) confirmed table index look (now (counts .entry)) sound r
         (headFrom (now (head .entry))) base draft values (now (arrived .exit)) confirmed table index (now (counts .exit))) ⌝ }
@@ -309,7 +310,7 @@ fn move_in(
 
 // A rule was drawn.
 fn is_drawn(op: u32, answer: Answer) -> bool
-    ensures { λ t. ⌜ t ≡ (eqb op 2 && isAccepted answer) ⌝ }
+    ensures { λ t. ⌜ t ≡ (eqb op ruleOp && isAccepted answer) ⌝ }
 {
     if op == call::RULE {
         return counts::accepted(answer);
@@ -328,7 +329,7 @@ fn note_rule(table: &mut Table, k: u32, drawn: bool, a: i32, c: i32, b: i32, f: 
 
 // The plan was opened.
 fn is_opened(op: u32, answer: Answer) -> bool
-    ensures { λ t. ⌜ t ≡ (eqb op 3 && isAccepted answer) ⌝ }
+    ensures { λ t. ⌜ t ≡ (eqb op openOp && isAccepted answer) ⌝ }
 {
     if op == call::OPEN {
         return counts::accepted(answer);
@@ -376,7 +377,7 @@ fn draw_in(
 
 // show, fate, left; a line that cannot be read
 fn read_in<'a>(l: Line, head: &'a Numbers, look: Look, counts: &'a Tallies) -> Effect
-    requires { ⌜ (lineIn l ≡ readCall (l .op) (l .a)) × (eqb (l .op) 5 ≡ false) ⌝ }
+    requires { ⌜ (lineIn l ≡ readCall (l .op) (l .a)) × (eqb (l .op) editOp ≡ false) ⌝ }
     ensures { λ r. ⌜ ((base draft values : List ℤ) (arrived confirmed : List Bool) (table : List ℤ) (index : List ℤ) (sound : Bool) → Making l
         (headFrom (now (head .entry))) base draft values arrived confirmed table index look (now (counts .entry)) sound r (headFrom (now (head .entry))) base draft
         values arrived confirmed table index (now (counts .entry))) ⌝ }

@@ -4,6 +4,7 @@
 // guarantees is proofs/Promise.
 ghost use mathlib.Core.Path.{_≡_};
 ghost use Rattle.protocol.specs.Calls.{measure, rule, open-plan, split-side, edit, join, send, replay, stop, confirm, install, fate-of, left};
+ghost use Rattle.protocol.specs.Numbering.{showOp};
 ghost use mathlib.Core.Bool.{false};
 ghost use lib.Dec.{eqb};
 ghost use Rattle.state.specs.Meets.{Meets};
@@ -20,7 +21,7 @@ pub use state::blank;
 
 // Any call but show, as its line asks for it. Of any plan it is not known that its rules hold: all are tested, and no index is needed.
 fn turn(p: State, l: Line) -> Answered
-    requires { ⌜ eqb (l .op) 12 ≡ false ⌝ }
+    requires { ⌜ eqb (l .op) showOp ≡ false ⌝ }
     ensures { λ r. ⌜ Turns l p r ⌝ }
 {
     let h = p.head;
