@@ -305,7 +305,8 @@ fn put_alone(count: u32, a: u32, b: u32, c: u32, area: &mut [u8]) -> usize
 }
 
 fn put_given(count: u32, a: u32, b: u32, c: u32, row: &[i32], area: &mut [u8]) -> usize
-    ensures { λ r. ⌜ (now (area .exit) ≡ putIn (lineOf (Answer.Given count a b c) (now (row .entry))) (now (area .entry))) × (r ≡ putLength (lineOf (Answer.Given count a b c) (now (row .entry))) (now (area .entry))) ⌝ }
+    ensures { λ r. ⌜ (now (area .exit) ≡ putIn (lineOf (Answer.Given count a b c) (now (row .entry))) (now (area .entry)))
+        × (r ≡ putLength (lineOf (Answer.Given count a b c) (now (row .entry))) (now (area .entry))) ⌝ }
 {
     if row.len() == 0 {
         return put_alone(count, a, b, c, area);
