@@ -29,12 +29,12 @@ use Rattle.state.specs.declared.Answer.the-variants.{Refused, Given}
 use Rattle.state.specs.Spread.{planOf}
 use Rattle.state.specs.Sizes.{Sized}
 use Rattle.state.specs.Spread.{namedIn}
-use Rattle.state.specs.Meets.{answerOf, refusal, number}
+use Rattle.state.specs.Meets.{IfRefused, answerOf, refusal, number}
 use Rattle.state.specs.Spread.{SameIfRefused, MeetsSpread}
 use Rattle.state.proofs.View.{sides-most}
 use Rattle.moves.specs.declared.Told.{Told}
 use Rattle.moves.specs.Frames.{frameFrom, movedTo, Moves}
-use Rattle.moves.specs.Rare.{moveCall, Counts}
+use Rattle.moves.specs.Calls.{moveCall, Counts}
 use Rattle.change.specs.declared.Change.{Change}
 use Rattle.edit.specs.declared.Ruling.{Ruling}
 use Rattle.edit.specs.declared.Ruling.the-variants.{Refused as Denied, Granted}
@@ -56,7 +56,7 @@ use Rattle.draw.proofs.Draw.{draw-decided, drawn-sized}
 use Rattle.query.specs.declared.Reading.{Reading}
 use Rattle.query.specs.Readings.{readCall, readingOf}
 use Rattle.query.proofs.Right.{alone-row, readingIn, reading-right, reading-bounds}
-use Rattle.counts.specs.Tallies.{Tallied, waitingIn, settledIn, leftIn, missingIn, oneUnsent, allSent, oneSettled, moveTally}
+use Rattle.counts.specs.Tallies.{Tallied, waitingIn, settledIn, leftNoted, missingIn, oneUnsent, allSent, oneSettled, moveTally}
 use Rattle.state.specs.Spread.{isAccepted}
 use Rattle.counts.proofs.Tallies.{tallyAfter, missing-unset}
 use Rattle.reader.specs.declared.Line.{Line}
@@ -67,7 +67,7 @@ use Rattle.state.specs.Spread.{spread}
 use Rattle.state.specs.View.{view, stateOf}
 use Rattle.calls.specs.declared.Effect.{Effect}
 use Rattle.calls.specs.declared.Look.{Look}
-use Rattle.calls.specs.Makes.{asked, looksAt, askedAt, firstLook, secondLook, IndexedIn, Known, SameIf, Makes, noted, Making, isMove, isDraw, plain, stored}
+use Rattle.calls.specs.Makes.{asked, looksAt, askedAt, firstLook, secondLook, IndexedIn, Known, Makes, noted, Making, isMove, isDraw, plain, stored}
 use Rattle.calls.proofs.Turning.{line-edit, line-replay, line-send, line-moves, line-draws, Made, meets-made, edit-rules, move-rules, drawn-before, drawn-blank, indexed-still, edit-held, replay-held, tallied-made, settled-few, edit-counts, send-counts, move-counts, draw-counts}
 
 -- ---- a refusal leaves the state as it was
@@ -76,16 +76,16 @@ same-state : (p q : State) → q .table ≡ p .table → spread q ≡ spread p �
 same-state p q b e =
     λ i. record { head = e i .head; base = e i .base; draft = e i .draft; values = e i .values; arrived = e i .arrived; confirmed = e i .confirmed; table = b i; edits = e i .edits }
 
-same-if : (a : Answer) (p q : State) → (isAccepted a ≡ false → q .table ≡ p .table) → SameIfRefused a (spread p) (spread q) → SameIf a (q ≡ p)
+same-if : (a : Answer) (p q : State) → (isAccepted a ≡ false → q .table ≡ p .table) → SameIfRefused a (spread p) (spread q) → IfRefused a (q ≡ p)
 same-if (Refused k r) p q b e = same-state p q (b refl) e
 same-if (Given count l m n) p q b e = tt
 
-all-same : (a : Answer) (p q : State) → q ≡ p → SameIf a (q ≡ p)
+all-same : (a : Answer) (p q : State) → q ≡ p → IfRefused a (q ≡ p)
 all-same (Refused k r) p q e = e
 all-same (Given count l m n) p q e = tt
 
 -- a refusal leaves everything
-refused-same : (a : Answer) {A : Type 0} → isAccepted a ≡ false → SameIf a A → A
+refused-same : (a : Answer) {A : Type 0} → isAccepted a ≡ false → IfRefused a A → A
 refused-same (Refused k r) e x = x
 refused-same (Given count l m n) e x = absurd (is-yes (sym e))
 
@@ -418,7 +418,7 @@ module _ (l : Line) (h : Head) (base draft values : List ℤ) (arrived confirmed
         (move-rules (l .op) (l .a) p (spread q) {a = r .answer} {vs = []} refl (meets-made c p (record { state = spread q; answer = r .answer }) here));
   }
 
-  pub read-making : lineIn l ≡ readCall (l .op) (l .a) → eqb (l .op) 5 ≡ false → (r : Reading) → r ≡ readingOf (l .op) (l .a) h (look .named) (look .standing) (leftIn t)
+  pub read-making : lineIn l ≡ readCall (l .op) (l .a) → eqb (l .op) 5 ≡ false → (r : Reading) → r ≡ readingOf (l .op) (l .a) h (look .named) (look .standing) (leftNoted t)
       → Making l h base draft values arrived confirmed table index look t sound (record { answer = r .answer; from = r .from; width = r .width; kept = false; slot = 0; entry = noRecord; marked = 0 })
       h base draft values arrived confirmed table index t
   read-making line op r r-is = record {
@@ -428,10 +428,10 @@ module _ (l : Line) (h : Head) (base draft values : List ℤ) (arrived confirmed
         let p = spread (before edits) in
         let a = m .none refl in
         let at : askedAt h l ≡ namedAt h (l .a) = ap (λ o. namedAt h (cond o (l .c) (l .a))) op in
-        let stood : readingOf (l .op) (l .a) h (look .named) (look .standing) (leftIn t) ≡ readingOf (l .op) (l .a) h (namedAt h (l .a)) (getD edits (namedSlot h (l .a)) noRecord) (leftIn t) =
+        let stood : readingOf (l .op) (l .a) h (look .named) (look .standing) (leftNoted t) ≡ readingOf (l .op) (l .a) h (namedAt h (l .a)) (getD edits (namedSlot h (l .a)) noRecord) (leftNoted t) =
         cases (eqb (l .op) 13)
         (λ e. let y = ap looksAt (eqb-true (l .op) 13 e) in let n = k .named y ∙ at in let s = k .stood y ∙ ap (λ n. getD edits (slotAt n) noRecord) n in λ j. readingOf (l .op) (l .a) h (n j) (s j)
-        (leftIn t))
+        (leftNoted t))
         (λ e. rw e) in
         let g = reading-right p t (k .tallied op) (l .op) (l .a) in
         let b = reading-bounds p t (k .tallied op) (l .op) (l .a) in
@@ -509,7 +509,7 @@ module _ (l : Line) (h : Head) (base draft values : List ℤ) (arrived confirmed
         }) in
         let here : MeetsSpread c p (record { state = spread q; answer = d .answer }) = subst (λ s. MeetsSpread c p (record { state = s; answer = d .answer })) (sym {A = Spread} drawn-state) meets in
         let made = meets-made c p (record { state = spread q; answer = d .answer }) here in
-        let same : SameIf (d .answer) (q ≡ x) = same-if (d .answer) x q
+        let same : IfRefused (d .answer) (q ≡ x) = same-if (d .answer) x q
         (λ y. table-is ∙ ap (λ w. cond w (withRule table n (l .a) (l .b) (l .c) (l .d)) table) (ap (λ w. eqb (l .op) 2 && w) y ∙ and-false (eqb (l .op) 2))) (here .same) in
         record {
           answer = made .answer ∙ ap (λ o. stepOf o (view x) .answer) (sym (line-draws l op));

@@ -46,7 +46,7 @@ use Rattle.counts.specs.Tallies.{Tallied, settledIn, oneUnsent, allSent, moveTa
 use Rattle.state.specs.Spread.{isAccepted}
 use Rattle.counts.proofs.Tallies.{tallyAfter, tallied-after}
 use Rattle.draw.specs.Draw.{drawCall}
-use Rattle.moves.specs.Rare.{moveCall}
+use Rattle.moves.specs.Calls.{moveCall}
 use Rattle.query.specs.Readings.{readCall}
 use Rattle.query.proofs.Right.{alone-row}
 use Rattle.reader.specs.declared.Line.{Line}

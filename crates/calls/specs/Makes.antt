@@ -20,10 +20,9 @@ use Rattle.records.specs.declared.EditRecord.{EditRecord}
 use Rattle.records.specs.Records.{noRecord}
 use Rattle.state.specs.Spread.{Spread}
 use Rattle.state.specs.declared.Answer.{Answer}
-use Rattle.state.specs.declared.Answer.the-variants.{Refused, Given}
 use Rattle.state.specs.Spread.{planOf}
 use Rattle.state.specs.Sizes.{Sized}
-use Rattle.state.specs.Meets.{answerOf}
+use Rattle.state.specs.Meets.{answerOf, IfRefused}
 use Rattle.replay.specs.Replays.{earlierAt}
 use Rattle.moves.specs.Moves.{Marked}
 use Rattle.counts.specs.Tallies.{Tallied}
@@ -80,15 +79,11 @@ pub record Known (l : Line) (p : State) (index : List ℤ) (look : Look) (t : Li
 
 -- ---- what a call promises
 
-abbrev pub SameIf : Answer → Type 0 → Type 0
-SameIf (Refused k r) A = A
-SameIf (Given count a b c) A = Unit {0}
-
 -- from one state to the next, with counts and index before and after
 pub record Makes (l : Line) (p q : State) (t t′ : List ℕ) (index index′ : List ℤ) (e : Effect) : Type 0 where
   pub answer : withRow (answerOf (e .answer)) (row (q .values) (e .from) (e .width)) ≡ stepOf (lineIn l) (view p) .answer
   pub plan : view q ≡ stepOf (lineIn l) (view p) .plan
-  pub same : SameIf (e .answer) (q ≡ p)
+  pub same : IfRefused (e .answer) (q ≡ p)
   pub sized : Sized (spread q)
   pub long : length (q .table) ≡ 256
   pub tallied : Tallied t (view p) → Tallied t′ (view q)

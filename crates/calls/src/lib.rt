@@ -7,7 +7,7 @@ ghost use Prim.Native.Nat.{ℕ, min};
 ghost use lib.Dec.{eqb};
 ghost use lib.IntN.{ℤ};
 ghost use Rattle.calls.specs.declared.Look.{Look};
-ghost use Rattle.protocol.specs.Numbering.{ruleOp, openOp, editOp, sendOp, replayOp};
+ghost use Rattle.protocol.specs.Numbering.{editOp, sendOp, replayOp};
 ghost use Rattle.heads.specs.Numbers.{headFrom};
 ghost use Rattle.rules.specs.Table.{lowers, gaps, uppers, firms, withRule};
 ghost use Rattle.rules.specs.Index.{Indexed};
@@ -308,11 +308,11 @@ fn move_in(
     plain_effect(answer)
 }
 
-// A rule was drawn.
-fn is_drawn(op: u32, answer: Answer) -> bool
-    ensures { λ t. ⌜ t ≡ (eqb op ruleOp && isAccepted answer) ⌝ }
+// A certain call was made and accepted.
+fn is_made(op: u32, asked: u32, answer: Answer) -> bool
+    ensures { λ t. ⌜ t ≡ (eqb op asked && isAccepted answer) ⌝ }
 {
-    if op == call::RULE {
+    if op == asked {
         return counts::accepted(answer);
     }
     false
@@ -325,16 +325,6 @@ fn note_rule(table: &mut Table, k: u32, drawn: bool, a: i32, c: i32, b: i32, f: 
     if drawn {
         rules::put_rule(table, k, a, c, b, f);
     }
-}
-
-// The plan was opened.
-fn is_opened(op: u32, answer: Answer) -> bool
-    ensures { λ t. ⌜ t ≡ (eqb op openOp && isAccepted answer) ⌝ }
-{
-    if op == call::OPEN {
-        return counts::accepted(answer);
-    }
-    false
 }
 
 // Indexes the rules, if the plan was opened: until then no call asks the index, and from then on the rules stay.
@@ -367,9 +357,17 @@ fn draw_in(
     let value = d.value;
     values[spot] = value;
     let answer = d.answer;
-    note_rule(table, h.rules, is_drawn(l.op, answer), l.a, l.b, l.c, l.d);
+    note_rule(
+        table,
+        h.rules,
+        is_made(l.op, call::RULE, answer),
+        l.a,
+        l.b,
+        l.c,
+        l.d,
+    );
     let drawn = d.head;
-    note_index(index, table, drawn.rules, is_opened(l.op, answer));
+    note_index(index, table, drawn.rules, is_made(l.op, call::OPEN, answer));
     let next = heads::numbers(drawn);
     *head = next;
     plain_effect(answer)

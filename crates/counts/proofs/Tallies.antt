@@ -19,7 +19,7 @@ use Rattle.rows.proofs.Spans.{getD-set, getD-other, getD-blank}
 use Rattle.heads.specs.Heads.{modeOf, sidesIn, indexOf, unsetIn}
 use Rattle.state.specs.Spread.{Spread, planOf}
 use Rattle.state.proofs.View.{index-other, flags-unset}
-use Rattle.counts.specs.Tallies.{unsentIn, waitingIn, settledIn, leftIn, missingIn, Counted, Tallied, noTallies, oneUnsent, allSent, oneSettled, begun, oneLess}
+use Rattle.counts.specs.Tallies.{unsentIn, waitingIn, settledIn, leftNoted, missingIn, Counted, Tallied, noTallies, oneUnsent, allSent, oneSettled, begun, oneLess}
 
 pub counted-none : Counted noTallies []
 counted-none = record { unsent = λ s a b. getD-blank 12 (indexOf s) 0; waiting = refl; settled = refl }
@@ -233,7 +233,7 @@ tallied-edit t m d e r room few has h =
     }
 
 -- a call that takes one off the number left and leaves the kept edits and the logs
-tallied-less : (t : List ℕ) (k : Mode) (e : Content) → length t ≡ 12 → Counted t (e .kept) → (T (active k) → leftIn t - 1 ≡ leftOf k e) → (T (active k) → missingIn t ≡ missingOf e)
+tallied-less : (t : List ℕ) (k : Mode) (e : Content) → length t ≡ 12 → Counted t (e .kept) → (T (active k) → leftNoted t - 1 ≡ leftOf k e) → (T (active k) → missingIn t ≡ missingOf e)
     → Tallied (oneLess t) (plan k e)
 tallied-less t k e long same fewer there = record {
   long = length-set t 10 _ ∙ long;
@@ -248,7 +248,7 @@ module _ (t : List ℕ) (m : Mode) (d : Content) (room : length (d .kept) ≤ 25
       let i = range (length (d .sides)) s has in
       let first = set t (indexOf s) 0 in
       let second = set first 8 (min (waitingIn t) 256 + min (unsentIn t s) 256) in
-      let third = set second 10 (leftIn t - 1) in
+      let third = set second 10 (leftNoted t - 1) in
       let long = length-set first 8 _ ∙ length-set t (indexOf s) 0 ∙ h .long in
       let longer = length-set second 10 _ ∙ long in
       record {
@@ -256,7 +256,7 @@ module _ (t : List ℕ) (m : Mode) (d : Content) (room : length (d .kept) ≤ 25
         counted = counted-past third _ 11 _ (omega arith) (counted-past second _ 10 _ (omega arith) (counted-sent t (d .kept) s (h .long) room (i .0) (omega (arith, i .1, few)) (h .counted)));
         left = λ a.
             elsewhere third 11 10 _ (λ e. omega arith) ∙ stored second 10 _ long (omega arith)
-            ∙ fallen m m d (sendTo d s) (leftIn t) (length-modify s hasArrived (d .sides)) (send-sum d s m has owes) (h .left a);
+            ∙ fallen m m d (sendTo d s) (leftNoted t) (length-modify s hasArrived (d .sides)) (send-sum d s m has owes) (h .left a);
         missing = λ a. stored third 11 _ longer (omega arith) ∙ ap (λ n. cond (sideAt d s .arrived) n (n - 1)) (h .missing a) ∙ missing-sent d s has;
       }
 
@@ -268,7 +268,7 @@ module _ (t : List ℕ) (m : Mode) (d : Content) (room : length (d .kept) ≤ 25
       record {
         long = length-set second 10 _ ∙ long;
         counted = counted-past second _ 10 _ (omega arith) (counted-settled t (d .kept) n (replayable d n) (nextPlace (d .kept)) (h .long) room waits (h .counted));
-        left = λ a. stored second 10 _ long (omega arith) ∙ fallen m m d (replayTo d n) (leftIn t) refl (replay-sum d n m waits (length (d .sides))) (h .left a);
+        left = λ a. stored second 10 _ long (omega arith) ∙ fallen m m d (replayTo d n) (leftNoted t) refl (replay-sum d n m waits (length (d .sides))) (h .left a);
         missing = λ a. elsewhere second 10 11 _ (λ e. omega arith) ∙ elsewhere first 9 11 _ (λ e. omega arith) ∙ elsewhere t 8 11 _ (λ e. omega arith) ∙ h .missing a;
       }
 
@@ -308,11 +308,11 @@ module _ (t : List ℕ) (m : Mode) (d : Content) (room : length (d .kept) ≤ 25
   by-call (replay n) g = tallied-replay (natural n) (g .1 .1 .0)
   by-call stop g =
       let was = rw (only joining m (g .0)) at h in
-      tallied-less t closing d (h .long) (h .counted) (λ a. fallen joining closing d d (leftIn t) refl (stop-sum d (length (d .sides))) (was .left tt)) (λ a. was .missing tt)
+      tallied-less t closing d (h .long) (h .counted) (λ a. fallen joining closing d d (leftNoted t) refl (stop-sum d (length (d .sides))) (was .left tt)) (λ a. was .missing tt)
   by-call (confirm s) g =
       let long = length-modify (natural s) hasConfirmed (d .sides) in
       tallied-less t m (confirmTo d (natural s)) (h .long) (h .counted)
-      (λ a. fallen m m d (confirmTo d (natural s)) (leftIn t) long (confirm-sum d m (natural s) (g .1 .0) (g .1 .1 .0)) (h .left a))
+      (λ a. fallen m m d (confirmTo d (natural s)) (leftNoted t) long (confirm-sum d m (natural s) (g .1 .0) (g .1 .1 .0)) (h .left a))
       (λ a. h .missing a ∙ sym (missing-same d (confirmTo d (natural s)) long (arrived-confirmed d (natural s))))
   by-call install g = tallied-less t whole _ (h .long) (h .counted) (λ a. absurd a) (λ a. absurd a)
   by-call (show s room) g = h

@@ -8,27 +8,43 @@ use lib.ListN.{length, getD, set, replicate}
 use Rattle.protocol.specs.Lists.{bit, isNone, count}
 use Rattle.protocol.specs.Plan.{Kept, isWaiting, isSettled, Plan, whole, is, active, sideAt, unsentOf, sidesThat, sideLimit, keptLimit}
 use Rattle.protocol.specs.Calls.{leftOf}
-use Rattle.protocol.specs.Numbering.{splitOp, joinOp, lastEdit}
+use Rattle.protocol.specs.Numbering.{splitOp, joinOp}
+use Rattle.protocol.specs.Sizes.{lastEdit}
 use Rattle.heads.specs.declared.Head.{Head}
 use Rattle.heads.specs.Heads.{modeOf, sidesIn, keptIn, indexOf}
 pub use Rattle.state.specs.Spread.{isAccepted}
 
--- ---- the counts, as they stand in the array
+-- ---- the counts, as they stand in the array: for each side how many are unsent, by its index, then four more
+
+abbrev pub waitingAt : ℕ
+waitingAt = 8
+
+abbrev pub settledAt : ℕ
+settledAt = 9
+
+abbrev pub leftAt : ℕ
+leftAt = 10
+
+abbrev pub missingAt : ℕ
+missingAt = 11
+
+abbrev pub tallyCount : ℕ
+tallyCount = 12
 
 abbrev pub unsentIn : List ℕ → ℕ → ℕ
 unsentIn t s = getD t (indexOf s) 0
 
 abbrev pub waitingIn : List ℕ → ℕ
-waitingIn t = getD t 8 0
+waitingIn t = getD t waitingAt 0
 
 abbrev pub settledIn : List ℕ → ℕ
-settledIn t = getD t 9 0
+settledIn t = getD t settledAt 0
 
-abbrev pub leftIn : List ℕ → ℕ
-leftIn t = getD t 10 0
+abbrev pub leftNoted : List ℕ → ℕ
+leftNoted t = getD t leftAt 0
 
 abbrev pub missingIn : List ℕ → ℕ
-missingIn t = getD t 11 0
+missingIn t = getD t missingAt 0
 
 -- what the counts say of the kept edits
 pub record Counted (t : List ℕ) (ks : List Kept) : Type 0 where
@@ -38,17 +54,19 @@ pub record Counted (t : List ℕ) (ks : List Kept) : Type 0 where
 
 -- and of a plan
 pub record Tallied (t : List ℕ) (p : Plan) : Type 0 where
-  pub long : length t ≡ 12
+  pub long : length t ≡ tallyCount
   pub counted : Counted t (p .content .kept)
-  pub left : T (active (p .mode)) → leftIn t ≡ leftOf (p .mode) (p .content)
+  pub left : T (active (p .mode)) → leftNoted t ≡ leftOf (p .mode) (p .content)
   pub missing : T (active (p .mode)) → missingIn t ≡ sidesThat (λ s. not (sideAt (p .content) s .arrived)) (p .content)
 
 -- ---- how the calls move them
 
 abbrev pub noTallies : List ℕ
-noTallies = replicate 12 0
+noTallies = replicate tallyCount 0
 
--- no count of edits passes 256, and no number left 274 (8 sides, 256 edits), so that nothing overflows whatever the counts are
+-- No count of edits passes 256, and no number left this one (twice 8 sides, 256 edits, and 2), so that nothing overflows whatever the counts are.
+abbrev pub mostLeft : ℕ
+mostLeft = 274
 
 -- what an edit adds to the number left: one, and one more where its side had nothing to send
 abbrev pub raise : Bool → ℕ → ℕ
@@ -56,22 +74,22 @@ raise arrived unsent = suc (bit (arrived && isNone unsent))
 
 -- one edit more of a side; arrived says that the side's first log is there
 abbrev pub oneUnsent : ℕ → Bool → List ℕ → List ℕ
-oneUnsent s arrived t = set (set t (indexOf s) (min (unsentIn t s) lastEdit + 1)) 10 (min (leftIn t) 274 + raise arrived (unsentIn t s))
+oneUnsent s arrived t = set (set t (indexOf s) (min (unsentIn t s) lastEdit + 1)) leftAt (min (leftNoted t) mostLeft + raise arrived (unsentIn t s))
 
 -- arrived says that the side's first log was there before
 abbrev pub allSent : ℕ → Bool → List ℕ → List ℕ
 allSent s arrived t =
-    set (set (set (set t (indexOf s) 0) 8 (min (waitingIn t) keptLimit + min (unsentIn t s) keptLimit)) 10 (leftIn t - 1)) 11 (cond arrived (missingIn t) (missingIn t - 1))
+    set (set (set (set t (indexOf s) 0) waitingAt (min (waitingIn t) keptLimit + min (unsentIn t s) keptLimit)) leftAt (leftNoted t - 1)) missingAt (cond arrived (missingIn t) (missingIn t - 1))
 
 abbrev pub oneSettled : List ℕ → List ℕ
-oneSettled t = set (set (set t 8 (min (waitingIn t) keptLimit - 1)) 9 (min (settledIn t) lastEdit + 1)) 10 (leftIn t - 1)
+oneSettled t = set (set (set t waitingAt (min (waitingIn t) keptLimit - 1)) settledAt (min (settledIn t) lastEdit + 1)) leftAt (leftNoted t - 1)
 
 -- a join begins, with so many sides and kept edits
 abbrev pub begun : ℕ → ℕ → List ℕ → List ℕ
-begun sides kept t = set (set t 10 (2 * sides + (kept - settledIn t) + 2)) 11 sides
+begun sides kept t = set (set t leftAt (2 * sides + (kept - settledIn t) + 2)) missingAt sides
 
 abbrev pub oneLess : List ℕ → List ℕ
-oneLess t = set t 10 (leftIn t - 1)
+oneLess t = set t leftAt (leftNoted t - 1)
 
 -- split (4), join (6), stop, confirm or install, by its number in the order of 01
 abbrev pub moveTally : ℕ → Head → List ℕ → List ℕ

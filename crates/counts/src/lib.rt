@@ -11,7 +11,7 @@ use protocol::limit;
 use state::Answer;
 
 // How many edits each side has unsent, by the side's index; then how many wait, how many are settled, the number left, and how many first logs are missing.
-pub type Tallies = [u32; 12];
+pub type Tallies = [u32; TALLIES];
 
 pub const WAITING: usize = 8;
 
@@ -21,10 +21,15 @@ pub const LEFT: usize = 10;
 
 pub const MISSING: usize = 11;
 
+pub const TALLIES: usize = 12;
+
+// No number left is more: twice 8 sides, 256 edits, and 2.
+const MOST_LEFT: usize = 274;
+
 pub fn no_tallies() -> Tallies
     ensures { λ r. ⌜ r ≡ noTallies ⌝ }
 {
-    [0u32; 12]
+    [0u32; TALLIES]
 }
 
 pub fn accepted(answer: Answer) -> bool
@@ -88,7 +93,7 @@ pub fn note_kept(t: &mut Tallies, s: u32, arrived: bool)
     let i = heads::index(s);
     let u = t[i];
     let n = rows::capped(u, limit::LAST_EDIT) as u32 + 1;
-    let left = rows::capped(t[LEFT], 274) as u32 + raised(arrived, u);
+    let left = rows::capped(t[LEFT], MOST_LEFT) as u32 + raised(arrived, u);
     t[i] = n;
     t[LEFT] = left;
 }
@@ -127,7 +132,7 @@ pub fn note_move(t: &mut Tallies, op: u32, h: Head)
     if op == call::SPLIT {
         let mode = h.mode;
         if heads::mode_number(mode) == 1 {
-            *t = [0u32; 12];
+            *t = [0u32; TALLIES];
         }
         return;
     }

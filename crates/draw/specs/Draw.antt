@@ -8,7 +8,8 @@ use lib.ListN.{getD, set}
 use Rattle.protocol.specs.Lists.{natural, isNone, oneTo}
 use Rattle.protocol.specs.Plan.{blank, is, measureLimit, ruleLimit}
 use Rattle.protocol.specs.Calls.{Call, measure, rule, open-plan, Check, _unless_, _when_, Verdict, fine, refused, first, no11, no15}
-use Rattle.protocol.specs.Numbering.{measureOp, ruleOp, lastMeasure, lastRule}
+use Rattle.protocol.specs.Numbering.{measureOp, ruleOp}
+use Rattle.protocol.specs.Sizes.{lastMeasure, lastRule}
 use Rattle.rows.specs.Rows.{row}
 use Rattle.rules.specs.Rules.{holdsIn}
 use Rattle.heads.specs.declared.Head.{Head}

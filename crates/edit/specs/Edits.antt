@@ -9,7 +9,7 @@ use Rattle.protocol.specs.Lists.{natural, oneTo}
 use Rattle.protocol.specs.Plan as model
 use Rattle.protocol.specs.Plan.{is, whole, split, kindOf, applied, value, keptLimit, ruleLimit, numberLimit}
 use Rattle.protocol.specs.Calls.{Check, _unless_, _when_, Verdict, fine, refused, first, apart, no22, no24, no25, no28, no30}
-use Rattle.protocol.specs.Numbering.{lastMeasure, lastEdit}
+use Rattle.protocol.specs.Sizes.{lastMeasure, lastEdit}
 use Rattle.change.specs.declared.Change.{Change}
 use Rattle.change.specs.declared.Change.the-variants.{Set}
 use Rattle.change.specs.declared.Made.{Made}
@@ -97,10 +97,9 @@ editHead h =
       drafted = h .drafted;
     }
 
--- a whole plan keeps no edit; side and measure are kept as bytes
+-- the record of an edit in a plan that keeps it; side and measure are kept as bytes
 abbrev pub editRecord : Head → ℕ → ℕ → ℕ → ℕ → Change → EditRecord
 editRecord h s client earlier m c =
-    cond (is whole (modeOf (h .mode))) noRecord
     record { change = c; fate = Unsent; side = s % 256; client = client; earlier = earlier; measure = m % 256; place = 0; replied = is split (modeOf (h .mode)) }
 
 abbrev pub editDecision : Head → Ruling → ℤ → ℕ → ℕ → ℕ → ℕ → Decision

@@ -206,7 +206,7 @@ pub fn edit_head(h: Head) -> Head
 {
     let mode = h.mode;
     let mut r = h;
-    r.next = rows::capped(h.next, 999999) as u32 + 1;
+    r.next = rows::capped(h.next, limit::NUMBERS) as u32 + 1;
     if is_whole(mode) {
         return r;
     }
@@ -214,14 +214,11 @@ pub fn edit_head(h: Head) -> Head
     r
 }
 
-// The record that is kept; none in a whole plan. A granted edit's side and measure are below 256.
+// The record of an edit in a plan that keeps it. A granted edit's side and measure are below 256.
 pub fn edit_record(h: Head, l: Line, change: Change) -> EditRecord
     ensures { λ r. ⌜ r ≡ editRecord h (natural (l .a)) (natural (l .b)) (natural (l .c)) (natural (l .d)) change ⌝ }
 {
     let mode = h.mode;
-    if is_whole(mode) {
-        return records::no_record();
-    }
     let replied = heads::mode_number(mode) == 2;
     let fate = Fate::Unsent;
     let side = (exact::number(l.a) % 256) as u8;

@@ -10,7 +10,7 @@ use Rattle.heads.specs.declared.Mode.the-variants.{Blank, Whole, Split, 
 use Rattle.heads.specs.declared.Head.{Head}
 use Rattle.protocol.specs.Lists.{countTo, natural}
 use Rattle.protocol.specs.Plan.{measureLimit, keptLimit}
-use Rattle.protocol.specs.Numbering.{lastSide, lastEdit}
+use Rattle.protocol.specs.Sizes.{lastSide, lastEdit}
 use lib.IntN.{ℤ}
 
 abbrev pub modeOf : Mode → model.Mode

@@ -1,4 +1,4 @@
-pub mod Rare
+pub mod Calls
 pub mod Frames
 pub mod Parting
 pub mod Moves

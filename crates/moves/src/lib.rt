@@ -11,7 +11,7 @@ ghost use Rattle.heads.specs.Heads.{modeOf};
 ghost use Rattle.moves.specs.Frames.{toldAs, deniedAs, frameFrom, movedTo, Anything, Moves, Waiting, Unsent};
 ghost use Rattle.moves.specs.Moves.{sendChecks, sendDecision, turnChecks, stopChecks, confirmChecks, installChecks, installHead};
 ghost use Rattle.moves.specs.Parting.{splitChecks, splitHead, joinHead, splitBase};
-ghost use Rattle.moves.specs.Rare.{moveCall, Counts};
+ghost use Rattle.moves.specs.Calls.{moveCall, Counts};
 ghost use Rattle.protocol.specs.Calls.{split-side, join, first, markSent, stop, confirm, install};
 ghost use Rattle.protocol.specs.Lists.{natural};
 ghost use Rattle.protocol.specs.Plan.{whole, is};

@@ -4,3 +4,4 @@ pub mod Calls
 pub mod History
 pub mod Trials
 pub mod Numbering
+pub mod Sizes

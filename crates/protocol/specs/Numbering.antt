@@ -1,24 +1,5 @@
--- Believed: the last place of each array, by 01's limits; and, for scaffolding alone, the numbers by which code knows the calls. Assumes nothing.
+-- Scaffolding: the numbers by which code knows the calls, in the order of 01; 0 is a line that cannot be read. Assumes nothing.
 use Prim.Native.Nat.{ℕ}
-
--- ---- the last place in a row of measures, among the rules, the sides, the kept edits; and how many values all sides have
-
-abbrev pub lastMeasure : ℕ
-lastMeasure = 31
-
-abbrev pub lastRule : ℕ
-lastRule = 63
-
-abbrev pub lastSide : ℕ
-lastSide = 7
-
-abbrev pub lastEdit : ℕ
-lastEdit = 255
-
-abbrev pub allValues : ℕ
-allValues = 256
-
--- ---- the calls; 0 is a line that cannot be read
 
 abbrev pub measureOp : ℕ
 measureOp = 1

@@ -1,4 +1,4 @@
-// The limits of 01, "The plan", as the definitions have them (specs/Plan), and the sizes of arrays that follow from them (specs/Numbering).
+// The limits of 01, "The plan", as the definitions have them (specs/Plan), and the sizes of arrays that follow from them (specs/Sizes).
 
 // ---- limits
 
@@ -14,6 +14,8 @@ pub const CLIENT: i32 = 999;
 
 // The last number that an edit is given.
 pub const NUMBER: u32 = 999999;
+
+pub const NUMBERS: usize = NUMBER as usize;
 
 // How far a measure and a rule's allowance may be from 0.
 pub const VALUE: i32 = 1000000;

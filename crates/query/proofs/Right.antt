@@ -25,7 +25,7 @@ use Rattle.state.proofs.View.{flags-unset}
 use Rattle.state.proofs.Meets.{fine-pass}
 use Rattle.query.specs.Reads.{fateAnswer, showChecks, leftNumber}
 use Rattle.query.proofs.Readings.{fate-is, left-by, show-checks, shown-row}
-use Rattle.counts.specs.Tallies.{settledIn, leftIn, missingIn, Counted, Tallied}
+use Rattle.counts.specs.Tallies.{settledIn, leftNoted, missingIn, Counted, Tallied}
 use Rattle.query.specs.declared.Reading.{Reading}
 use Rattle.query.specs.Readings.{readCall, alone, showBy, showReading, readingOf}
 use Rattle.writer.specs.Writes.{withRow}
@@ -36,7 +36,7 @@ alone-row (Refused k r) = refl
 alone-row (Given count a b c) = ap ok (append-nil (firstOf count a b c))
 
 -- counts made from the records, and the number left from them, are the plan's
-pub tallies-right : (p : Spread) (t : List ℕ) → Counted t (keptOf (p .head) (p .edits)) → length t ≡ 12 → leftIn t ≡ leftNumber (p .head) (p .arrived) (p .confirmed) t
+pub tallies-right : (p : Spread) (t : List ℕ) → Counted t (keptOf (p .head) (p .edits)) → length t ≡ 12 → leftNoted t ≡ leftNumber (p .head) (p .arrived) (p .confirmed) t
     (min (keptIn (p .head) - settledIn t) 256)
     → missingIn t ≡ unsetIn (p .arrived) (sidesIn (p .head)) → Tallied t (planOf p)
 tallies-right p t h l e m =
@@ -54,7 +54,7 @@ tallies-right p t h l e m =
 
 module _ (p : Spread) (t : List ℕ) (h : Tallied t (planOf p)) where
   abbrev pub readingIn : ℕ → ℤ → Reading
-  readingIn op a = readingOf op a (p .head) (namedAt (p .head) a) (getD (p .edits) (namedSlot (p .head) a) noRecord) (leftIn t)
+  readingIn op a = readingOf op a (p .head) (namedAt (p .head) a) (getD (p .edits) (namedSlot (p .head) a) noRecord) (leftNoted t)
 
   -- what is wanted of a reading
   Right : Reading → Stepped → Type 0

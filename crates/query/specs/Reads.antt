@@ -3,7 +3,7 @@ use Prim.Native.Nat.{ℕ, zero, suc, _+_}
 use mathlib.Core.Bool.{Bool, false, not, cond, _||_}
 use mathlib.Core.List.{List, [], _∷_}
 use lib.Dec.{eqb, leb, ltb}
-use lib.ListN.{getD, set, replicate}
+use lib.ListN.{getD, set}
 use Rattle.protocol.specs.Lists.{bit, oneTo, countTo}
 use Rattle.protocol.specs.Plan.{fateNumber, blank, joining, is, active, unsentOf}
 use Rattle.protocol.specs.Calls.{Check, _unless_}
@@ -13,6 +13,7 @@ use Rattle.heads.specs.Heads.{modeOf, sidesIn, indexOf, measuresIn, unsetIn}
 use Rattle.records.specs.Records.{fateOf, keptOf}
 use Rattle.state.specs.declared.Answer.{Answer}
 use Rattle.state.specs.Meets.{pair}
+use Rattle.counts.specs.Tallies.{noTallies}
 
 abbrev pub fateAnswer : ℕ → EditRecord → Answer
 fateAnswer i e = cond (eqb i 0) (pair 0 0) (pair (fateNumber (fateOf (e .fate))) (e .place))
@@ -26,7 +27,7 @@ pendingIn arrived unsent n = countTo (λ s. not (getD arrived (indexOf s) false)
 
 -- how many edits each of the first n sides has unsent, in an array for all the counts
 unfoldable pub unsentCounts : Head → List EditRecord → ℕ → List ℕ
-unsentCounts h es zero = replicate 12 0
+unsentCounts h es zero = noTallies
 unsentCounts h es (suc n) = set (unsentCounts h es n) n (unsentOf (suc n) (keptOf h es))
 
 abbrev pub leftNumber : Head → List Bool → List Bool → List ℕ → ℕ → ℕ

@@ -5,7 +5,7 @@ ghost use lib.ListN.{length, drop};
 ghost use mathlib.Core.Bool.{not, _||_};
 ghost use mathlib.Core.List.{_++_};
 ghost use mathlib.Core.Path.{_≡_};
-ghost use Rattle.counts.specs.Tallies.{settledIn, leftIn, missingIn, Counted};
+ghost use Rattle.counts.specs.Tallies.{settledIn, leftNoted, missingIn, Counted, tallyCount};
 ghost use Rattle.heads.specs.Heads.{modeOf, sidesIn, keptIn, unsetIn};
 ghost use Rattle.protocol.specs.Calls.{first, shown};
 ghost use Rattle.protocol.specs.Lists.{bit};
@@ -100,7 +100,7 @@ fn left_number<'a>(
 fn unsent_counts(edits: [EditRecord; limit::EDITS], h: Head) -> Tallies
     ensures { λ r. ⌜ r ≡ unsentCounts h edits 8 ⌝ }
 {
-    let mut counts = [0u32; 12];
+    let mut counts = [0u32; counts::TALLIES];
     let mut i: usize = 0;
     while i < limit::SIDES {
         let n = records::count(edits, h, Test::UnsentOf(i as u32 + 1));
@@ -242,8 +242,8 @@ pub fn tallies<'a>(
     arrived: &'a [bool; limit::SIDES],
     confirmed: &'a [bool; limit::SIDES],
 ) -> Tallies
-    ensures { λ r. ⌜ Counted r (keptOf h edits) × (length r ≡ 12) ×
-        (leftIn r ≡ leftNumber h (now (arrived .entry)) (now (confirmed .entry)) r (min (keptIn h - settledIn r) 256)) ×
+    ensures { λ r. ⌜ Counted r (keptOf h edits) × (length r ≡ tallyCount) ×
+        (leftNoted r ≡ leftNumber h (now (arrived .entry)) (now (confirmed .entry)) r (min (keptIn h - settledIn r) 256)) ×
         (missingIn r ≡ unsetIn (now (arrived .entry)) (sidesIn h)) ⌝ }
 {
     let mut t = unsent_counts(edits, h);

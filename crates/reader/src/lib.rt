@@ -284,22 +284,9 @@ fn call_of(code: u64) -> Call
     }
 }
 
-fn named_four(code: u64) -> Name
-    requires { ⌜ (4294967296 ≤ code) × (code < 8589934592) ⌝ }
-    ensures { λ r. ⌜ (r .op ≡ callOfCode code .op) × (r .count ≡ callOfCode code .count) × (r .end ≡ 4) ⌝ }
+fn named(call: Call, end: usize) -> Name
+    ensures { λ r. ⌜ r ≡ record { op = call .op; count = call .count; end = end } ⌝ }
 {
-    let call = call_of_four(code);
-    Name {
-        op: call.op,
-        count: call.count,
-        end: 4,
-    }
-}
-
-fn named(code: u64, end: usize) -> Name
-    ensures { λ r. ⌜ (r .op ≡ callOfCode code .op) × (r .count ≡ callOfCode code .count) × (r .end ≡ end) ⌝ }
-{
-    let call = call_of(code);
     Name {
         op: call.op,
         count: call.count,
@@ -331,25 +318,25 @@ fn read_name(sheet: &[u8]) -> Name
     ensures { λ r. ⌜ Named (firstLine (now (sheet .entry))) r ⌝ }
 {
     if sheet.len() < 4 {
-        return named(0, 0);
+        return named(call_of(0), 0);
     }
     let mut code = first_four(sheet);
     if ends(byte_at(sheet, 4)) {
-        return named_four(code);
+        return named(call_of_four(code), 4);
     }
     let mut i: usize = 4;
     while i < 7 {
         let b = byte_at(sheet, i);
         if ends(b) {
-            return named(code, i);
+            return named(call_of(code), i);
         }
         code = packed(code, b);
         i += 1;
     }
     if ends(byte_at(sheet, i)) {
-        return named(code, i);
+        return named(call_of(code), i);
     }
-    named(0, 0)
+    named(call_of(0), 0)
 }
 
 // ---- lines

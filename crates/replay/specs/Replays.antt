@@ -8,7 +8,7 @@ use Rattle.protocol.specs.Lists.{isNone, oneTo, count}
 use Rattle.protocol.specs.Plan as model
 use Rattle.protocol.specs.Plan.{active, isWaiting, isSettled, fits, applied, value, measureLimit, ruleLimit}
 use Rattle.protocol.specs.Calls.{Check, _unless_, _when_, Verdict, fine, refused, first}
-use Rattle.protocol.specs.Numbering.{lastMeasure}
+use Rattle.protocol.specs.Sizes.{lastMeasure}
 use Rattle.change.specs.declared.Change.{Change}
 use Rattle.change.specs.Change.{viewChange}
 use Rattle.rows.specs.Rows.{row}

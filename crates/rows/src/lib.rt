@@ -31,7 +31,7 @@ fn lesser(a: usize, b: usize) -> usize
 }
 
 // What an array of n has from a place on.
-fn rest(n: usize, at: usize) -> usize
+pub fn rest(n: usize, at: usize) -> usize
     ensures { λ r. ⌜ r ≡ n - at ⌝ }
 {
     if at < n { n - at } else { 0 }

@@ -249,21 +249,11 @@ fn listed(m: u32) -> usize
     0
 }
 
-// What an array of so many has from a place on.
-fn rest(len: usize, at: usize) -> usize
-    ensures { λ r. ⌜ r ≡ len - at ⌝ }
-{
-    if at < len {
-        return len - at;
-    }
-    0
-}
-
-// How many of n values from a place on it has.
+// How many of n values from a place on an array of so many has.
 fn room(len: usize, at: usize, n: usize) -> usize
     ensures { λ r. ⌜ r ≡ min n (len - at) ⌝ }
 {
-    let k = rest(len, at);
+    let k = rows::rest(len, at);
     if n < k {
         return n;
     }

@@ -2,7 +2,7 @@
 use mathlib.Core.Path.{_≡_}
 use lib.ListN.{length}
 use Rattle.protocol.specs.Plan.{measureLimit, ruleLimit, sideLimit, keptLimit}
-use Rattle.protocol.specs.Numbering.{allValues}
+use Rattle.protocol.specs.Sizes.{allValues}
 use Rattle.state.specs.Spread.{Spread}
 
 pub record Sized (p : Spread) : Type 0 where

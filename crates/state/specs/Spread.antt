@@ -18,7 +18,7 @@ use Rattle.records.specs.Records.{keptOf, noRecord, recordOf}
 use Rattle.state.specs.declared.State.{State}
 use Rattle.state.specs.declared.Answer.{Answer}
 use Rattle.state.specs.declared.Answer.the-variants.{Refused, Given}
-use Rattle.state.specs.Meets.{answerOf, refusal}
+use Rattle.state.specs.Meets.{answerOf, refusal, IfRefused}
 
 pub record Spread : Type 0 where
   pub head : Head
@@ -91,8 +91,7 @@ abbrev pub refusedAs : Spread → ℕ → SpreadAnswered
 refusedAs p k = record { state = p; answer = refusal k }
 
 abbrev pub SameIfRefused : Answer → Spread → Spread → Type 0
-SameIfRefused (Refused k r) p q = q ≡ p
-SameIfRefused (Given count a b c) p q = Unit {0}
+SameIfRefused a p q = IfRefused a (q ≡ p)
 
 pub record MeetsSpread (c : Call) (p : Spread) (r : SpreadAnswered) : Type 0 where
   pub answer : answerOf (r .answer) ≡ step c (planOf p) .answer

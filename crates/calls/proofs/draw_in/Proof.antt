@@ -13,8 +13,7 @@ use Rattle.calls.proofs.draw_in.Statement.{statement}
 use Rattle.calls.proofs.draw_in.Tie as tie
 use Rattle.calls.proofs.draw_in.Reads as reads
 use Rattle.calls.proofs.draw_in.Lts as lts
-use Rattle.calls.proofs.is_drawn.Reads as is-drawn-reads
-use Rattle.calls.proofs.is_opened.Reads as is-opened-reads
+use Rattle.calls.proofs.is_made.Reads as is-made-reads
 use Rattle.calls.proofs.note_index.Reads as note-index-reads
 use Rattle.calls.proofs.note_rule.Reads as note-rule-reads
 use Rattle.calls.proofs.plain_effect.Reads as plain-effect-reads
@@ -40,14 +39,14 @@ After-from-numbers-from-After-struct-told5 c = c .before .before .before .before
 abbrev Start-from-After-struct-told5 : tie.After-struct-told5 → tie.Start
 Start-from-After-struct-told5 c = c .before .before .before .before .before .before .before .before .before .before .before
 
-abbrev After-is-opened-from-After-plain-effect : tie.After-plain-effect → tie.After-is-opened
-After-is-opened-from-After-plain-effect c = c .before .before .before
+abbrev After-is-made2-from-After-plain-effect : tie.After-plain-effect → tie.After-is-made2
+After-is-made2-from-After-plain-effect c = c .before .before .before
 
 abbrev After-note-rule-from-After-plain-effect : tie.After-plain-effect → tie.After-note-rule
 After-note-rule-from-After-plain-effect c = c .before .before .before .before .before .before .before
 
-abbrev After-is-drawn-from-After-plain-effect : tie.After-plain-effect → tie.After-is-drawn
-After-is-drawn-from-After-plain-effect c = c .before .before .before .before .before .before .before .before .before .before .before .before
+abbrev After-is-made-from-After-plain-effect : tie.After-plain-effect → tie.After-is-made
+After-is-made-from-After-plain-effect c = c .before .before .before .before .before .before .before .before .before .before .before .before
 
 abbrev After-struct-told5-from-After-plain-effect : tie.After-plain-effect → tie.After-struct-told5
 After-struct-told5-from-After-plain-effect c = c .before .before .before .before .before .before .before .before .before .before .before .before .before .before
@@ -82,14 +81,14 @@ mul-value c = search needs
 element-set-from-value : tie.Need-element-set-from-value
 element-set-from-value c = search needs
 
-is-drawn-requires : tie.Need-is-drawn-requires
-is-drawn-requires c κs = search needs
+is-made-requires : tie.Need-is-made-requires
+is-made-requires c κs = search needs
 
 note-rule-requires : tie.Need-note-rule-requires
 note-rule-requires c κs = search needs
 
-is-opened-requires : tie.Need-is-opened-requires
-is-opened-requires c κs = search needs
+is-made-requires-2 : tie.Need-is-made-requires-2
+is-made-requires-2 c κs = search needs
 
 note-index-requires : tie.Need-note-index-requires
 note-index-requires c κs = search needs
@@ -118,11 +117,11 @@ returns c =
     ((After-capped-from-After-plain-effect c) .capped .ensures)
     (toZ-ofZ (fits32 (d .value) ((After-struct-told5-from-After-plain-effect c) .struct-told5 .given .1 .0 .1)))
     (((After-note-rule-from-After-plain-effect c) .note-rule .ensures)
-    ∙ (λ j. cond (((After-is-drawn-from-After-plain-effect c) .is-drawn .ensures) j) (withRule (a .table .now) (min (h .rules) 63) (to-a j) (to-b j) (to-c j) (to-d j)) (a .table .now)))
+    ∙ (λ j. cond (((After-is-made-from-After-plain-effect c) .is-made .ensures) j) (withRule (a .table .now) (min (h .rules) 63) (to-a j) (to-b j) (to-c j) (to-d j)) (a .table .now)))
     (((After-decide-draw-from-After-plain-effect c) .decide-draw .ensures)
     ∙ (λ j. drawDecision (l .op) (to-a j) (to-b j) (to-c j) (to-d j) h (lowers (a .table .now)) (gaps (a .table .now)) (uppers (a .table .now)) (a .values .now)))
-    (λ e. (c .before .before .note-index .ensures .0) (((After-is-opened-from-After-plain-effect c) .is-opened .ensures) ∙ e))
-    (λ e. (c .before .before .note-index .ensures .1) (((After-is-opened-from-After-plain-effect c) .is-opened .ensures) ∙ e)))
+    (λ e. (c .before .before .note-index .ensures .0) (((After-is-made2-from-After-plain-effect c) .is-made2 .ensures) ∙ e))
+    (λ e. (c .before .before .note-index .ensures .1) (((After-is-made2-from-After-plain-effect c) .is-made2 .ensures) ∙ e)))
 
 pub draw-in-spec : {M : Type 1} → statement M
 draw-in-spec =
@@ -133,9 +132,9 @@ draw-in-spec =
     decide-draw-requires
     mul-value
     element-set-from-value
-    is-drawn-requires
+    is-made-requires
     note-rule-requires
-    is-opened-requires
+    is-made-requires-2
     note-index-requires
     numbers-requires
     plain-effect-requires

@@ -8,7 +8,7 @@ use Rattle.heads.specs.Heads.{indexOf}
 use Rattle.heads.specs.Numbers.{headFrom}
 use Rattle.heads.proofs.Heads.{head-numbers}
 use Rattle.moves.specs.Frames.{frameFrom, movedTo, Moves}
-use Rattle.moves.specs.Rare.{moveCall, Counts}
+use Rattle.moves.specs.Calls.{moveCall, Counts}
 use Rattle.counts.specs.Tallies.{waitingIn, moveTally}
 use Rattle.calls.proofs.Makes.{lent, move-making}
 use borrow.Author.Needs.{needs}

@@ -2,7 +2,7 @@ use mathlib.Core.Path.{_≡_, refl, _∙_, sym, ap}
 use mir.Facts.{toZ-ofZ}
 use Rattle.exact.proofs.Ints.{fits32}
 use Rattle.query.specs.Readings.{readingOf}
-use Rattle.counts.specs.Tallies.{leftIn}
+use Rattle.counts.specs.Tallies.{leftNoted}
 use Rattle.calls.proofs.Makes.{lent, read-making}
 use borrow.Author.Needs.{needs}
 use Rattle.calls.proofs.read_in.Statement.{statement}
@@ -44,7 +44,7 @@ returns c =
     (λ base draft values arrived confirmed table index sound. lent ((After-from-numbers-from-After-plain-effect c) .from-numbers .ensures) refl
     (sym ((After-from-numbers-from-After-plain-effect c) .from-numbers .ensures))
     (read-making l h base draft values arrived confirmed table index (a .look) (a .counts .now) sound (s .pre .0) (s .pre .1) (c .before .read .result)
-    ((c .before .read .ensures) ∙ ap (λ y. readingOf (l .op) y h (a .look .named) (a .look .standing) (leftIn (a .counts .now))) to-a)))
+    ((c .before .read .ensures) ∙ ap (λ y. readingOf (l .op) y h (a .look .named) (a .look .standing) (leftNoted (a .counts .now))) to-a)))
 
 pub read-in-spec : {M : Type 1} → statement M
 read-in-spec =

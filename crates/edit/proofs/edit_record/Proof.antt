@@ -1,4 +1,4 @@
-use mathlib.Core.Path.{sym, ap, _∙_}
+use mathlib.Core.Path.{ap, _∙_}
 use mir.Facts.{toZ-ofZ}
 use Rattle.exact.proofs.Ints.{fits32}
 use Rattle.protocol.specs.Lists.{natural}
@@ -7,19 +7,8 @@ use Rattle.edit.proofs.edit_record.Statement.{statement}
 use Rattle.edit.proofs.edit_record.Tie as tie
 use Rattle.edit.proofs.edit_record.Reads as reads
 use Rattle.edit.proofs.edit_record.Lts as lts
-use Rattle.edit.proofs.is_whole.Reads as is-whole-reads
 use Rattle.exact.proofs.number.Reads as number-reads
 use Rattle.heads.proofs.mode_number.Reads as mode-number-reads
-use Rattle.records.proofs.no_record.Reads as no-record-reads
-
-is-whole-requires : tie.Need-is-whole-requires
-is-whole-requires c κs = search needs
-
-no-record-requires : tie.Need-no-record-requires
-no-record-requires c κs = search needs
-
-returns : tie.Need-returns
-returns c = rw (sym (c .before .before .is-whole .ensures) ∙ (c .before .if1 .taken)) (c .no-record .ensures)
 
 mode-number-requires : tie.Need-mode-number-requires
 mode-number-requires c κs = search needs
@@ -42,17 +31,15 @@ number-requires-4 c κs = search needs
 cast-measure : tie.Need-cast-measure
 cast-measure c = search needs
 
-returns-2 : tie.Need-returns-2
-returns-2 c =
-    let l = (c .before .before .before .before .before .before .before .before .before .before .before .args .l) in
+returns : tie.Need-returns
+returns c =
+    let l = (c .before .before .before .before .before .before .before .before .before .args .l) in
     let g = (c .before .before .before .before .before .before .before .struct-told .given) in
     let a = (c .before .before .before .before .before .before .number .ensures) ∙ ap natural (toZ-ofZ (fits32 (l .a) (g .1 .0 .1))) in
     let b = (c .before .before .before .before .number2 .ensures) ∙ ap natural (toZ-ofZ (fits32 (l .b) (g .1 .1 .0 .1))) in
     let e = (c .before .before .number3 .ensures) ∙ ap natural (toZ-ofZ (fits32 (l .c) (g .1 .1 .1 .0 .1))) in
     let m = (c .number4 .ensures) ∙ ap natural (toZ-ofZ (fits32 (l .d) (g .1 .1 .1 .1 .0 .1))) in
     rw (
-      sym (c .before .before .before .before .before .before .before .before .before .before .is-whole .ensures)
-          ∙ (c .before .before .before .before .before .before .before .before .before .if1 .left),
       (c .before .before .before .before .before .before .before .before .mode-number .ensures),
       a,
       b,
@@ -64,9 +51,6 @@ pub edit-record-spec : {M : Type 1} → statement M
 edit-record-spec =
     tie.close
     (tie.spec
-    is-whole-requires
-    no-record-requires
-    returns
     mode-number-requires
     number-requires
     cast-side
@@ -74,4 +58,4 @@ edit-record-spec =
     number-requires-3
     number-requires-4
     cast-measure
-    returns-2)
+    returns)

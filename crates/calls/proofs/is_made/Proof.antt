@@ -1,9 +1,9 @@
 use borrow.Author.Tests.{eq-eqb, ne-eqb}
 use borrow.Author.Needs.{needs}
-use Rattle.calls.proofs.is_opened.Statement.{statement}
-use Rattle.calls.proofs.is_opened.Tie as tie
-use Rattle.calls.proofs.is_opened.Reads as reads
-use Rattle.calls.proofs.is_opened.Lts as lts
+use Rattle.calls.proofs.is_made.Statement.{statement}
+use Rattle.calls.proofs.is_made.Tie as tie
+use Rattle.calls.proofs.is_made.Reads as reads
+use Rattle.calls.proofs.is_made.Lts as lts
 use Rattle.counts.proofs.accepted.Reads as accepted-reads
 
 accepted-requires : tie.Need-accepted-requires
@@ -15,5 +15,5 @@ returns c = rw (eq-eqb _ _ (c .before .if1 .taken)) (c .accepted .ensures)
 returns-2 : tie.Need-returns-2
 returns-2 c = rw (ne-eqb _ _ (c .if1 .left))
 
-pub is-opened-spec : {M : Type 1} → statement M
-is-opened-spec = tie.close (tie.spec accepted-requires returns returns-2)
+pub is-made-spec : {M : Type 1} → statement M
+is-made-spec = tie.close (tie.spec accepted-requires returns returns-2)
