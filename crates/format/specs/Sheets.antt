@@ -8,7 +8,7 @@ use lib.IntN.{ℤ}
 use lib.ListN.{length, drop}
 use Rattle.protocol.specs.Lists.{bit}
 use Rattle.protocol.specs.Plan.{Plan}
-use Rattle.protocol.specs.Calls.{Call, isRefusal, Answer, no, ok, Stepped, step, start}
+use Rattle.protocol.specs.Calls.{Call, isRefusal, Answer, no, ok, Stepped, step}
 use Rattle.format.specs.Numbers.{digits, written, nought}
 use Rattle.format.specs.Lines.{lineFeed, space, lines, lineCall}
 
@@ -47,7 +47,12 @@ unfolding lineStep text
 answerLines p [] = []
 answerLines p (l ∷ ls) = let r = lineStep l p in text (r .answer) ∷ answerLines (r .plan) ls
 
--- ---- the answers to a sheet
+-- the plan that lines leave
+abbrev pub leaves : Plan → List (List ℕ) → Plan
+leaves p [] = p
+leaves p (l ∷ ls) = leaves (lineStep l p .plan) ls
+
+-- ---- the answers to a sheet, on a plan: a run begins with the blank one
 
 abbrev pub sheetLimit : ℕ
 sheetLimit = 65536
@@ -55,9 +60,9 @@ sheetLimit = 65536
 abbrev pub tooLong : List ℕ → Bool
 tooLong sheet = ltb sheetLimit (length sheet)
 
-unfoldable pub replies : List ℕ → List (List ℕ)
+unfoldable pub replies : Plan → List ℕ → List (List ℕ)
 unfolding text answerLines lines
-replies sheet = cond (tooLong sheet) (text (no 52) ∷ []) (answerLines start (lines sheet))
+replies p sheet = cond (tooLong sheet) (text (no 52) ∷ []) (answerLines p (lines sheet))
 
 -- ---- the buffer
 
@@ -86,6 +91,6 @@ pub record Screened : Type 0 where
 abbrev pub screened : Fitted → List ℕ → Screened
 screened f buffer = record { number = 2 * length (f .bytes) + bit (f .ended); buffer = inFront (f .bytes) buffer }
 
-unfoldable pub screen : List ℕ → List ℕ → Screened
+unfoldable pub screen : Plan → List ℕ → List ℕ → Screened
 unfolding fitted replies
-screen sheet buffer = screened (fitted (length buffer) (replies sheet)) buffer
+screen p sheet buffer = screened (fitted (length buffer) (replies p sheet)) buffer

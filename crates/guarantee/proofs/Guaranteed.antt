@@ -10,9 +10,9 @@ use lib.Dec.{T, T-not, not-T, eqb, eqb→eq, leb, nltb→le}
 use lib.IntN.{ℤ, pos}
 use Rattle.protocol.specs.Lists.{bit, natural, countTo, count, all, snoc}
 use Rattle.protocol.specs.Plan.{Fate, unsent, waiting, accepted, revoked, fateNumber, fateIs, Kept, isWaiting, isOpen, Mode, blank, whole, split, joining, closing, is, active, Content, Plan, holds, sideAt, absentSide, lookup, unsentOf, pending, sidesThat}
-use Rattle.protocol.specs.Calls.{Call, measure, rule, open-plan, split-side, edit, join, send, replay, stop, confirm, install, show, fate-of, left, apart, Verdict, fine, refused, first, checks, further, editOf, after, gives, leftIn, Answer, no, ok, stepBy, step, start}
+use Rattle.protocol.specs.Calls.{Call, measure, rule, open-plan, split-side, edit, join, send, replay, stop, confirm, install, show, fate-of, left, apart, Verdict, fine, refused, first, checks, further, editOf, after, gives, leftIn, Answer, no, ok, stepBy, step, following, end, start}
 use Rattle.protocol.specs.History.{Settling, History, empty, entered, recorded, lastSent, closed, budget, isLate, listed, times, settledAs}
-use Rattle.guarantee.specs.Runs.{closes, edits, reads, isOk, accepts, following, noting, end, quiet, taken, run, Trace, begun, called}
+use Rattle.guarantee.specs.Runs.{closes, edits, reads, isOk, accepts, noting, quiet, taken, run, Trace, begun, called}
 use Rattle.guarantee.specs.Guarantee.{Able, Stuck, Underway, Completed, Installed, Guarantee, ForEveryList, ForEveryTrace}
 use Rattle.protocol.proofs.Laws.{on, decide, cases, yes-is, no-is, is-yes, is-no, both, which, or-right, neither, is-none-yes, range, in-range, Fine, Pass, passed, pass, count-to-zero, count-to-some, count-to-none, count-snoc, length-snoc, all-nth}
 use Rattle.protocol.proofs.Refusals.{AnswerAgreed, answer-agreed}

@@ -9,9 +9,9 @@ use lib.Dec.{T, leb}
 use lib.IntN.{ℤ, pos}
 use Rattle.protocol.specs.Lists.{bit, oneTo, natural, all, snoc}
 use Rattle.protocol.specs.Plan.{Plan, blank, whole, split, is, active, holds, sideAt}
-use Rattle.protocol.specs.Calls.{Call, isRefusal, edit, install, show, fate-of, left, no, ok, leftIn, step}
+use Rattle.protocol.specs.Calls.{Call, isRefusal, edit, install, show, fate-of, left, no, ok, leftIn, step, following, end}
 use Rattle.protocol.specs.History.{History, Settling, closed, budget, isLate, listed, times, settledAs, replayed, EachHolds}
-use Rattle.guarantee.specs.Runs.{closes, edits, reads, accepts, following, noting, end, quiet, closings, taken, fromBlank, Trace}
+use Rattle.guarantee.specs.Runs.{closes, edits, reads, accepts, noting, quiet, closings, taken, fromBlank, Trace}
 
 -- Each settled edit names 0 or an edit settled before it (settlings stand newest first).
 abbrev pub InOrder : List Settling → Type 0

@@ -6,7 +6,7 @@ use mathlib.Core.List.{List, [], _∷_}
 use lib.Dec.{eqb}
 use Rattle.protocol.specs.Lists.{bit}
 use Rattle.protocol.specs.Plan.{Plan}
-use Rattle.protocol.specs.Calls.{Call, measure, rule, open-plan, split-side, edit, join, send, replay, stop, confirm, install, show, fate-of, left, Answer, no, ok, step, start}
+use Rattle.protocol.specs.Calls.{Call, measure, rule, open-plan, split-side, edit, join, send, replay, stop, confirm, install, show, fate-of, left, Answer, no, ok, step, following, end, start}
 use Rattle.protocol.specs.History.{History, empty, recorded}
 
 -- ---- sorts of calls: closing moves, edits, reading calls, others
@@ -54,16 +54,9 @@ isOk (ok xs) = true
 abbrev pub accepts : Plan → Call → Bool
 accepts p c = isOk (step c p .answer)
 
--- the plan, and the history, that a call leaves
-abbrev pub following : Plan → Call → Plan
-following p c = step c p .plan
-
+-- the history that a call leaves
 abbrev pub noting : Plan → History → Call → History
 noting p h c = recorded c (step c p .answer) h
-
-abbrev pub end : List Call → Plan → Plan
-end [] p = p
-end (c ∷ cs) p = end cs (following p c)
 
 -- no edit of the list is accepted
 abbrev pub quiet : List Call → Plan → Bool

@@ -365,6 +365,14 @@ unfoldable pub step : Call → Plan → Stepped
 unfolding checks
 step c p = stepBy (first (checks c p)) c p
 
+-- the plan that a call leaves, and a list of calls made one after the other
+abbrev pub following : Plan → Call → Plan
+following p c = step c p .plan
+
+abbrev pub end : List Call → Plan → Plan
+end [] p = p
+end (c ∷ cs) p = end cs (following p c)
+
 -- the blank plan with nothing drawn
 abbrev pub start : Plan
 start = record { mode = blank; content = record { rules = []; next = 1; base = []; draft = []; sides = freshSide [] ∷ []; kept = [] } }

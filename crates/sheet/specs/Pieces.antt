@@ -8,12 +8,11 @@ use lib.ListN.{length, take, drop}
 use Rattle.protocol.specs.Plan.{Plan}
 use Rattle.protocol.specs.Calls.{no, start}
 use Rattle.format.specs.Lines.{lines}
-use Rattle.format.specs.Sheets.{text, answerLines, tooLong, inFront}
+use Rattle.format.specs.Sheets.{text, answerLines, leaves, tooLong, inFront}
 use Rattle.format.specs.Longest.{longestAnswer}
 use Rattle.state.specs.declared.State.{State}
 use Rattle.state.specs.View.{view}
 use Rattle.sheet.specs.declared.Piece.{Piece}
-use Rattle.sheet.specs.Door.{leaves}
 
 -- lines one behind the other
 abbrev pub flat : List (List ℕ) → List ℕ
