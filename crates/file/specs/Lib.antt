@@ -1,3 +1,4 @@
 pub mod Bytes
 pub mod Saved
 pub mod Loaded
+pub mod Walked

@@ -1,0 +1,5 @@
+pub mod Words
+pub mod Sums
+pub mod Chains
+pub mod Enough
+pub mod Walks
