@@ -1,9 +1,10 @@
 // Arithmetic on i32 that cannot overflow: the results are held by an i64. And a call's number as that of a side, measure, kind or edit.
 ghost use mathlib.Core.Path.{_≡_};
-ghost use lib.IntN.{_+ℤ_, _*ℤ_};
+ghost use lib.IntN.{negsuc, _+ℤ_, _*ℤ_};
 ghost use lib.Signed.{quotZ};
 ghost use Rattle.protocol.specs.Lists.{natural, isZero};
 ghost use Rattle.protocol.specs.Plan.{inRange};
+ghost use Rattle.exact.specs.Signs.{beyond};
 use protocol::limit;
 
 pub fn sum(a: i32, b: i32) -> i64
@@ -52,4 +53,24 @@ pub fn in_range(v: i32) -> bool
         limit::LEAST_VALUE..=limit::VALUE => true,
         _ => false,
     }
+}
+
+// A number put below 0.
+pub fn below(z: i32) -> i32
+    ensures { λ r. ⌜ r ≡ negsuc (natural z) ⌝ }
+{
+    if z < 0 {
+        return -1;
+    }
+    -1 - z
+}
+
+// What a number below 0 stands for; 0 for any other.
+pub fn behind(z: i32) -> u32
+    ensures { λ r. ⌜ r ≡ beyond z ⌝ }
+{
+    if z < 0 {
+        return (-1 - z) as u32;
+    }
+    0
 }

@@ -3,3 +3,4 @@ pub mod Sums
 pub mod Chains
 pub mod Enough
 pub mod Walks
+pub mod Cells

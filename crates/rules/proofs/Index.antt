@@ -10,6 +10,7 @@ use lib.Dec.{eqb, ltb, leb}
 use lib.IntN.{ℤ, pos, negsuc, _+ℤ_}
 use lib.ListN.{length, getD}
 use lib.Signed.{ltZ}
+use Rattle.exact.specs.Signs.{beyond}
 use Rattle.protocol.specs.Lists.{natural, oneTo, all, snoc}
 use Rattle.protocol.specs.Plan.{value}
 use Rattle.protocol.proofs.Laws.{cases, and-false, range, is-yes}
@@ -17,7 +18,7 @@ use Rattle.rows.specs.Rows.{span, row}
 use Rattle.rows.proofs.Spans.{span-next, span-over, all-span}
 use Rattle.rules.specs.Rules.{withValue, pairHolds, holdsAt, namesPair, namesAt, dueAt, testedIn, firmIn}
 use Rattle.rules.proofs.Rules.{value-row, value-outside, value-out, with-other}
-use Rattle.rules.specs.Index.{passing, placeOf, otherOf, beyond, otherAt, namingOf, namingsOf, namingHolds, sideHolds, namingAt, firstAt, lastAt, namingsIn, flagIn, Indexed, IndexedIf, listedAs, indexedIn, testedBy, firmBy}
+use Rattle.rules.specs.Index.{passing, placeOf, otherOf, otherAt, namingOf, namingsOf, namingHolds, sideHolds, namingAt, firstAt, lastAt, namingsIn, flagIn, Indexed, IndexedIf, listedAs, indexedIn, testedBy, firmBy}
 
 -- ---- what passes a test
 

@@ -10,9 +10,10 @@ use lib.Signed.{mag, ltZ}
 use mir.Syntax.{w32, w64}
 use mir.Val.{SFits}
 use borrow.Author.Tests.{ltb-true, lt-ltb, le-ltb, eq-eqb, ne-eqb}
+use Rattle.exact.specs.Signs.{beyond}
 use Rattle.exact.proofs.Ints.{mag-add}
 use Rattle.protocol.specs.Lists.{natural}
-use Rattle.rules.specs.Index.{beyond, sideHolds}
+use Rattle.rules.specs.Index.{sideHolds}
 
 lt-suc : (a b : ℤ) → ltZ (sucℤ a) (sucℤ b) ≡ ltZ a b
 lt-suc (pos a) (pos b) = leb·suc-suc (suc a) b

@@ -7,6 +7,7 @@ use lib.Dec.{eqb, leb}
 use lib.IntN.{ℤ, pos, negsuc, _+ℤ_}
 use lib.Signed.{ltZ}
 use lib.ListN.{length, getD, set}
+use Rattle.exact.specs.Signs.{beyond}
 use Rattle.protocol.specs.Lists.{natural, oneTo, count, all}
 use Rattle.protocol.specs.Plan as model
 use Rattle.protocol.specs.Plan.{measureLimit}
@@ -33,11 +34,6 @@ placeOf m k = cond (eqb k m) 33 (cond (oneTo measureLimit k) (k - 1) 32)
 -- the place of the upper measure as it is, where m is the lower one; else that of the lower one below 0
 abbrev pub otherOf : ℕ → ℕ → ℕ → ℤ
 otherOf m a b = cond (eqb a m) (pos (placeOf m b)) (negsuc (placeOf m a))
-
--- a number below 0 as that which it stands for
-abbrev pub beyond : ℤ → ℕ
-beyond (pos n) = 0
-beyond (negsuc n) = n
 
 abbrev pub namingOf : List ℕ → List ℤ → List ℕ → ℕ → ℕ → Naming
 namingOf lower gap upper m i = record { rule = pos i; other = otherOf m (getD lower i 0) (getD upper i 0); gap = getD gap i (pos 0) }

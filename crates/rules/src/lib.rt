@@ -8,10 +8,11 @@ ghost use lib.ListN.{length, getD};
 ghost use lib.Signed.{ltZ};
 ghost use Rattle.protocol.specs.Lists.{natural, count, bit as bitOf};
 ghost use Rattle.protocol.specs.Plan.{value};
+ghost use Rattle.exact.specs.Signs.{beyond};
 ghost use Rattle.rows.specs.Rows.{span, row};
 ghost use Rattle.rules.specs.Table.{lowers, gaps, uppers, firms, withRule};
 ghost use Rattle.rules.specs.Rules.{withValue, pairHolds, namesPair, namesAt, testedIn, firmIn};
-ghost use Rattle.rules.specs.Index.{placeOf, otherOf, beyond, withNaming, NoneAbove, Added, Indexed, listedAs, sideHolds, indexedIn, testedBy, firmBy};
+ghost use Rattle.rules.specs.Index.{placeOf, otherOf, withNaming, NoneAbove, Added, Indexed, listedAs, sideHolds, indexedIn, testedBy, firmBy};
 use protocol::limit;
 
 // The value of measure m in the row of n values that begins at a place; 0 where there is none.
@@ -126,26 +127,6 @@ fn place_of(k: u32, m: u32) -> i32
     32
 }
 
-// A number put below 0.
-fn below(z: i32) -> i32
-    ensures { λ r. ⌜ r ≡ negsuc (natural z) ⌝ }
-{
-    if z < 0 {
-        return -1;
-    }
-    -1 - z
-}
-
-// What a number below 0 stands for; 0 for any other.
-fn behind(z: i32) -> u32
-    ensures { λ r. ⌜ r ≡ beyond z ⌝ }
-{
-    if z < 0 {
-        return (-1 - z) as u32;
-    }
-    0
-}
-
 // The other measure of rule i, which names measure m.
 fn other_of(table: &Table, i: usize, m: u32) -> i32
     requires { ⌜ i < 64 ⌝ }
@@ -155,7 +136,7 @@ fn other_of(table: &Table, i: usize, m: u32) -> i32
     if a == m {
         return place_of(upper_of(table, i), m);
     }
-    below(place_of(a, m))
+    exact::below(place_of(a, m))
 }
 
 fn put_naming(index: &mut Index, k: usize, i: i32, o: i32, g: i32)
@@ -265,7 +246,7 @@ fn place_in(o: i32) -> usize
     ensures { λ r. ⌜ r ≡ natural o + beyond o ⌝ }
 {
     if o < 0 {
-        return behind(o) as usize;
+        return exact::behind(o) as usize;
     }
     exact::number(o) as usize
 }

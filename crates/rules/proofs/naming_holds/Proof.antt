@@ -8,13 +8,14 @@ use lib.ListN.{getD}
 use lib.Signed.{ltZ}
 use mir.Facts.{toZ-ofZ}
 use borrow.Author.Tests.{ltb-true}
+use Rattle.exact.specs.Signs.{beyond}
 use Rattle.exact.proofs.Ints.{flag, fits32, fits64, wide, wide-fits, natural-below}
 use Rattle.protocol.specs.Lists.{natural}
 use Rattle.protocol.specs.Plan.{value}
 use Rattle.rows.specs.Rows.{row}
-use Rattle.rules.specs.Index.{beyond, otherAt, sideHolds}
+use Rattle.rules.specs.Index.{otherAt, sideHolds}
 use Rattle.rules.proofs.Index.{near-is, far-side}
-use Rattle.rules.proofs.Signs.{behind-none}
+use Rattle.exact.proofs.Signs.{behind-none}
 use borrow.Author.Needs.{needs}
 use Rattle.rules.proofs.naming_holds.Statement.{statement}
 use Rattle.rules.proofs.naming_holds.Tie as tie

@@ -10,7 +10,7 @@ use Rattle.rules.proofs.other_of.Statement.{statement}
 use Rattle.rules.proofs.other_of.Tie as tie
 use Rattle.rules.proofs.other_of.Reads as reads
 use Rattle.rules.proofs.other_of.Lts as lts
-use Rattle.rules.proofs.below.Reads as below-reads
+use Rattle.exact.proofs.below.Reads as below-reads
 use Rattle.rules.proofs.lower_of.Reads as lower-of-reads
 use Rattle.rules.proofs.place_of.Reads as place-of-reads
 use Rattle.rules.proofs.upper_of.Reads as upper-of-reads

@@ -3,15 +3,15 @@ use mathlib.Core.Path.{ap, _∙_}
 use mir.Facts.{toZ-ofZ}
 use Rattle.exact.proofs.Ints.{flag, natural-below}
 use Rattle.protocol.specs.Lists.{natural}
-use Rattle.rules.specs.Index.{beyond}
-use Rattle.rules.proofs.Signs.{behind-none}
+use Rattle.exact.specs.Signs.{beyond}
+use Rattle.exact.proofs.Signs.{behind-none}
 use borrow.Author.Needs.{needs}
 use Rattle.rules.proofs.place_in.Statement.{statement}
 use Rattle.rules.proofs.place_in.Tie as tie
 use Rattle.rules.proofs.place_in.Reads as reads
 use Rattle.rules.proofs.place_in.Lts as lts
 use Rattle.exact.proofs.number.Reads as number-reads
-use Rattle.rules.proofs.behind.Reads as behind-reads
+use Rattle.exact.proofs.behind.Reads as behind-reads
 
 behind-requires : tie.Need-behind-requires
 behind-requires c κs = search needs

@@ -10,7 +10,7 @@ use mir.Syntax.{w32}
 use mir.Val.{SFits}
 use borrow.Author.Tests.{ltb-true, le-ltb}
 use Rattle.protocol.specs.Lists.{natural}
-use Rattle.rules.specs.Index.{beyond}
+use Rattle.exact.specs.Signs.{beyond}
 
 minus-pos : (n : ℕ) → negsuc 0 -ℤ pos n ≡ negsuc n
 minus-pos zero = refl

@@ -1,12 +1,12 @@
 use mathlib.Core.Path.{sym, ap, _∙_}
 use lib.IntN.{pos}
 use mir.Facts.{toZ-ofZ, fits-natAbs}
 use Rattle.exact.proofs.Ints.{flag}
-use Rattle.rules.proofs.Signs.{behind-is, behind-fits, behind-none}
-use Rattle.rules.proofs.behind.Statement.{statement}
-use Rattle.rules.proofs.behind.Tie as tie
-use Rattle.rules.proofs.behind.Reads as reads
-use Rattle.rules.proofs.behind.Lts as lts
+use Rattle.exact.proofs.Signs.{behind-is, behind-fits, behind-none}
+use Rattle.exact.proofs.behind.Statement.{statement}
+use Rattle.exact.proofs.behind.Tie as tie
+use Rattle.exact.proofs.behind.Reads as reads
+use Rattle.exact.proofs.behind.Lts as lts
 
 sub-result : tie.Need-sub-result
 sub-result c =

@@ -1,12 +1,12 @@
 use mathlib.Core.Path.{sym, ap, _∙_}
 use lib.IntN.{negsuc}
 use mir.Facts.{toZ-ofZ}
 use Rattle.exact.proofs.Ints.{flag, natural-below}
-use Rattle.rules.proofs.Signs.{below-is, below-fits}
-use Rattle.rules.proofs.below.Statement.{statement}
-use Rattle.rules.proofs.below.Tie as tie
-use Rattle.rules.proofs.below.Reads as reads
-use Rattle.rules.proofs.below.Lts as lts
+use Rattle.exact.proofs.Signs.{below-is, below-fits}
+use Rattle.exact.proofs.below.Statement.{statement}
+use Rattle.exact.proofs.below.Tie as tie
+use Rattle.exact.proofs.below.Reads as reads
+use Rattle.exact.proofs.below.Lts as lts
 
 returns : tie.Need-returns
 returns c = ap negsuc (sym (natural-below (c .before .args .z) (flag _ (c .before .fits .z) (c .if1 .taken))))
