@@ -24,16 +24,18 @@ pub total-slot : (s : List ℕ) → length s ≡ 16 → total s ≡ fourAt s 0 +
 unfolding total fourAt twoAt
 total-slot s e = ap total (cells-of 16 0 s e) ∙ omega arith
 
--- a word of a slot is one of the file
+-- half a word of a slot, and a word, is one of the file
+pub two-slot : (f : List ℕ) (k i : ℕ) → i ≤ 14 → twoAt (slotIn f k) i ≡ twoAt f (16 * k + i)
+unfolding twoAt
+two-slot f k i h =
+    let e : 16 * k + (i + 1) ≡ 16 * k + i + 1 = omega arith in
+    ap₂ (λ x y. x + 256 * y) (slot-byte f k i (omega arith)) (slot-byte f k (i + 1) (omega arith) ∙ ap (λ n. getD f n 0) e)
+
 pub four-slot : (f : List ℕ) (k i : ℕ) → i ≤ 12 → fourAt (slotIn f k) i ≡ fourAt f (16 * k + i)
-unfolding fourAt twoAt
+unfolding fourAt
 four-slot f k i h =
-    let at : (j : ℕ) → j < 16 → (m : ℕ) → m ≡ 16 * k + j → getD (slotIn f k) j 0 ≡ getD f m 0 = λ j l m e. slot-byte f k j l ∙ ap (λ x. getD f x 0) (sym e) in
-    let a = at i (omega arith) (16 * k + i) refl in
-    let b = at (i + 1) (omega arith) (16 * k + i + 1) (omega arith) in
-    let c = at (i + 2) (omega arith) (16 * k + i + 2) (omega arith) in
-    let d = at (i + 2 + 1) (omega arith) (16 * k + i + 2 + 1) (omega arith) in
-    ap₂ (λ x y. x + 65_536 * y) (ap₂ (λ x y. x + 256 * y) a b) (ap₂ (λ x y. x + 256 * y) c d)
+    let e : 16 * k + (i + 2) ≡ 16 * k + i + 2 = omega arith in
+    ap₂ (λ x y. x + 65_536 * y) (two-slot f k i (omega arith)) (two-slot f k (i + 2) (omega arith) ∙ ap (twoAt f) e)
 
 -- a part of a list in two parts
 pub take-both : {A : Type 0} (a b : ℕ) (xs : List A) → take (a + b) xs ≡ take a xs ++ take b (drop a xs)

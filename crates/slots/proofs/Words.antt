@@ -7,16 +7,17 @@ use mathlib.Core.List.{List, [], _∷_, _++_}
 use borrow.Author.Tests.{lt-ltb, le-ltb, ltb-true}
 use lib.Dec.{T, ltb}
 use lib.IntN.{ℤ, pos, negsuc}
-use lib.ListN.{length, take, set, length-set}
-use lib.Seq.{sets, length-sets}
+use lib.ListN.{length, getD, take, set, length-set}
+use lib.Seq.{sets}
 use lib.Signed.{ltZ}
 use Rattle.protocol.specs.Lists.{natural, neg, bit}
 use Rattle.exact.specs.Signs.{beyond}
 use Rattle.file.specs.Bytes.{wordSize, twoAt, fourAt, fourBytes, signed, complement, total}
 use Rattle.file.specs.Loaded.{slotIn, slots}
-use Rattle.file.proofs.Cells.{four-slot, total-more}
+use Rattle.file.proofs.Cells.{two-slot, four-slot, total-more}
+use Rattle.file.proofs.Chains.{slot-byte}
 use Rattle.slots.specs.declared.Slot.{Slot}
-use Rattle.slots.specs.Words.{wordsOf, noWords, wordsIn, sumOf, bytesOf, putIn}
+use Rattle.slots.specs.Words.{wordsOf, noWords, wordsIn, Parted, sumOf, bytesOf, putIn}
 
 -- ---- reading
 
@@ -33,6 +34,18 @@ module _ (f : List ℕ) (k : ℕ) (h : k < length f / 16) where
       let z = slot-word 8 (at + 8) (omega arith) (omega arith) c r in
       let w = slot-word 12 (at + 12) (omega arith) (omega arith) d s in
       rw (lt-ltb k (length f / 16) h) (λ i. record { first = x i; second = y i; third = z i; fourth = w i })
+
+  -- and what is known of its bytes
+  pub read-parted : (at : ℕ) → at ≡ 16 * k → twoAt f at < 65_536 → getD f (at + 2) 0 < 256 → twoAt f (at + 4) < 65_536 → twoAt f (at + 12) < 65_536 → Parted (slotIn f k)
+  read-parted at e a b c d = record {
+    next = subst (λ n. n < 65_536) (sym (half 0 at (omega arith) (omega arith))) a;
+    mark = subst (λ n. n < 256) (sym (slot-byte f k 2 (omega arith) ∙ ap (λ n. getD f n 0) (omega (arith, e)))) b;
+    lower = subst (λ n. n < 65_536) (sym (half 4 (at + 4) (omega arith) (omega arith))) c;
+    count = subst (λ n. n < 65_536) (sym (half 12 (at + 12) (omega arith) (omega arith))) d;
+  }
+    where
+      half : (i m : ℕ) → i ≤ 12 → m ≡ 16 * k + i → twoAt (slotIn f k) i ≡ twoAt f m
+      half i m l x = two-slot f k i (omega arith) ∙ ap (twoAt f) (sym x)
 
   -- the sum of the first slots, with one more
   pub sum-more : (s : ℕ) (w : Slot) → s ≡ total (take (16 * k) f) % wordSize → w ≡ wordsIn f k → (s + sumOf w) % wordSize ≡ total (take (16 * suc k) f) % wordSize

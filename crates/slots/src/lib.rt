@@ -3,9 +3,10 @@ ghost use mathlib.Core.Path.{_≡_};
 ghost use Prim.Native.Nat.{_+_, _*_, _/_, _%_, _<_, _≤_};
 ghost use lib.ListN.{length, take};
 ghost use lib.Seq.{sets};
-ghost use Rattle.file.specs.Bytes.{wordSize, twoAt, fourAt, fourBytes, signed, complement, kindBits, firmBit, highBits, mark, total};
-ghost use Rattle.file.specs.Loaded.{slots};
-ghost use Rattle.slots.specs.Words.{wordsIn, sumOf, joinedWord, putIn};
+ghost use Rattle.file.specs.Bytes.{wordSize, byteAt, twoAt, fourAt, fourBytes, signed, complement, kindBits, firmBit, highBits, mark, total};
+ghost use Rattle.file.specs.Loaded.{slotIn, slots};
+ghost use Rattle.slots.specs.Words.{wordsIn, Parted, sumOf, joinedWord, putIn};
+ghost use Rattle.slots.specs.Parts.{fitsKind};
 
 // Bytes of a slot.
 pub const SIZE: usize = 16;
@@ -36,21 +37,21 @@ fn wide(x: u8) -> u32
 
 fn two(f: &[u8], at: usize) -> u32
     requires { ⌜ at + 2 ≤ length (now f) ⌝ }
-    ensures { λ r. ⌜ (r ≡ twoAt (now (f .entry)) at) × (r < 65536) ⌝ }
+    ensures { λ r. ⌜ (r ≡ twoAt (now (f .entry)) at) × (r < 65536) × (byteAt (now (f .entry)) at < 256) ⌝ }
 {
     wide(f[at]) + 256 * wide(f[at + 1])
 }
 
 fn word(f: &[u8], at: usize) -> u32
     requires { ⌜ at + 4 ≤ length (now f) ⌝ }
-    ensures { λ r. ⌜ r ≡ fourAt (now (f .entry)) at ⌝ }
+    ensures { λ r. ⌜ (r ≡ fourAt (now (f .entry)) at) × (twoAt (now (f .entry)) at < 65536) × (byteAt (now (f .entry)) (at + 2) < 256) ⌝ }
 {
     two(f, at) + 65536 * two(f, at + 2)
 }
 
 // Slot k of a file; nought where the file has none.
 pub fn read(f: &[u8], k: usize) -> Slot
-    ensures { λ r. ⌜ r ≡ wordsIn (now (f .entry)) k ⌝ }
+    ensures { λ r. ⌜ (r ≡ wordsIn (now (f .entry)) k) × (k < slots (now (f .entry)) → Parted (slotIn (now (f .entry)) k)) ⌝ }
 {
     if k < f.len() / SIZE {
         let at = SIZE * k;
@@ -148,13 +149,13 @@ pub fn last_byte(w: u32) -> u32
     w / 16777216
 }
 
-pub fn kind(m: u8) -> u8
+pub fn kind_of(m: u8) -> u8
     ensures { λ r. ⌜ r ≡ kindBits m ⌝ }
 {
     m & 3
 }
 
-pub fn firm(m: u8) -> bool
+pub fn firm_of(m: u8) -> bool
     ensures { λ r. ⌜ r ≡ firmBit m ⌝ }
 {
     (m >> 2) & 1 == 1
@@ -171,6 +172,32 @@ pub fn mark_of(kind: u8, firm: bool) -> u8
     ensures { λ r. ⌜ r ≡ mark (kindBits kind) firm ⌝ }
 {
     if firm { (kind & 3) | 4 } else { kind & 3 }
+}
+
+// A slot is of a kind, and nothing is set in it that must be nought.
+pub fn fits(kind: u8, w: Slot) -> bool
+    ensures { λ t. ⌜ t ≡ fitsKind kind w ⌝ }
+{
+    let m = mark_byte(w.first);
+    if kind_of(m) != kind {
+        return false;
+    }
+    if high_bits(m) != 0 {
+        return false;
+    }
+    if last_byte(w.first) != 0 {
+        return false;
+    }
+    if w.fourth != 0 {
+        return false;
+    }
+    if kind != MEASURE {
+        return true;
+    }
+    if firm_of(m) {
+        return false;
+    }
+    w.third == 0
 }
 
 // ---- writing

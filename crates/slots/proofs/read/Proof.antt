@@ -1,6 +1,6 @@
 use mathlib.Core.Path.{refl}
 use native.Mathlib.Omega.{arith}
-use Rattle.slots.proofs.Words.{read-in, read-none}
+use Rattle.slots.proofs.Words.{read-in, read-parted, read-none}
 use borrow.Author.Needs.{needs}
 use Rattle.slots.proofs.read.Statement.{statement}
 use Rattle.slots.proofs.read.Tie as tie
@@ -34,11 +34,17 @@ word-requires-4 c κs = search needs
 
 returns : tie.Need-returns
 returns c =
-    read-in ((c .before .before .before .before .before .before .args .f .now)) ((c .before .before .before .before .before .before .args .k)) (c .before .before .before .before .if1 .taken) _ _ _ _ _ refl (c .before .before .before .word .ensures) (c .before .before .word2 .ensures) (c .before .word3 .ensures) (c .word4 .ensures)
+    let s = c .before .before .before .before .before .before .args in
+    let h = c .before .before .before .before .if1 .taken in
+    let p = c .before .before .before .word .ensures in
+    let q = c .before .before .word2 .ensures in
+    let r = c .before .word3 .ensures in
+    let u = c .word4 .ensures in
+    (read-in (s .f .now) (s .k) h _ _ _ _ _ refl (p .0) (q .0) (r .0) (u .0), λ x. read-parted (s .f .now) (s .k) h _ refl (p .1) (p .2) (q .1) (u .1))
 
 returns-2 : tie.Need-returns-2
 returns-2 c =
-    read-none ((c .before .before .args .f .now)) ((c .before .before .args .k)) (omega (arith, (c .if1 .left)))
+    (read-none ((c .before .before .args .f .now)) ((c .before .before .args .k)) (omega (arith, (c .if1 .left))), λ x. absurd (omega (arith, (c .if1 .left), x)))
 
 pub read-spec : {M : Type 1} → statement M
 read-spec =

@@ -40,7 +40,7 @@ loop-again c =
     let k = (c .before .before .before .loop .k) in
     let t = (c .before .before .loop-test .taken) in
     let e : k + 1 ≡ suc k = omega arith in
-    (omega (arith, t), (c .added .ensures) ∙ sum-more f k t _ _ (c .before .before .before .loop .inv .1) (c .before .read .ensures) ∙ ap (λ n. total (take (16 * n) f) % wordSize) (sym e))
+    (omega (arith, t), (c .added .ensures) ∙ sum-more f k t _ _ (c .before .before .before .loop .inv .1) (c .before .read .ensures .0) ∙ ap (λ n. total (take (16 * n) f) % wordSize) (sym e))
 
 returns : tie.Need-returns Inv-loop μ-loop
 returns c =

@@ -1,6 +1,6 @@
-use Prim.Native.Nat.{_+_, _*_}
+use Prim.Native.Nat.{_+_, _*_, _<_}
 use native.Mathlib.Omega.{arith}
-use mathlib.Core.Path.{ap₂}
+use mathlib.Core.Path.{ap₂, subst}
 use Rattle.file.specs.Bytes.{twoAt}
 use borrow.Author.Needs.{needs}
 use Rattle.slots.proofs.two.Statement.{statement}
@@ -33,7 +33,9 @@ add-result c = search needs
 returns : tie.Need-returns
 unfolding twoAt
 returns c =
-    (ap₂ (λ x y. x + 256 * y) ((c .before .before .wide .ensures .0)) ((c .wide2 .ensures .0)), omega (arith, (c .before .before .wide .ensures .1), (c .wide2 .ensures .1)))
+    let a = (c .before .before .wide .ensures) in
+    let b = (c .wide2 .ensures) in
+    (ap₂ (λ x y. x + 256 * y) (a .0) (b .0), omega (arith, a .1, b .1), subst (λ n. n < 256) (a .0) (a .1))
 
 pub two-spec : {M : Type 1} → statement M
 two-spec =

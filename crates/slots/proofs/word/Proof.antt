@@ -1,5 +1,5 @@
-use Prim.Native.Nat.{_+_, _*_}
-use mathlib.Core.Path.{ap₂}
+use Prim.Native.Nat.{_+_, _*_, _<_}
+use mathlib.Core.Path.{ap₂, subst}
 use Rattle.file.specs.Bytes.{fourAt}
 use borrow.Author.Needs.{needs}
 use Rattle.slots.proofs.word.Statement.{statement}
@@ -25,7 +25,10 @@ add-result c = search needs
 
 returns : tie.Need-returns
 unfolding fourAt
-returns c = ap₂ (λ x y. x + 65536 * y) ((c .before .two .ensures .0)) ((c .two2 .ensures .0))
+returns c =
+    let a = (c .before .two .ensures) in
+    let b = (c .two2 .ensures) in
+    (ap₂ (λ x y. x + 65536 * y) (a .0) (b .0), subst (λ n. n < 65536) (a .0) (a .1), b .2)
 
 pub word-spec : {M : Type 1} → statement M
 word-spec = tie.close (tie.spec two-requires add-two two-requires-2 mul-result add-result returns)
