@@ -18,7 +18,6 @@ use Rattle.format.specs.Sheets.{stepOf}
 use Rattle.rows.specs.Rows.{row}
 use Rattle.rules.specs.Index.{Indexed, testedBy, firmBy}
 use Rattle.rules.specs.Table.{lowers, gaps, uppers, firms, withRule}
-use Rattle.rules.proofs.Table.{rule-length, rule-lower, rule-gap, rule-upper, rule-firm}
 use Rattle.heads.specs.declared.Head.{Head}
 use Rattle.heads.specs.Heads.{modeOf, sidesIn, indexOf, namedAt, slotAt, namedSlot}
 use Rattle.records.specs.declared.EditRecord.{EditRecord}
@@ -50,9 +49,8 @@ use Rattle.moves.specs.declared.Sending.{Sending}
 use Rattle.moves.specs.Moves.{sendDecision, Marked}
 use Rattle.moves.proofs.Sends.{send-few}
 use Rattle.moves.proofs.Moves.{Named, send-decided}
-use Rattle.draw.specs.declared.Drawing.{Drawing}
-use Rattle.draw.specs.Draw.{drawCall, drawDecision, drawnIn}
-use Rattle.draw.proofs.Draw.{draw-decided, drawn-sized}
+use Rattle.draw.specs.Draw.{drawCall, Drawn}
+use Rattle.draw.proofs.Draw.{MeetsDrawn, drawn-meets}
 use Rattle.query.specs.declared.Reading.{Reading}
 use Rattle.query.specs.Readings.{readCall, readingOf}
 use Rattle.query.proofs.Right.{alone-row, readingIn, reading-right, reading-bounds}
@@ -453,76 +451,36 @@ module _ (l : Line) (h : Head) (base draft values : List ℤ) (arrived confirmed
 
 -- ---- the calls that draw
 
--- the rule table as lists, with a rule written anew, if one was drawn
-record Booked (drawn : Bool) (table table′ : List ℤ) (i : ℕ) (a c b f : ℤ) : Type 0 where
-  pub lower : lowers table′ ≡ cond drawn (set (lowers table) i (natural a)) (lowers table)
-  pub gap : gaps table′ ≡ cond drawn (set (gaps table) i c) (gaps table)
-  pub upper : uppers table′ ≡ cond drawn (set (uppers table) i (natural b)) (uppers table)
-  pub firm : firms table′ ≡ cond drawn (set (firms table) i (eqb (natural f) 1)) (firms table)
-  pub long : length table′ ≡ 256
-
-booked : (drawn : Bool) (table : List ℤ) (i : ℕ) (a c b f : ℤ) → i < 64 → length table ≡ 256 → Booked drawn table (cond drawn (withRule table i a c b f) table) i a c b f
-booked true table i a c b f h l = record {
-  lower = rule-lower table i a c b f h l;
-  gap = rule-gap table i a c b f h l;
-  upper = rule-upper table i a c b f h l;
-  firm = rule-firm table i a c b f h l;
-  long = rule-length table i a c b f h l;
-}
-booked false table i a c b f h l = record { lower = refl; gap = refl; upper = refl; firm = refl; long = l }
-
 module _ (l : Line) (h : Head) (base draft values : List ℤ) (arrived confirmed : List Bool) (table : List ℤ) (index : List ℤ) (look : Look) (t : List ℕ) (sound : Bool) where
-  pub draw-making : isDraw (l .op) ≡ true → {spot : ℕ} {v : ℤ} {table′ : List ℤ} {index′ : List ℤ} (d : Drawing)
-      → spot ≡ min (h .measures) 31 → v ≡ d .value → table′ ≡ cond (eqb (l .op) 2 && isAccepted (d .answer)) (withRule table (min (h .rules) 63) (l .a) (l .b) (l .c) (l .d)) table
-      → d ≡ drawDecision (l .op) (l .a) (l .b) (l .c) (l .d) h (lowers table) (gaps table) (uppers table) values
-      → ((eqb (l .op) 3 && isAccepted (d .answer)) ≡ true → Indexed index′ (lowers table′) (gaps table′) (uppers table′) (firms table′) (min (d .head .rules) 64))
-      → ((eqb (l .op) 3 && isAccepted (d .answer)) ≡ false → index′ ≡ index)
-      → Making l h base draft values arrived confirmed table index look t sound (plain (d .answer)) (d .head) base draft (set values spot v) arrived confirmed table′ index′ t
-  draw-making op {spot = spot} {v = v} {table′ = table′} {index′ = index′} d spot-is v-is table-is d-is new old = record {
+  pub draw-making : isDraw (l .op) ≡ true → {r : Answer} {h′ : Head} {values′ table′ index′ : List ℤ} → Drawn (l .op) (l .a) (l .b) (l .c) (l .d) h values table r h′ values′ table′
+      → ((eqb (l .op) 3 && isAccepted r) ≡ true → Indexed index′ (lowers table′) (gaps table′) (uppers table′) (firms table′) (min (h′ .rules) 64))
+      → ((eqb (l .op) 3 && isAccepted r) ≡ false → index′ ≡ index)
+      → Making l h base draft values arrived confirmed table index look t sound (plain r) h′ base draft values′ arrived confirmed table′ index′ t
+  draw-making op {r} {h′} {values′} {table′} {index′} stored new old = record {
     slot = omega arith;
     marked = omega arith;
     made = λ edits after k m.
         let x = stateOf h base draft values arrived confirmed table edits in
-        let p = spread x in
-        let n = min (h .rules) 63 in
-        let drawn = eqb (l .op) 2 && isAccepted (d .answer) in
-        let b : Booked drawn table table′ n (l .a) (l .b) (l .c) (l .d) = subst (λ y. Booked drawn table y n (l .a) (l .b) (l .c) (l .d)) (sym table-is)
-        (booked drawn table n (l .a) (l .b) (l .c) (l .d) (omega arith) (k .long)) in
-        let q = stateOf (d .head) base draft (set values spot v) arrived confirmed table′ after in
-        let q′ = drawnIn p d drawn (l .a) (l .b) (l .c) (l .d) in
+        let q = stateOf h′ base draft values′ arrived confirmed table′ after in
         let c = drawCall (l .op) (l .a) (l .b) (l .c) (l .d) in
-        let meets : MeetsSpread c p (record { state = q′; answer = d .answer }) = rw d-is (draw-decided (l .op) (l .a) (l .b) (l .c) (l .d) p (k .sized)) in
-        let drawn-state : spread q ≡ q′ =
-        (let a = m .none refl in λ j. record {
-          head = d .head;
-          base = base;
-          draft = draft;
-          values = set values (spot-is j) (v-is j);
-          arrived = arrived;
-          confirmed = confirmed;
-          lower = b .lower j;
-          gap = b .gap j;
-          upper = b .upper
-              j;
-          firm = b .firm j;
-          edits = a j;
-        }) in
-        let here : MeetsSpread c p (record { state = spread q; answer = d .answer }) = subst (λ s. MeetsSpread c p (record { state = s; answer = d .answer })) (sym {A = Spread} drawn-state) meets in
-        let made = meets-made c p (record { state = spread q; answer = d .answer }) here in
-        let same : IfRefused (d .answer) (q ≡ x) = same-if (d .answer) x q
-        (λ y. table-is ∙ ap (λ w. cond w (withRule table n (l .a) (l .b) (l .c) (l .d)) table) (ap (λ w. eqb (l .op) 2 && w) y ∙ and-false (eqb (l .op) 2))) (here .same) in
+        let kept : MeetsDrawn c x q r = subst (λ es. MeetsDrawn c x (stateOf h′ base draft values′ arrived confirmed table′ es) r) (sym (m .none refl))
+        (drawn-meets (l .op) (l .a) (l .b) (l .c) (l .d) h base draft values arrived confirmed table edits (k .sized) (k .long) stored) in
+        let here = kept .meets in
+        let made = meets-made c (spread x) (record { state = spread q; answer = r }) here in
+        let same : IfRefused r (q ≡ x) = same-if r x q
+        (λ y. stored .booked ∙ ap (λ w. cond w (withRule table (min (h .rules) 63) (l .a) (l .b) (l .c) (l .d)) table) (ap (λ w. eqb (l .op) 2 && w) y ∙ and-false (eqb (l .op) 2))) (here .same) in
         record {
           answer = made .answer ∙ ap (λ o. stepOf o (view x) .answer) (sym (line-draws l op));
           plan = made .plan ∙ ap (λ o. stepOf o (view x) .plan) (sym (line-draws l op));
           same = same;
-          sized = subst Sized (sym {A = Spread} drawn-state) (drawn-sized p d drawn (l .a) (l .b) (l .c) (l .d) (k .sized));
-          long = b .long;
+          sized = kept .sized;
+          long = kept .long;
           tallied = λ x. draw-counts (l .op) (l .a) (l .b) (l .c) (l .d) t op refl made x;
-          indexed = λ y. cases (eqb (l .op) 3 && isAccepted (d .answer))
+          indexed = λ y. cases (eqb (l .op) 3 && isAccepted r)
               (λ t drawn. new t)
-              (λ t. subst (IndexedIn (spread q)) (sym (old t)) (cases (isAccepted (d .answer))
+              (λ t. subst (IndexedIn (spread q)) (sym (old t)) (cases (isAccepted r)
               (λ u drawn. absurd (subst (λ b. T (not b)) (drawn-blank (l .op) (l .a) (l .b) (l .c) (l .d) op (sym (ap (λ b. eqb (l .op) 3 && b) u ∙ and-true (eqb (l .op) 3)) ∙ t) made u) drawn))
-              (λ u. subst (λ z. IndexedIn (spread z) index) (sym (refused-same (d .answer) u same)) y)));
+              (λ u. subst (λ z. IndexedIn (spread z) index) (sym (refused-same r u same)) y)));
           from = omega arith;
           width = omega arith;
           bare = λ y. refl;

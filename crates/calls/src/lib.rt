@@ -9,9 +9,9 @@ ghost use lib.IntN.{ℤ};
 ghost use Rattle.calls.specs.declared.Look.{Look};
 ghost use Rattle.protocol.specs.Numbering.{editOp, sendOp, replayOp};
 ghost use Rattle.heads.specs.Numbers.{headFrom};
-ghost use Rattle.rules.specs.Table.{lowers, gaps, uppers, firms, withRule};
+ghost use Rattle.rules.specs.Table.{lowers, gaps, uppers, firms};
 ghost use Rattle.rules.specs.Index.{Indexed};
-ghost use Rattle.counts.specs.Tallies.{isAccepted, allSent, moveTally};
+ghost use Rattle.counts.specs.Tallies.{allSent, moveTally};
 ghost use Rattle.reader.specs.Reads.{lineIn};
 ghost use Rattle.query.specs.Readings.{readCall};
 ghost use Rattle.calls.specs.Makes.{firstLook, secondLook, Making, isMove, isDraw, plain, stored};
@@ -242,7 +242,7 @@ fn send_in(
     let d = moves::decide_send(h, side, was, counts[i]);
     arrived[i] = d.arrived;
     let answer = d.answer;
-    note_sent(counts, counts::accepted(answer), side, was);
+    note_sent(counts, state::accepted(answer), side, was);
     let mut e = plain_effect(answer);
     e.marked = d.marked;
     e
@@ -304,27 +304,8 @@ fn move_in(
     let answer = r.answer;
     let next = heads::numbers(r.head);
     *head = next;
-    note_move(counts, counts::accepted(answer), l.op, h);
+    note_move(counts, state::accepted(answer), l.op, h);
     plain_effect(answer)
-}
-
-// A certain call was made and accepted.
-fn is_made(op: u32, asked: u32, answer: Answer) -> bool
-    ensures { λ t. ⌜ t ≡ (eqb op asked && isAccepted answer) ⌝ }
-{
-    if op == asked {
-        return counts::accepted(answer);
-    }
-    false
-}
-
-// Writes the rule behind the first k, if one was drawn.
-fn note_rule(table: &mut Table, k: u32, drawn: bool, a: i32, c: i32, b: i32, f: i32)
-    ensures { λ r. ⌜ now (table .exit) ≡ cond drawn (withRule (now (table .entry)) (min k 63) a c b f) (now (table .entry)) ⌝ }
-{
-    if drawn {
-        rules::put_rule(table, k, a, c, b, f);
-    }
 }
 
 // Indexes the rules, if the plan was opened: until then no call asks the index, and from then on the rules stay.
@@ -351,25 +332,14 @@ fn draw_in(
         base draft (now (values .entry)) arrived confirmed (now (table .entry)) (now (index .entry)) look t sound r (headFrom (now (head .exit))) base draft
         (now (values .exit)) arrived confirmed (now (table .exit)) (now (index .exit)) t) ⌝ }
 {
-    let h = heads::from_numbers(head);
-    let spot = rows::capped(h.measures, limit::LAST_MEASURE);
-    let d = draw::decide_draw(h, table, values, l.op, l.a, l.b, l.c, l.d);
-    let value = d.value;
-    values[spot] = value;
-    let answer = d.answer;
-    note_rule(
+    let answer = draw::make(l.op, l.a, l.b, l.c, l.d, head, values, table);
+    let drawn = heads::from_numbers(head);
+    note_index(
+        index,
         table,
-        h.rules,
-        is_made(l.op, call::RULE, answer),
-        l.a,
-        l.b,
-        l.c,
-        l.d,
+        drawn.rules,
+        draw::is_made(l.op, call::OPEN, answer),
     );
-    let drawn = d.head;
-    note_index(index, table, drawn.rules, is_made(l.op, call::OPEN, answer));
-    let next = heads::numbers(drawn);
-    *head = next;
     plain_effect(answer)
 }
 

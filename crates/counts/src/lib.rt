@@ -3,7 +3,7 @@
 ghost use Prim.Native.Nat.{_+_, _-_, _≤_};
 ghost use mathlib.Core.Bool.{cond};
 ghost use mathlib.Core.Path.{_≡_};
-ghost use Rattle.counts.specs.Tallies.{isAccepted, raise, noTallies, oneUnsent, allSent, oneSettled, moveTally};
+ghost use Rattle.counts.specs.Tallies.{raise, noTallies, oneUnsent, allSent, oneSettled, moveTally};
 ghost use Rattle.heads.specs.Heads.{keptIn};
 use heads::Head;
 use protocol::call;
@@ -30,15 +30,6 @@ pub fn no_tallies() -> Tallies
     ensures { λ r. ⌜ r ≡ noTallies ⌝ }
 {
     [0u32; TALLIES]
-}
-
-pub fn accepted(answer: Answer) -> bool
-    ensures { λ t. ⌜ t ≡ isAccepted answer ⌝ }
-{
-    match answer {
-        Answer::Refused(_, _) => false,
-        Answer::Given(_, _, _, _) => true,
-    }
 }
 
 // How many of the kept edits are not settled.

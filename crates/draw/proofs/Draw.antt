@@ -14,11 +14,16 @@ use Rattle.protocol.specs.Plan.{Rule, blank, is, modeNumber, measureLimit, rule
 use Rattle.protocol.specs.Calls.{Call, measure, rule, open-plan, Check, Verdict, fine, refused, first, checks, further, firstValues, onValues, ruleOf, after, gives, ok}
 use Rattle.protocol.proofs.Laws.{is-yes, yes-is, Pass}
 use Rattle.rows.specs.Rows.{row}
-use Rattle.rules.specs.Table.{rulesIn}
+use Rattle.rules.specs.Table.{rulesIn, lowers, gaps, uppers, firms, withRule}
+use Rattle.rules.proofs.Table.{rule-lower, rule-gap, rule-upper, rule-firm, rule-length}
+use Rattle.records.specs.declared.EditRecord.{EditRecord}
 use Rattle.rows.proofs.Spans.{length-span, span-same, span-snoc, getD-set, getD-other}
 use Rattle.rules.proofs.Rules.{holds-is}
 use Rattle.heads.specs.declared.Head.{Head}
-use Rattle.state.specs.Spread.{Spread}
+use Rattle.state.specs.declared.State.{State}
+use Rattle.state.specs.declared.Answer.{Answer}
+use Rattle.state.specs.View.{stateOf}
+use Rattle.state.specs.Spread.{Spread, spread}
 use Rattle.heads.specs.Heads.{modeOf, sidesIn, measuresIn}
 use Rattle.state.specs.Spread.{planOf, sideOf, rulesOf}
 use Rattle.state.specs.Sizes.{Sized}
@@ -28,7 +33,7 @@ use Rattle.state.specs.Spread.{isAccepted, SameIfRefused, MeetsSpread}
 use Rattle.state.proofs.Meets.{refused-meets, accepted-meets, fine-pass}
 use Rattle.state.proofs.Steps.{stored}
 use Rattle.draw.specs.declared.Drawing.{Drawing}
-use Rattle.draw.specs.Draw.{drawCall, measureChecks, ruleChecks, openChecks, ruled, opened, refusedDrawing, drawBy, measureDrawing, measureDecision, ruleDrawing, ruleDecision, openDrawing, openDecision, valueAt, drawDecision, drawnIn}
+use Rattle.draw.specs.Draw.{drawCall, measureChecks, ruleChecks, openChecks, ruled, opened, refusedDrawing, drawBy, measureDrawing, measureDecision, ruleDrawing, ruleDecision, openDrawing, openDecision, valueAt, drawDecision, Drawn, drawnIn}
 
 drawn-length : (p : Spread) → length (firstValues (planOf p .content)) ≡ measuresIn (p .head)
 drawn-length p = ap length (first-row p) ∙ row-length (p .values) 0 (measuresIn (p .head))
@@ -255,3 +260,77 @@ drawn-sized p d drawn a c b f z =
     stays : (drawn : Bool) {A : Type 0} (xs : List A) (x : A) → length (cond drawn (set xs (min (p .head .rules) 63) x) xs) ≡ length xs
     stays true xs x = length-set xs (min (p .head .rules) 63) x
     stays false xs x = refl
+
+-- ---- stored
+
+-- what the code stored, from what it decided
+pub drawn-from : (op : ℕ) (a b c d : ℤ) {h h₀ h′ : Head} (values table : List ℤ) {table′ : List ℤ} {spot : ℕ} {v : ℤ} (x : Drawing) → h ≡ h₀
+    → x ≡ drawDecision op a b c d h (lowers table) (gaps table) (uppers table) values → spot ≡ min (h .measures) 31 → v ≡ x .value
+    → table′ ≡ cond (eqb op 2 && isAccepted (x .answer)) (withRule table (min (h .rules) 63) a b c d) table → h′ ≡ x .head
+    → Drawn op a b c d h₀ values table (x .answer) h′ (set values spot v) table′
+drawn-from op a b c d {h₀ = h₀} values table {table′} {spot} {v} x same x-is spot-is v-is table-is head-is =
+    let all = x-is ∙ ap (λ y. drawDecision op a b c d y (lowers table) (gaps table) (uppers table) values) same in
+    record {
+      told = ap (λ (y : Drawing). y .answer) all;
+      headed = head-is ∙ ap (λ (y : Drawing). y .head) all;
+      valued = ap₂ (λ i y. set values i y) (spot-is ∙ ap (λ (y : Head). min (y .measures) 31) same) (v-is ∙ ap (λ (y : Drawing). y .value) all);
+      booked = table-is ∙ ap (λ (y : Head). cond (eqb op 2 && isAccepted (x .answer)) (withRule table (min (y .rules) 63) a b c d) table) same;
+    }
+
+-- the rule table as lists, with a rule written anew, if one was drawn
+pub record Booked (drawn : Bool) (table table′ : List ℤ) (i : ℕ) (a c b f : ℤ) : Type 0 where
+  pub lower : lowers table′ ≡ cond drawn (set (lowers table) i (natural a)) (lowers table)
+  pub gap : gaps table′ ≡ cond drawn (set (gaps table) i c) (gaps table)
+  pub upper : uppers table′ ≡ cond drawn (set (uppers table) i (natural b)) (uppers table)
+  pub firm : firms table′ ≡ cond drawn (set (firms table) i (eqb (natural f) 1)) (firms table)
+  pub long : length table′ ≡ 256
+
+booked : (drawn : Bool) (table : List ℤ) (i : ℕ) (a c b f : ℤ) → i < 64 → length table ≡ 256 → Booked drawn table (cond drawn (withRule table i a c b f) table) i a c b f
+booked true table i a c b f h l = record {
+  lower = rule-lower table i a c b f h l;
+  gap = rule-gap table i a c b f h l;
+  upper = rule-upper table i a c b f h l;
+  firm = rule-firm table i a c b f h l;
+  long = rule-length table i a c b f h l;
+}
+booked false table i a c b f h l = record { lower = refl; gap = refl; upper = refl; firm = refl; long = l }
+
+-- A call that draws, made on what is lent of a state, is the protocol's step, and the lengths stay.
+pub record MeetsDrawn (c : Call) (p q : State) (r : Answer) : Type 0 where
+  pub meets : MeetsSpread c (spread p) (record { state = spread q; answer = r })
+  pub sized : Sized (spread q)
+  pub long : length (q .table) ≡ 256
+
+module _ (op : ℕ) (a b c d : ℤ) (h : Head) (base draft values : List ℤ) (arrived confirmed : List Bool) (table : List ℤ) (edits : List EditRecord) where
+  abbrev p : State
+  p = stateOf h base draft values arrived confirmed table edits
+
+  pub drawn-meets : Sized (spread p) → length table ≡ 256 → {r : Answer} {h′ : Head} {values′ table′ : List ℤ} → Drawn op a b c d h values table r h′ values′ table′
+      → MeetsDrawn (drawCall op a b c d) p (stateOf h′ base draft values′ arrived confirmed table′ edits) r
+  drawn-meets z l {r} {h′} {values′} {table′} k =
+      let x = drawDecision op a b c d h (lowers table) (gaps table) (uppers table) values in
+      let n = min (h .rules) 63 in
+      let drawn = eqb op 2 && isAccepted (x .answer) in
+      let table-is = k .booked ∙ ap (λ y. cond (eqb op 2 && isAccepted y) (withRule table n a b c d) table) (k .told) in
+      let t : Booked drawn table table′ n a b c d = subst (λ y. Booked drawn table y n a b c d) (sym table-is) (booked drawn table n a b c d (omega arith) l) in
+      let q = stateOf h′ base draft values′ arrived confirmed table′ edits in
+      let q′ = drawnIn (spread p) x drawn a b c d in
+      let same : spread q ≡ q′ =
+      (λ j. record {
+        head = k .headed j;
+        base = base;
+        draft = draft;
+        values = k .valued j;
+        arrived = arrived;
+        confirmed = confirmed;
+        lower = t .lower j;
+        gap = t .gap j;
+        upper = t .upper j;
+        firm = t .firm j;
+        edits = edits;
+      }) in
+      record {
+        meets = subst (λ y. MeetsSpread (drawCall op a b c d) (spread p) y) (sym (λ j. record { state = same j; answer = k .told j })) (draw-decided op a b c d (spread p) z);
+        sized = subst Sized (sym {A = Spread} same) (drawn-sized (spread p) x drawn a b c d z);
+        long = t .long;
+      }

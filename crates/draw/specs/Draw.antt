@@ -1,5 +1,6 @@
 -- Scaffolding: what measure, rule and open decide from what they read of the state, and what they store. Assumes nothing.
 use Prim.Native.Nat.{ℕ, min, _+_}
+use mathlib.Core.Path.{_≡_}
 use mathlib.Core.Bool.{Bool, not, cond, _&&_}
 use mathlib.Core.List.{List, [], _∷_}
 use lib.Dec.{eqb, ltb}
@@ -12,8 +13,10 @@ use Rattle.protocol.specs.Numbering.{measureOp, ruleOp}
 use Rattle.protocol.specs.Sizes.{lastMeasure, lastRule}
 use Rattle.rows.specs.Rows.{row}
 use Rattle.rules.specs.Rules.{holdsIn}
+use Rattle.rules.specs.Table.{lowers, gaps, uppers, withRule}
 use Rattle.heads.specs.declared.Head.{Head}
-use Rattle.state.specs.Spread.{Spread}
+use Rattle.state.specs.Spread.{Spread, isAccepted}
+use Rattle.state.specs.declared.Answer.{Answer}
 use Rattle.state.specs.Meets.{refusal, done, number}
 use Rattle.heads.specs.declared.Mode.the-variants.{Whole}
 use Rattle.heads.specs.Heads.{modeOf, measuresIn}
@@ -89,6 +92,15 @@ abbrev pub drawDecision : ℕ → ℤ → ℤ → ℤ → ℤ → Head → List 
 drawDecision op a b c d h lower gap upper values =
     let old = valueAt h values in
     cond (eqb op measureOp) (measureDecision h a old) (cond (eqb op ruleOp) (ruleDecision h a b c d old) (openDecision h lower gap upper values old))
+
+-- ---- stored
+
+-- What a call that draws leaves of what it is lent: the decision's answer and head, its value behind those that count, and the rule, if one was drawn.
+pub record Drawn (op : ℕ) (a b c d : ℤ) (h : Head) (values table : List ℤ) (r : Answer) (h′ : Head) (values′ table′ : List ℤ) : Type 0 where
+  pub told : r ≡ drawDecision op a b c d h (lowers table) (gaps table) (uppers table) values .answer
+  pub headed : h′ ≡ drawDecision op a b c d h (lowers table) (gaps table) (uppers table) values .head
+  pub valued : values′ ≡ set values (min (h .measures) lastMeasure) (drawDecision op a b c d h (lowers table) (gaps table) (uppers table) values .value)
+  pub booked : table′ ≡ cond (eqb op ruleOp && isAccepted r) (withRule table (min (h .rules) lastRule) a b c d) table
 
 -- ---- in the state
 

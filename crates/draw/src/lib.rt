@@ -1,14 +1,18 @@
-// What measure, rule and open decide (01, "The calls"): their checks, and what they store. Read only, on what is lent.
+// What measure, rule and open decide (01, "The calls"): their checks, read only, and what they store, in place. On what is lent.
 ghost use lib.Dec.{eqb};
-ghost use mathlib.Core.Bool.{not, _&&_};
+ghost use mathlib.Core.Bool.{not, cond, _&&_};
+ghost use Prim.Native.Nat.{min};
 ghost use mathlib.Core.Path.{_≡_};
-ghost use Rattle.draw.specs.Draw.{measureChecks, ruleChecks, openChecks, measured, ruled, opened, refusedDrawing, measureDecision, ruleDecision, openDecision, drawDecision};
+ghost use Rattle.draw.specs.Draw.{measureChecks, ruleChecks, openChecks, measured, ruled, opened, refusedDrawing, measureDecision, ruleDecision, openDecision, drawDecision, Drawn};
 ghost use Rattle.protocol.specs.Calls.{first, no15};
 ghost use Rattle.protocol.specs.Lists.{oneTo};
-ghost use Rattle.rules.specs.Table.{lowers, gaps, uppers};
+ghost use Rattle.rules.specs.Table.{lowers, gaps, uppers, withRule};
+ghost use Rattle.heads.specs.Numbers.{headFrom};
 ghost use Rattle.state.specs.Meets.{refusalOf};
+ghost use Rattle.state.specs.Spread.{isAccepted};
 use heads::Head;
 use heads::Mode;
+use heads::Numbers;
 use protocol::call;
 use protocol::limit;
 use rules::Table;
@@ -216,6 +220,53 @@ pub fn decide_draw<'a>(
         return decide_rule(h, a, b, c, d, old);
     }
     decide_open(h, table, values, old)
+}
+
+// ---- stored
+
+// A certain call was made and accepted.
+pub fn is_made(op: u32, asked: u32, answer: Answer) -> bool
+    ensures { λ t. ⌜ t ≡ (eqb op asked && isAccepted answer) ⌝ }
+{
+    if op == asked {
+        return state::accepted(answer);
+    }
+    false
+}
+
+// Writes the rule behind the first k, if one was drawn.
+fn note_rule(table: &mut Table, k: u32, drawn: bool, a: i32, c: i32, b: i32, f: i32)
+    ensures { λ r. ⌜ now (table .exit) ≡ cond drawn (withRule (now (table .entry)) (min k 63) a c b f) (now (table .entry)) ⌝ }
+{
+    if drawn {
+        rules::put_rule(table, k, a, c, b, f);
+    }
+}
+
+// A call that draws, made: what it decides is stored in place.
+pub fn make(
+    op: u32,
+    a: i32,
+    b: i32,
+    c: i32,
+    d: i32,
+    head: &mut Numbers,
+    values: &mut [i32; limit::VALUES],
+    table: &mut Table,
+) -> Answer
+    ensures { λ r. ⌜ Drawn op a b c d (headFrom (now (head .entry))) (now (values .entry)) (now (table .entry)) r (headFrom (now (head .exit))) (now (values .exit))
+        (now (table .exit)) ⌝ }
+{
+    let h = heads::from_numbers(head);
+    let spot = rows::capped(h.measures, limit::LAST_MEASURE);
+    let x = decide_draw(h, table, values, op, a, b, c, d);
+    let value = x.value;
+    values[spot] = value;
+    let answer = x.answer;
+    note_rule(table, h.rules, is_made(op, call::RULE, answer), a, b, c, d);
+    let next = heads::numbers(x.head);
+    *head = next;
+    answer
 }
 
 // The laws of the calls that draw stand in proofs/Draw.antt.

@@ -123,13 +123,13 @@ pub put-in : (area : List ℕ) (k at : ℕ) (w : Slot) (a b c d : List ℕ) → 
 unfolding fourBytes
 put-in area k at w a b c d h e p q r s =
     let last : d ≡ sets b (at + 8) (fourBytes (w .third) ++ fourBytes (w .fourth)) =
-        s ∙ ap₂ (λ xs n. sets xs n (fourBytes (w .fourth))) r (sum-12 at) ∙ sets-both (fourBytes (w .third)) (fourBytes (w .fourth)) b (at + 8) in
+    s ∙ ap₂ (λ xs n. sets xs n (fourBytes (w .fourth))) r (sum-12 at) ∙ sets-both (fourBytes (w .third)) (fourBytes (w .fourth)) b (at + 8) in
     let later : d ≡ sets a (at + 4) (fourBytes (w .second) ++ (fourBytes (w .third) ++ fourBytes (w .fourth))) =
-        last ∙ ap₂ (λ xs n. sets xs n (fourBytes (w .third) ++ fourBytes (w .fourth))) q (sum-8 at)
-        ∙ sets-both (fourBytes (w .second)) (fourBytes (w .third) ++ fourBytes (w .fourth)) a (at + 4) in
+    last ∙ ap₂ (λ xs n. sets xs n (fourBytes (w .third) ++ fourBytes (w .fourth))) q (sum-8 at)
+    ∙ sets-both (fourBytes (w .second)) (fourBytes (w .third) ++ fourBytes (w .fourth)) a (at + 4) in
     let all : d ≡ sets area at (bytesOf w) =
-        later ∙ ap (λ xs. sets xs (at + 4) (fourBytes (w .second) ++ (fourBytes (w .third) ++ fourBytes (w .fourth)))) p
-        ∙ sets-both (fourBytes (w .first)) (fourBytes (w .second) ++ (fourBytes (w .third) ++ fourBytes (w .fourth))) area at in
+    later ∙ ap (λ xs. sets xs (at + 4) (fourBytes (w .second) ++ (fourBytes (w .third) ++ fourBytes (w .fourth)))) p
+    ∙ sets-both (fourBytes (w .first)) (fourBytes (w .second) ++ (fourBytes (w .third) ++ fourBytes (w .fourth))) area at in
     rw (lt-ltb k (length area / 16) h) (all ∙ ap (λ n. sets area n (bytesOf w)) e)
   where
     sum-12 : (n : ℕ) → n + 12 ≡ n + 8 + 4

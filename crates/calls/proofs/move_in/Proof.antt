@@ -18,7 +18,7 @@ use Rattle.calls.proofs.move_in.Reads as reads
 use Rattle.calls.proofs.move_in.Lts as lts
 use Rattle.calls.proofs.note_move.Reads as note-move-reads
 use Rattle.calls.proofs.plain_effect.Reads as plain-effect-reads
-use Rattle.counts.proofs.accepted.Reads as accepted-reads
+use Rattle.state.proofs.accepted.Reads as accepted-reads
 use Rattle.exact.proofs.number.Reads as number-reads
 use Rattle.heads.proofs.from_numbers.Reads as from-numbers-reads
 use Rattle.heads.proofs.index.Reads as index-reads

@@ -12,7 +12,7 @@ use Rattle.calls.proofs.send_in.Tie as tie
 use Rattle.calls.proofs.send_in.Reads as reads
 use Rattle.calls.proofs.send_in.Lts as lts
 use Rattle.calls.proofs.note_sent.Reads as note-sent-reads
-use Rattle.counts.proofs.accepted.Reads as accepted-reads
+use Rattle.state.proofs.accepted.Reads as accepted-reads
 use Rattle.exact.proofs.number.Reads as number-reads
 use Rattle.heads.proofs.from_numbers.Reads as from-numbers-reads
 use Rattle.heads.proofs.index.Reads as index-reads

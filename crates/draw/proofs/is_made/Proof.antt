@@ -1,10 +1,10 @@
 use borrow.Author.Tests.{eq-eqb, ne-eqb}
 use borrow.Author.Needs.{needs}
-use Rattle.calls.proofs.is_made.Statement.{statement}
-use Rattle.calls.proofs.is_made.Tie as tie
-use Rattle.calls.proofs.is_made.Reads as reads
-use Rattle.calls.proofs.is_made.Lts as lts
-use Rattle.counts.proofs.accepted.Reads as accepted-reads
+use Rattle.draw.proofs.is_made.Statement.{statement}
+use Rattle.draw.proofs.is_made.Tie as tie
+use Rattle.draw.proofs.is_made.Reads as reads
+use Rattle.draw.proofs.is_made.Lts as lts
+use Rattle.state.proofs.accepted.Reads as accepted-reads
 
 accepted-requires : tie.Need-accepted-requires
 accepted-requires c κs = search needs
