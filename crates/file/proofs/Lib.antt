@@ -3,3 +3,7 @@ pub mod Sums
 pub mod Chains
 pub mod Enough
 pub mod Walks
+pub mod Drawn
+pub mod Round
+pub mod Written
+pub mod Rising

@@ -12,7 +12,7 @@ use Rattle.protocol.proofs.Laws.{cases, yes-is, no-is, is-yes, is-no, both, and
 use Rattle.file.specs.Bytes.{twoAt, kindBits, measureKind, ruleKind}
 use Rattle.file.specs.Loaded.{slotIn, slots, nextIn, markIn, zeroFrom, clearMeasure, clearRule, firstSlot, measureChain, ruleChain, met, marked, leavesFile, meetsTwice, wellMarked, missesSlot, clear, chain, elem, repeats}
 use Rattle.file.specs.Walked.{stopped, ended, good, walk, asMeasure, asRule}
-use Rattle.file.proofs.Enough.{met-most, met-counted}
+use Rattle.file.proofs.Enough.{met-most, met-counted, count-to-not}
 
 -- the slots ks seen after those of seen, the newest first
 abbrev pub onto : List ℕ → List ℕ → List ℕ
@@ -170,16 +170,6 @@ all-both p q (k ∷ ks) t =
     let b = both (p k) (q k) (a .0) in
     let ih = all-both p q ks (a .1) in
     (and-in (p k) _ (b .0) (ih .0), and-in (q k) _ (b .1) (ih .1))
-
--- ---- missed slots are those that the count lacks
-
-count-to-not : (g : ℕ → Bool) (n : ℕ) → countTo g n + countTo (λ s. not (g s)) n ≡ n
-count-to-not g zero = refl
-count-to-not g (suc n) = let ih = count-to-not g n in let b = bit-not (g (suc n)) in omega arith
-  where
-    bit-not : (b : Bool) → bit b + bit (not b) ≡ 1
-    bit-not true = refl
-    bit-not false = refl
 
 -- ---- the theorem
 
