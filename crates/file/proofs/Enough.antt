@@ -12,6 +12,7 @@ use Rattle.protocol.proofs.Laws.{cases, is-yes, no-is, not-not, bit-no, both, a
 use Rattle.file.specs.Bytes.{twoAt}
 use Rattle.file.specs.Loaded.{firstSlot, slotIn, slots, nextIn, chain, measureChain, ruleChain, met, elem, repeats, leavesFile, meetsTwice, missesSlot}
 use Rattle.file.specs.Promises.{ChainsEnd, ForEveryChain}
+use Rattle.file.proofs.Sums.{all-append}
 
 -- ---- different numbers of 1 .. n are at most n
 
@@ -57,10 +58,6 @@ chain-most f (suc n) k = let ih = chain-most f n (nextIn (slotIn f k)) in cases 
 chain-some : (f : List ℕ) (n k : ℕ) → T (all (λ x. not (isNone x)) (chain f n k))
 chain-some f zero k = tt
 chain-some f (suc n) k = let ih = chain-some f n (nextIn (slotIn f k)) in cases (isNone k) (λ e. rw e tt) (λ e. rw (e, e) ih)
-
-all-append : (p : ℕ → Bool) (xs ys : List ℕ) → T (all p xs) → T (all p ys) → T (all p (xs ++ ys))
-all-append p [] ys s t = t
-all-append p (x ∷ xs) ys s t = let b = both (p x) (all p xs) s in and-in (p x) _ (b .0) (all-append p xs ys (b .1) t)
 
 inside : (c : ℕ) (ks : List ℕ) → T (all (λ x. not (isNone x)) ks) → T (not (any (λ x. leb c x) ks)) → T (all (oneTo (c - 1)) ks)
 inside c [] a l = tt

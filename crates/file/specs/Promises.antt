@@ -1,5 +1,5 @@
 -- Believed: what is promised of saved plans (02, S-1): what is saved loads again, what loads is saved again, and chains end. Assumes nothing.
-use Prim.Native.Nat.{ℕ, zero, suc, _+_, _<_, _≤_}
+use Prim.Native.Nat.{ℕ, zero, suc, _+_, _*_, _%_, _<_, _≤_}
 use mathlib.Core.Path.{_≡_}
 use mathlib.Core.Bool.{Bool, not}
 use mathlib.Core.List.{List, [], _∷_, map}
@@ -9,7 +9,7 @@ use lib.ListN.{length}
 use Rattle.protocol.specs.Lists.{bit, count, all}
 use Rattle.protocol.specs.Plan.{Rule, Plan, whole}
 use Rattle.protocol.specs.Calls.{firstValues, ruleOf, freshSide, ok, start}
-use Rattle.file.specs.Bytes.{twoAt, signedAt, firmBit}
+use Rattle.file.specs.Bytes.{wordSize, twoAt, signedAt, firmBit, total}
 use Rattle.file.specs.Saved.{saved}
 use Rattle.file.specs.Loaded.{slotIn, slots, markIn, valueIn, chain, firstSlot, measureChain, ruleChain, met, nextNumber, leavesFile, meetsTwice, missesSlot, load}
 
@@ -36,6 +36,18 @@ valuesOf f = map (λ k. valueIn (slotIn f k)) (measureChain f)
 
 abbrev pub rulesOf : List ℕ → List Rule
 rulesOf f = map (λ k. ruleFrom (slotIn f k)) (ruleChain f)
+
+-- ---- what is saved
+
+-- Whatever the plan holds, what is saved of it is bytes, one slot of 16 for the plan, each measure and each rule, and all four-byte words add up to 0 modulo 2^32.
+pub record Saves (p : Plan) : Type 0 where
+  pub bytes : T (all isByte (saved p))
+  pub size : length (saved p) ≡ 16 * (1 + length (firstValues (p .content)) + length (p .content .rules))
+  pub sum : total (saved p) % wordSize ≡ 0
+
+-- the theorem (proofs/Sums: `saves`)
+abbrev pub ForEveryPlan : Type 0
+ForEveryPlan = (p : Plan) → Saves p
 
 -- ---- a file that loads
 
