@@ -27,7 +27,7 @@ use Rattle.file.proofs.Written.{below, zero-back, measure-back, rule-ba
 
 -- ---- what a file loads to
 
-accepted : (f : List ℕ) (p : Plan) (xs : List ℤ) → load f p .answer ≡ ok xs → loadVerdict f p ≡ fine
+pub accepted : (f : List ℕ) (p : Plan) (xs : List ℤ) → load f p .answer ≡ ok xs → loadVerdict f p ≡ fine
 unfolding load
 accepted f p xs e = by (loadVerdict f p) e
   where

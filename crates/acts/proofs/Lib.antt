@@ -1,0 +1,3 @@
+pub mod Proper
+pub mod Fresh
+pub mod Reached
