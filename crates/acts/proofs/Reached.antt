@@ -94,7 +94,7 @@ renumbered-consistent : (p : Plan) (h : History) (n : ℕ) → 0 < n → Consist
 renumbered-consistent p h n k c = record { mode = c .mode; rules = c .rules; next = k; reported = c .reported; ordered = c .ordered; stage = c .stage }
 
 module _ (f : List ℕ) (p : Plan) (h : History) (t : Reached p h) (e : firstRefusal (drawing f) p ≡ fine) where
-  drawn-whole : (end (drawing f) p .mode ≡ whole)
+  pub drawn-whole : (end (drawing f) p .mode ≡ whole)
       × (enteredAs (drawing f) p h ≡ drawnHistory whole 1 (firstValues (end (drawing f) p .content)) (end (drawing f) p .content .rules))
   drawn-whole =
       let cs = before-open f in
