@@ -13,7 +13,7 @@ use Rattle.protocol.specs.Calls.{Call, edit, show, isRefusal, Check, Verdict, f
 use Rattle.protocol.specs.History.{History, empty}
 use Rattle.protocol.proofs.Laws.{cases, both, or-left, or-right, passed}
 use Rattle.protocol.proofs.Refusals.{AnswerAgreed, answer-agreed}
-use Rattle.guarantee.specs.Runs.{isOk, accepts}
+use Rattle.guarantee.specs.Runs.{isOk}
 use Rattle.guarantee.specs.Guarantee.{Guarantee}
 use Rattle.guarantee.proofs.Holding.{only, plan}
 use Rattle.guarantee.proofs.Guaranteed.{guaranteed, keeps, reading}
@@ -23,7 +23,7 @@ use Rattle.file.specs.Promises.{wholeWith, withoutKept, valuesOf, rulesOf}
 use Rattle.file.proofs.Drawn.{both-fine}
 use Rattle.file.proofs.Round.{round-trip}
 use Rattle.file.proofs.Rising.{accepted, loads}
-use Rattle.acts.specs.Acts.{Act, call, loading, saving, closesAct, editsAct, readsAct, isActRefusal, actStep, takes, followingAct, doneBy, enteredAs, notingAct, fromBlankActs, ActTrace}
+use Rattle.acts.specs.Acts.{Act, call, loading, saving, closesAct, editsAct, readsAct, isActRefusal, actStep, takes, followingAct, doneBy, enteredAs, notingAct, fromBlankActs}
 use Rattle.acts.specs.Acting.{Loaded, GuaranteeActs, ForEveryActs, ForEveryActTrace}
 use Rattle.acts.proofs.Fresh.{drawnHistory, untouched-start}
 use Rattle.acts.proofs.Reached.{Reached, reached-start, drawn-whole, call-noted, none-done, save-keeps, from-blank, traced, savable, load-shut}

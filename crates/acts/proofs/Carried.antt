@@ -9,7 +9,7 @@ use lib.Dec.{T, T-not, not-T}
 use lib.ListN.{length, length-append}
 use Rattle.protocol.specs.Lists.{bit, all, snoc}
 use Rattle.protocol.specs.Plan.{Mode, blank, whole, split, joining, closing, is, active, Plan}
-use Rattle.protocol.specs.Calls.{Call, install, Verdict, fine, refused, Answer, no, ok, leftIn, step, following}
+use Rattle.protocol.specs.Calls.{Call, install, Verdict, fine, refused, Answer, no, ok, leftIn, step}
 use Rattle.protocol.specs.History.{History}
 use Rattle.protocol.proofs.Laws.{on, both, which, and-in, and-false, yes-is}
 use Rattle.guarantee.specs.Runs.{closes, edits, isOk, accepts, quiet, closings}
@@ -17,7 +17,7 @@ use Rattle.guarantee.specs.Guarantee.{Stuck}
 use Rattle.guarantee.proofs.Guaranteed.{which-closing, if-taken, stays-put, able-with, one-on, shut, not-editing}
 use Rattle.file.specs.Loaded.{loadVerdict, loadBy, load}
 use Rattle.file.specs.Saved.{save}
-use Rattle.acts.specs.Acts.{Act, call, loading, saving, closesAct, ofFile, takes, followingAct, doneBy, work, workOf, notingAct, endActs, quietActs, closingsActs, doneActs}
+use Rattle.acts.specs.Acts.{Act, call, loading, saving, closesAct, ofFile, takes, followingAct, doneBy, work, workOf, notingAct, endActs, quietActs, doneActs}
 use Rattle.acts.specs.Acting.{UnderwayActs, CompletedActs}
 use Rattle.acts.proofs.Reached.{Reached, reached-act, none-done, save-keeps, load-shut}
 

@@ -8,7 +8,7 @@ use lib.Dec.{T, eqb→eq}
 use lib.IntN.{ℤ}
 use lib.ListN.{length}
 use Rattle.protocol.specs.Lists.{isNone, snoc}
-use Rattle.protocol.specs.Plan.{Rule, Mode, blank, whole, split, joining, closing, is, Content, Plan}
+use Rattle.protocol.specs.Plan.{Rule, Mode, blank, is, Content, Plan}
 use Rattle.protocol.specs.Calls.{Call, measure, rule, open-plan, split-side, edit, join, send, replay, stop, confirm, install, show, fate-of, left, firstValues, checks, further, ruleOf, after, gives, following, start}
 use Rattle.protocol.specs.History.{History, empty, entered, recorded}
 use Rattle.protocol.proofs.Laws.{both, Pass}

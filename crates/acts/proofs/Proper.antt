@@ -189,7 +189,7 @@ proper-after join m d g (n, p) k =
         rules = p′ .rules;
         formed = p′ .formed;
         number = p′ .number;
-        sides = rw (all-map (λ x. fit n (x .values)) reset (d .sides) (λ x. refl)) (p′ .sides);
+        sides = rw (all-map (λ x. fit n (x .values)) reset (d .sides) (λ x. refl {a = fit n (x .values)})) (p′ .sides);
         base = λ w. p′ .base tt;
         draft = λ w. p′ .base tt;
       },

@@ -5,27 +5,25 @@ use mathlib.Core.Bool.{not}
 use mathlib.Core.List.{List, [], _∷_, _++_, map, append-assoc}
 use native.Mathlib.Omega.{arith}
 use lib.Dec.{T, eqb}
-use lib.IntN.{ℤ}
 use lib.ListN.{length}
 use Rattle.protocol.specs.Lists.{oneTo, all}
 use Rattle.protocol.specs.Plan.{Plan, blank, whole, is, inRange, holds, absentSide}
-use Rattle.protocol.specs.Calls.{Call, measure, open-plan, Verdict, fine, refused, first, firstValues, checks, further, after, gives, Answer, no, ok, Stepped, step, following, end, start}
+use Rattle.protocol.specs.Calls.{Call, measure, open-plan, Verdict, fine, refused, first, firstValues, checks, after, gives, Answer, no, ok, Stepped, step, following, end, start}
 use Rattle.protocol.specs.History.{History, empty, entered, recorded}
-use Rattle.protocol.proofs.Laws.{both, range, no-is, Pass, passed, all-nth}
+use Rattle.protocol.proofs.Laws.{both, range, no-is, passed, all-nth}
 use Rattle.guarantee.specs.Holding.{Holding}
-use Rattle.guarantee.specs.Runs.{isOk, noting, Run, run}
+use Rattle.guarantee.specs.Runs.{noting}
 use Rattle.guarantee.proofs.Holding.{stepped}
 use Rattle.guarantee.proofs.Consistent.{Consistent}
 use Rattle.guarantee.proofs.Guaranteed.{Sound, sound-step, started}
 use Rattle.file.specs.Saved.{saveChecks, saveBy, save}
-use Rattle.file.specs.Loaded.{nextLimit, slotIn, valueIn, ruleIn, measureChain, ruleChain, nextNumber, untouched, readChecks, drawing, firstRefusal, loadVerdict, renumbered, loadBy, load}
-use Rattle.file.specs.Promises.{wholeWith, valuesOf, rulesOf}
+use Rattle.file.specs.Loaded.{nextLimit, slotIn, valueIn, ruleIn, measureChain, ruleChain, nextNumber, readChecks, drawing, firstRefusal, loadVerdict, renumbered, loadBy, load}
 use Rattle.file.specs.Savable.{Savable}
 use Rattle.file.proofs.Drawn.{both-fine}
-use Rattle.file.proofs.Rising.{number-in, loads}
+use Rattle.file.proofs.Rising.{number-in}
 use Rattle.acts.specs.Acts.{Act, call, loading, saving, actStep, followingAct, work, doneBy, enteredAs, notingAct, runActs, fromBlankActs, ActTrace, begun, acted}
 use Rattle.acts.proofs.Proper.{Proper, SomeProper, proper-after, side-fit, first-length}
-use Rattle.acts.proofs.Fresh.{drawnHistory, Drawn, Fresh, fresh-step, untouched-start}
+use Rattle.acts.proofs.Fresh.{drawnHistory, Drawn, Fresh, fresh-step}
 
 pub record Reached (p : Plan) (h : History) : Type 0 where
   pub sound : Sound p h

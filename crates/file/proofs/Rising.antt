@@ -15,7 +15,7 @@ use Rattle.protocol.specs.Calls.{Verdict, fine, refused, first, no, ok, start}
 use Rattle.protocol.proofs.Laws.{cases, is-yes, both, and-in, same-no, Pass, passed}
 use Rattle.file.specs.Bytes.{wordSize, twoAt, fourAt, kindBits, measureKind, ruleKind, total}
 use Rattle.file.specs.Saved.{slotZero, measureSlot, ruleSlot, startAt, slotsFrom, chains, heading, checkWord, fileOf, saved}
-use Rattle.file.specs.Loaded.{nextLimit, slotIn, slots, nextIn, markIn, valueIn, zeroFrom, clearMeasure, clearRule, chain, firstSlot, measureChain, ruleChain, met, nextNumber, sized, balanced, marked, wellMarked, clear, numbered, readChecks, drawing, firstRefusal, loadVerdict, renumbered, loadBy, load}
+use Rattle.file.specs.Loaded.{nextLimit, slotIn, slots, nextIn, markIn, valueIn, zeroFrom, clearMeasure, clearRule, chain, firstSlot, measureChain, ruleChain, nextNumber, sized, balanced, marked, wellMarked, clear, numbered, readChecks, drawing, firstRefusal, loadVerdict, renumbered, loadBy, load}
 use Rattle.file.specs.Promises.{isByte, wholeWith, ruleFrom, valuesOf, rulesOf, risingFrom, Rises, ForEveryFile}
 use Rattle.file.specs.Savable.{Savable}
 use Rattle.file.proofs.Sums.{zero-total, balancing-only, saved-length}

@@ -7,7 +7,7 @@ use native.Mathlib.Omega.{arith}
 use borrow.Author.Tests.{le-ltb, lt-leb, leb-false, ne-eqb}
 use lib.Dec.{T, eqb, leb, ltb, ltb→lt, lt→ltb, nltb→le}
 use lib.ListN.{length, length-append}
-use Rattle.protocol.specs.Lists.{bit, isNone, countTo, all, any}
+use Rattle.protocol.specs.Lists.{isNone, countTo, all, any}
 use Rattle.protocol.proofs.Laws.{cases, yes-is, no-is, is-yes, is-no, both, and-in, neither, same-no}
 use Rattle.file.specs.Bytes.{twoAt, kindBits, measureKind, ruleKind}
 use Rattle.file.specs.Loaded.{slotIn, slots, nextIn, markIn, zeroFrom, clearMeasure, clearRule, firstSlot, measureChain, ruleChain, met, marked, leavesFile, meetsTwice, wellMarked, missesSlot, clear, chain, elem, repeats}
