@@ -23,7 +23,7 @@ use Rattle.file.specs.Promises.{wholeWith, withoutKept, valuesOf, rulesOf}
 use Rattle.file.proofs.Drawn.{both-fine}
 use Rattle.file.proofs.Round.{round-trip}
 use Rattle.file.proofs.Rising.{accepted, loads}
-use Rattle.acts.specs.Acts.{Act, call, loading, saving, closesAct, editsAct, readsAct, isActRefusal, actStep, takes, followingAct, doneBy, enteredAs, notingAct, fromBlankActs}
+use Rattle.acts.specs.Acts.{Act, call, loading, saving, closesAct, editsAct, readsAct, isActRefusal, actStep, takes, followingAct, work, doneBy, enteredAs, notingAct, fromBlankActs}
 use Rattle.acts.specs.Acting.{Loaded, GuaranteeActs, ForEveryActs, ForEveryActTrace}
 use Rattle.acts.proofs.Fresh.{drawnHistory, untouched-start}
 use Rattle.acts.proofs.Reached.{Reached, reached-start, drawn-whole, call-noted, none-done, save-keeps, from-blank, traced, savable, load-shut}
@@ -33,7 +33,7 @@ use Rattle.acts.proofs.Carried.{undone, load-keeps, active-open, carrie
 
 refused-act : (a : Act) (p : Plan) (h : History) → T (not (takes p a)) → (followingAct p a ≡ p) × (notingAct p h a ≡ h)
 refused-act (call c) p h n = let k = keeps c p h n in (k .0, call-noted c p h ∙ k .1)
-refused-act (loading f) p h n = (load-keeps f p n, ap (λ cs. enteredAs cs p h) (undone (load f p .answer) (drawing f) n))
+refused-act (loading f) p h n = (load-keeps f p n, ap (λ cs. enteredAs cs p h) (undone (load f p .answer) (work (loading f)) n))
 refused-act (saving room) p h n = (save-keeps room p, ap (λ cs. enteredAs cs p h) (none-done (save room p .answer)))
 
 reading-act : (a : Act) (p : Plan) (h : History) → T (readsAct a) → (followingAct p a ≡ p) × (notingAct p h a ≡ h)
@@ -124,7 +124,7 @@ module _ (f : List ℕ) (xs : List ℤ) (e : load f start .answer ≡ ok xs) whe
       let rs = ap (λ q. q .content .rules) same in
       record {
         plan = to-plan;
-        history = ap (λ x. enteredAs (doneBy x (drawing f)) start empty) e ∙ drawn-whole f start empty reached-start (b .1) .1 ∙ ap₂ (drawnHistory whole 1) vs rs;
+        history = ap (λ x. enteredAs (doneBy x (work (loading f))) start empty) e ∙ drawn-whole f start empty reached-start (b .1) .1 ∙ ap₂ (drawnHistory whole 1) vs rs;
         number = λ s client n m kind k ys g. edit-gives (load f start .plan) s client n m kind k ys g ∙ ap (λ q. pos (q .content .next) ∷ []) to-plan;
       }
 

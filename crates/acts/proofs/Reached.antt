@@ -147,7 +147,7 @@ reached-load f p h t = by (loadVerdict f p) (λ e.
     load-reached f p h t (b .1) (number-in f p (b .0)))
   where
     by : (v : Verdict) → (v ≡ fine → Reached (renumbered (nextNumber f) (end (drawing f) p)) (enteredAs (drawing f) p h))
-        → Reached (loadBy v f p .plan) (enteredAs (doneBy (loadBy v f p .answer) (drawing f)) p h)
+        → Reached (loadBy v f p .plan) (enteredAs (doneBy (loadBy v f p .answer) (work (loading f))) p h)
     by fine g = g refl
     by (refused k) g = t
 

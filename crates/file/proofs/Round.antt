@@ -1,6 +1,6 @@
 -- What is saved loads, and gives the same plan, with no kept edits. Assumes nothing.
 use Prim.Native.Nat.{ℕ, suc, _+_, _-_, _%_, _<_}
-use mathlib.Core.Path.{_≡_, refl}
+use mathlib.Core.Path.{_≡_, refl, ap, ap₂}
 use mathlib.Core.Bool.{not, _&&_}
 use mathlib.Core.List.{List, [], _∷_, _++_, map, append-assoc, append-nil}
 use native.Mathlib.Omega.{arith}
@@ -180,20 +180,22 @@ module _ (vs : List ℤ) (rs : List Rule) (next : ℕ) (s : Savable vs rs next) 
 
   -- the drawing
 
+  measures-read : map (λ k. measure (valueIn (slotIn file k))) (measureChain file) ≡ map measure vs
+  measures-read = rw measures-met (read-back measureSlot (λ t. measure (valueIn t)) measure inRange measure-read file 1 vs (s .ranged) measures-laid)
+
+  rules-read : map (λ k. ruleIn (slotIn file k)) (ruleChain file) ≡ map ruleCall rs
+  rules-read = rw rules-met
+      (read-back ruleSlot ruleIn ruleCall (drawable (length vs)) (λ n r t. rule-read (length vs) n r (omega (arith, s .measures)) t) file (suc (length vs)) rs (s .formed) rules-laid)
+
   drawing-is : drawing file ≡ map measure vs ++ (map ruleCall rs ++ (open-plan ∷ []))
   unfolding drawing
-  drawing-is = rw (
-    measures-met,
-    rules-met,
-    read-back measureSlot (λ t. measure (valueIn t)) measure inRange measure-read file 1 vs (s .ranged) measures-laid,
-    read-back ruleSlot ruleIn ruleCall (drawable (length vs)) (λ n r t. rule-read (length vs) n r (omega (arith, s .measures)) t) file (suc (length vs)) rs (s .formed) rules-laid,
-  )
+  drawing-is = ap₂ (λ ms ns. ms ++ (ns ++ (open-plan ∷ []))) measures-read rules-read
 
   pub file-loads : load file start ≡ record { answer = ok []; plan = wholeWith vs rs next }
   unfolding load
   file-loads =
       let g = drawing-goes vs rs next s in
-      rw (reads, drawing-is, g .0, drawing-is, g .1, number-is)
+      rw (reads, drawing-is, g .0, drawing-is, g .1) (ap (λ n. record { answer = ok []; plan = wholeWith vs rs n }) number-is)
 
 -- What is saved and loaded is the same plan, with no kept edits.
 pub round-trip : (p : Plan) → Savable (firstValues (p .content)) (p .content .rules) (p .content .next) → load (saved p) start ≡ record { answer = ok []; plan = withoutKept p }

@@ -1,6 +1,6 @@
 -- Words and the mark byte, written and read. Assumes nothing.
 use Prim.Native.Nat.{ℕ, zero, suc, _+_, _*_, _-_, _/_, _%_, _<_}
-use mathlib.Core.Path.{_≡_}
+use mathlib.Core.Path.{_≡_, refl}
 use mathlib.Core.Bool.{Bool, true, false}
 use mathlib.Core.List.{List, [], _++_}
 use native.Mathlib.Omega.{arith}
@@ -53,6 +53,7 @@ pub signed-back : (v : ℤ) → Short v → signed (complement v) ≡ v
 unfolding signed complement
 signed-back (pos n) h = rw (lt-ltb n 2_147_483_648 h)
 signed-back (negsuc n) h =
+    let w : complement (negsuc n) ≡ wordSize - suc n = refl in
     let a : wordSize - (wordSize - suc n) ≡ suc n = omega arith in
     rw (le-ltb (wordSize - suc n) 2_147_483_648 (omega arith), a)
 
