@@ -24,6 +24,7 @@ fit n vs = eqb (length vs) n && all inRange vs
 
 -- ---- the invariant
 
+-- n measures: every side, the base and the draft have n values in range, and the rules, the limits and the next number are as drawing and editing leave them
 pub record Proper (n : ℕ) (m : Mode) (d : Content) : Type 0 where
   pub measures : n ≤ measureLimit
   pub some : T (not (is blank m)) → 0 < n

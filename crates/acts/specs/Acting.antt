@@ -35,7 +35,7 @@ pub record CompletedActs (acts : List Act) (p : Plan) : Type 0 where
 
 -- Just after file f was loaded.
 pub record Loaded (f : List ℕ) (p : Plan) (h : History) : Type 0 where
-  -- The plan is whole, has the file's values and rules, chain order giving the numbers, and its next number, and there are no kept edits.
+  -- The plan is whole, has the values and rules of the file's chains in their order, and its next number; no edits are kept.
   pub plan : p ≡ wholeWith (valuesOf f) (rulesOf f) (nextNumber f)
   -- The history is one of a plan drawn and opened by hand.
   pub history : h ≡ record { mode = whole; values = valuesOf f; rules = rulesOf f; sides = 1; kept = []; settlings = []; moves = [] }
@@ -65,10 +65,10 @@ pub record GuaranteeActs (p : Plan) (h : History) : Type 0 where
   pub loaded : (f : List ℕ) → T (takes p (loading f)) → Loaded f (followingAct p (loading f)) (notingAct p h (loading f))
   -- From open on every load is refused with 31.
   pub shut : T (not (is blank (p .mode))) → (f : List ℕ) → load f p .answer ≡ no 31
-  -- What is saved of a whole plan and loaded, wherever nothing is drawn yet, is the same plan, with no kept edits;
+  -- Loading what is saved of a whole plan, wherever a list of acts has drawn nothing yet, is accepted and gives the plan again, but for its kept edits;
   pub saved-same : T (is whole (p .mode)) → (acts : List Act) → T (untouched (fromBlankActs acts .plan))
       → load (saved p) (fromBlankActs acts .plan) ≡ record { answer = ok []; plan = withoutKept p }
-  -- it shows the same.
+  -- and show answers on it as on the plan.
   pub shows-same : T (is whole (p .mode)) → (s : ℤ) (room : ℕ) → step (show s room) (withoutKept p) .answer ≡ step (show s room) p .answer
 
 -- the theorem (proofs/Acting: `guarantee-acts`)

@@ -95,6 +95,7 @@ module _ {A : Type 0} (g : ℕ → A → List ℕ) where
 
 -- ---- for the program: byte i of slot k, as an array has it
 
+-- Byte i of slot k stands at place 16 k + i of the file.
 pub slot-byte : (f : List ℕ) (k i : ℕ) → i < 16 → getD (slotIn f k) i 0 ≡ getD f (16 * k + i) 0
 unfolding slotIn
 slot-byte f k i h = getD-take 16 (drop (16 * k) f) i 0 h ∙ getD-drop (16 * k) f i 0

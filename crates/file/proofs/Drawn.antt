@@ -19,7 +19,7 @@ use Rattle.file.specs.Savable.{drawable, Savable}
 
 -- ---- calls that are all accepted
 
--- isNone of the calls is refused, and they lead from p to q
+-- none of the calls is refused, and they lead from p to q
 abbrev pub Goes : List Call → Plan → Plan → Type 0
 Goes cs p q = (firstRefusal cs p ≡ fine) × (end cs p ≡ q)
 
@@ -43,7 +43,7 @@ goes c cs p r q h e g =
 
 -- ---- measure by measure, rule by rule
 
--- a blank plan with measures and rules end
+-- a blank plan with measures and rules drawn
 abbrev pub blankWith : List ℤ → List Rule → Plan
 blankWith vs rs = record { mode = blank; content = record { rules = rs; next = 1; base = []; draft = []; sides = freshSide vs ∷ []; kept = [] } }
 
@@ -94,7 +94,7 @@ open-goes : (vs : List ℤ) (rs : List Rule) → 0 < length vs → T (holds rs v
 unfolding checks further after firstRefusal
 open-goes vs rs h t = goes open-plan [] (blankWith vs rs) (wholeWith vs rs 1) (wholeWith vs rs 1) (tt, (rw (ne-eqb (length vs) 0 (λ e. omega arith)) tt, (t, tt))) refl (refl, refl)
 
--- every call of the drawing of a savable plan is accepted
+-- Every call of the drawing of a plan that can be saved is accepted, and they lead to it.
 pub drawing-goes : (vs : List ℤ) (rs : List Rule) (next : ℕ) → Savable vs rs next → Goes (map measure vs ++ (map ruleCall rs ++ (open-plan ∷ []))) start (wholeWith vs rs 1)
 drawing-goes vs rs next s =
     measures-go _ (wholeWith vs rs 1) [] vs (omega (arith, s .measures)) (s .ranged)

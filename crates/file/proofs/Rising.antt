@@ -27,6 +27,7 @@ use Rattle.file.proofs.Written.{below, zero-back, measure-back, rule-ba
 
 -- ---- what a file loads to
 
+-- a load that is accepted met no refusal
 pub accepted : (f : List ℕ) (p : Plan) (xs : List ℤ) → load f p .answer ≡ ok xs → loadVerdict f p ≡ fine
 unfolding load
 accepted f p xs e = by (loadVerdict f p) e
@@ -35,10 +36,12 @@ accepted f p xs e = by (loadVerdict f p) e
     by fine e = refl
     by (refused k) e = let z : no k ≡ ok xs = e in cc
 
+-- its next number is in range
 pub number-in : (f : List ℕ) (p : Plan) → first (readChecks f p) ≡ fine → T (oneTo nextLimit (nextNumber f))
 unfolding readChecks numbered
 number-in f p e = passed (readChecks f p) (rw e tt) .1 .1 .1 .1 .1 .1 .1 .1 .0
 
+-- it leads to the plan of its chains, which can be saved
 loads-to : (f : List ℕ) (xs : List ℤ) → load f start .answer ≡ ok xs
     → (load f start .plan ≡ wholeWith (valuesOf f) (rulesOf f) (nextNumber f)) × Savable (valuesOf f) (rulesOf f) (nextNumber f)
 unfolding load drawing

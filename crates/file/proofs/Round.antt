@@ -1,4 +1,4 @@
--- What is saved loads, and gives the same plan, with no kept edits. Assumes nothing.
+-- Loading what was saved gives the plan again, but for its kept edits. Assumes nothing.
 use Prim.Native.Nat.{ℕ, suc, _+_, _-_, _%_, _<_}
 use mathlib.Core.Path.{_≡_, refl, ap, ap₂}
 use mathlib.Core.Bool.{not, _&&_}
@@ -197,7 +197,7 @@ module _ (vs : List ℤ) (rs : List Rule) (next : ℕ) (s : Savable vs rs next) 
       let g = drawing-goes vs rs next s in
       rw (reads, drawing-is, g .0, drawing-is, g .1) (ap (λ n. record { answer = ok []; plan = wholeWith vs rs n }) number-is)
 
--- What is saved and loaded is the same plan, with no kept edits.
+-- Of a plan that can be saved: loading what was saved is accepted and gives its values, rules and next number again.
 pub round-trip : (p : Plan) → Savable (firstValues (p .content)) (p .content .rules) (p .content .next) → load (saved p) start ≡ record { answer = ok []; plan = withoutKept p }
 unfolding saved
 round-trip p s = file-loads (firstValues (p .content)) (p .content .rules) (p .content .next) s

@@ -195,6 +195,7 @@ seen-length f =
     let c = length-append (measureChain f) (ruleChain f) in
     omega arith
 
+-- Where the five tests pass, both walks end and have seen every slot,
 pub sound-walks : (f : List ℕ) → 0 < slots f → Sound46 f → Walks f
 unfolding leavesFile meetsTwice wellMarked missesSlot clear
 sound-walks f o s =
@@ -220,6 +221,7 @@ sound-walks f o s =
       clean = z .0;
     }
 
+-- and where both walks end and have seen every slot, the five tests pass.
 pub walks-sound : (f : List ℕ) → Walks f → Sound46 f
 unfolding leavesFile meetsTwice wellMarked missesSlot clear
 walks-sound f w =

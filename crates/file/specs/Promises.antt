@@ -30,7 +30,7 @@ withoutKept p = wholeWith (firstValues (p .content)) (p .content .rules) (p .con
 abbrev pub ruleFrom : List ℕ → Rule
 ruleFrom s = ruleOf (pos (twoAt s 4)) (signedAt s 8) (pos (twoAt s 6)) (pos (bit (firmBit (markIn s))))
 
--- chain order gives the numbers
+-- measures and rules are numbered as the chains meet them
 abbrev pub valuesOf : List ℕ → List ℤ
 valuesOf f = map (λ k. valueIn (slotIn f k)) (measureChain f)
 
