@@ -2,15 +2,17 @@
 use Prim.Native.Nat.{ℕ, zero, suc, _+_, _-_, _<_, _≤_}
 use mathlib.Core.Path.{_≡_, refl, ap, _∙_}
 use mathlib.Core.Bool.{Bool, true, false, not}
-use mathlib.Core.List.{List, [], _∷_, _++_}
+use mathlib.Core.List.{List, [], _∷_}
 use native.Mathlib.Omega.{arith}
 use borrow.Author.Tests.{ne-eqb, leb-false}
-use lib.Dec.{T, eqb, leb}
+use lib.Dec.{T, eqb, leb, eqb→eq, nltb→le}
 use lib.ListN.{length, length-append}
-use Rattle.protocol.specs.Lists.{bit, isNone, oneTo, countTo, all, any}
-use Rattle.protocol.proofs.Laws.{cases, no-is, both, and-in, neither, or-left, in-range, range, same-no, same-yes, count-to-less, count-to-none}
+use Rattle.protocol.specs.Lists.{bit, isNone, oneTo, countTo, count, all, any}
+use Rattle.protocol.proofs.Laws.{cases, is-yes, no-is, not-not, bit-no, both, and-in, neither, or-left, in-range, range, same-no, same-yes, count-to-less, count-to-zero, count-to-none}
 use Rattle.file.specs.Bytes.{twoAt}
-use Rattle.file.specs.Loaded.{firstSlot, slotIn, slots, nextIn, chain, measureChain, ruleChain, met, elem, repeats, leavesFile, meetsTwice}
+use Rattle.file.specs.Loaded.{firstSlot, slotIn, slots, nextIn, chain, measureChain, ruleChain, met, elem, repeats, leavesFile, meetsTwice, missesSlot}
+use Rattle.file.specs.Promises.{ChainsEnd, ForEveryChain}
+use Rattle.file.proofs.Sums.{all-append}
 
 -- ---- different numbers of 1 .. n are at most n
 
@@ -21,6 +23,15 @@ count-to-most f (suc n) = let ih = count-to-most f n in let b = bit-most (f (suc
     bit-most : (b : Bool) → bit b ≤ 1
     bit-most true = omega arith
     bit-most false = omega arith
+
+-- those that pass and those that do not
+pub count-to-not : (g : ℕ → Bool) (n : ℕ) → countTo g n + countTo (λ s. not (g s)) n ≡ n
+count-to-not g zero = refl
+count-to-not g (suc n) = let ih = count-to-not g n in let b = bit-not (g (suc n)) in omega arith
+  where
+    bit-not : (b : Bool) → bit b + bit (not b) ≡ 1
+    bit-not true = refl
+    bit-not false = refl
 
 counted : (n : ℕ) (ks : List ℕ) → T (all (oneTo n) ks) → T (not (repeats ks)) → countTo (λ s. elem s ks) n ≡ length ks
 counted n [] a r = count-to-none (λ s. false) n (λ s p q. tt)
@@ -37,8 +48,8 @@ pigeons n ks a r = let e = counted n ks a r in let m = count-to-most (λ s. elem
 
 -- ---- a chain's slots
 
--- however it goes on, it is followed for n slots at most
-pub chain-most : (f : List ℕ) (n k : ℕ) → length (chain f n k) ≤ n
+-- Following a chain for n slots meets at most n, whatever the file; so it ends where the chain is a circle, too.
+pub chain-most : ChainsEnd
 chain-most f zero k = omega arith
 chain-most f (suc n) k = let ih = chain-most f n (nextIn (slotIn f k)) in cases (isNone k) (λ e. rw e (omega arith)) (λ e. rw e (omega arith))
 
@@ -47,10 +58,6 @@ chain-most f (suc n) k = let ih = chain-most f n (nextIn (slotIn f k)) in cases 
 chain-some : (f : List ℕ) (n k : ℕ) → T (all (λ x. not (isNone x)) (chain f n k))
 chain-some f zero k = tt
 chain-some f (suc n) k = let ih = chain-some f n (nextIn (slotIn f k)) in cases (isNone k) (λ e. rw e tt) (λ e. rw (e, e) ih)
-
-all-append : (p : ℕ → Bool) (xs ys : List ℕ) → T (all p xs) → T (all p ys) → T (all p (xs ++ ys))
-all-append p [] ys s t = t
-all-append p (x ∷ xs) ys s t = let b = both (p x) (all p xs) s in and-in (p x) _ (b .0) (all-append p xs ys (b .1) t)
 
 inside : (c : ℕ) (ks : List ℕ) → T (all (λ x. not (isNone x)) ks) → T (not (any (λ x. leb c x) ks)) → T (all (oneTo (c - 1)) ks)
 inside c [] a l = tt
@@ -95,7 +102,45 @@ module _ (f : List ℕ) (some : 0 < slots f) (l : T (not (leavesFile f))) (t : T
       omega arith
 
   -- the chains do not depend on how far they are followed
-  pub enough : (m : ℕ) → (chain f (m + slots f) (twoAt (firstSlot f) 0) ≡ measureChain f) × (chain f (m + slots f) (twoAt (firstSlot f) 2) ≡ ruleChain f)
+  enough : (m : ℕ) → (chain f (m + slots f) (twoAt (firstSlot f) 0) ≡ measureChain f) × (chain f (m + slots f) (twoAt (firstSlot f) 2) ≡ ruleChain f)
   enough m =
       let a = length-append (measureChain f) (ruleChain f) in
       (chain-ended f (slots f) (twoAt (firstSlot f) 0) m (omega (arith, met-most)), chain-ended f (slots f) (twoAt (firstSlot f) 2) m (omega (arith, met-most)))
+
+-- ---- each slot is met once
+
+elem-none : (k : ℕ) (ks : List ℕ) → T (not (elem k ks)) → count (eqb k) ks ≡ 0
+elem-none k [] t = refl
+elem-none k (x ∷ ks) t =
+    let d = neither (eqb k x) (elem k ks) t in
+    let b = bit-no (eqb k x) (d .0) in
+    let ih = elem-none k ks (d .1) in
+    omega arith
+
+elem-once : (k : ℕ) (ks : List ℕ) → T (elem k ks) → T (not (repeats ks)) → count (eqb k) ks ≡ 1
+elem-once k [] t r = absurd t
+elem-once k (x ∷ ks) t r =
+    let d = neither (elem x ks) (repeats ks) r in
+    let ih = elem-once k ks in
+    cases (eqb k x)
+    (λ e. let z = elem-none k ks (rw (eqb→eq k x (is-yes e)) (d .0)) in rw e (omega arith))
+    (λ e. let z = ih (rw e at t) (d .1) in rw e (omega arith))
+
+-- how many slots there are
+pub met-all : (f : List ℕ) → 0 < slots f → T (not (leavesFile f)) → T (not (meetsTwice f)) → T (not (missesSlot f)) → slots f ≡ suc (length (met f))
+unfolding missesSlot
+met-all f some l t m =
+    let missed = nltb→le 0 (countTo (λ k. not (elem k (met f))) (slots f - 1)) m in
+    let a = count-to-not (λ x. elem x (met f)) (slots f - 1) in
+    let b = met-counted f l t in
+    omega arith
+
+-- In a file that passes these tests each slot but slot 0 is met exactly once, and the chains are the same however far they are followed.
+pub chained : ForEveryChain
+unfolding meetsTwice missesSlot
+chained f some l t m =
+    let missed = nltb→le 0 (countTo (λ k. not (elem k (met f))) (slots f - 1)) m in
+    record {
+      once = λ k p q. elem-once k (met f) (not-not (elem k (met f)) (count-to-zero (λ k. not (elem k (met f))) (slots f - 1) k (omega arith) p (omega arith))) t;
+      enough = enough f some l t;
+    }

@@ -1,6 +1,10 @@
 pub mod Words
 pub mod Sums
 pub mod Chains
+pub mod Cells
 pub mod Enough
 pub mod Walks
-pub mod Cells
+pub mod Drawn
+pub mod Round
+pub mod Written
+pub mod Rising

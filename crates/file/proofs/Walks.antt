@@ -7,12 +7,12 @@ use native.Mathlib.Omega.{arith}
 use borrow.Author.Tests.{le-ltb, lt-leb, leb-false, ne-eqb}
 use lib.Dec.{T, eqb, leb, ltb, ltb→lt, lt→ltb, nltb→le}
 use lib.ListN.{length, length-append}
-use Rattle.protocol.specs.Lists.{bit, isNone, countTo, all, any}
+use Rattle.protocol.specs.Lists.{isNone, countTo, all, any}
 use Rattle.protocol.proofs.Laws.{cases, yes-is, no-is, is-yes, is-no, both, and-in, neither, same-no}
 use Rattle.file.specs.Bytes.{twoAt, kindBits, measureKind, ruleKind}
 use Rattle.file.specs.Loaded.{slotIn, slots, nextIn, markIn, zeroFrom, clearMeasure, clearRule, firstSlot, measureChain, ruleChain, met, marked, leavesFile, meetsTwice, wellMarked, missesSlot, clear, chain, elem, repeats}
 use Rattle.file.specs.Walked.{stopped, ended, good, walk, asMeasure, asRule}
-use Rattle.file.proofs.Enough.{met-most, met-counted}
+use Rattle.file.proofs.Enough.{met-most, met-counted, count-to-not}
 
 -- the slots ks seen after those of seen, the newest first
 abbrev pub onto : List ℕ → List ℕ → List ℕ
@@ -171,16 +171,6 @@ all-both p q (k ∷ ks) t =
     let ih = all-both p q ks (a .1) in
     (and-in (p k) _ (b .0) (ih .0), and-in (q k) _ (b .1) (ih .1))
 
--- ---- missed slots are those that the count lacks
-
-count-to-not : (g : ℕ → Bool) (n : ℕ) → countTo g n + countTo (λ s. not (g s)) n ≡ n
-count-to-not g zero = refl
-count-to-not g (suc n) = let ih = count-to-not g n in let b = bit-not (g (suc n)) in omega arith
-  where
-    bit-not : (b : Bool) → bit b + bit (not b) ≡ 1
-    bit-not true = refl
-    bit-not false = refl
-
 -- ---- the theorem
 
 -- the five tests of 46 that speak of slots
@@ -205,6 +195,7 @@ seen-length f =
     let c = length-append (measureChain f) (ruleChain f) in
     omega arith
 
+-- Where the five tests pass, both walks end and have seen every slot,
 pub sound-walks : (f : List ℕ) → 0 < slots f → Sound46 f → Walks f
 unfolding leavesFile meetsTwice wellMarked missesSlot clear
 sound-walks f o s =
@@ -230,6 +221,7 @@ sound-walks f o s =
       clean = z .0;
     }
 
+-- and where both walks end and have seen every slot, the five tests pass.
 pub walks-sound : (f : List ℕ) → Walks f → Sound46 f
 unfolding leavesFile meetsTwice wellMarked missesSlot clear
 walks-sound f w =

@@ -1,6 +1,6 @@
 -- Words and the mark byte, written and read. Assumes nothing.
 use Prim.Native.Nat.{ℕ, zero, suc, _+_, _*_, _-_, _/_, _%_, _<_}
-use mathlib.Core.Path.{_≡_}
+use mathlib.Core.Path.{_≡_, refl}
 use mathlib.Core.Bool.{Bool, true, false}
 use mathlib.Core.List.{List, [], _++_}
 use native.Mathlib.Omega.{arith}
@@ -14,6 +14,7 @@ use Rattle.file.specs.Bytes.{wordSize, twoBytes, fourBytes, complement, 
 
 -- ---- unsigned
 
+-- a number is the sum of its bytes
 pub two-sum : (n : ℕ) → n < 65_536 → n % 256 + 256 * (n / 256 % 256) ≡ n
 two-sum n h = omega arith
 
@@ -23,6 +24,7 @@ four-sum n h =
     let b : n / 16_777_216 ≡ n / 65_536 / 256 = omega arith in
     rw (a, b, two-sum (n / 65_536) (omega arith)) (omega arith)
 
+-- Two bytes written are read back, and so are four.
 pub two-back : (n : ℕ) (post : List ℕ) → n < 65_536 → twoAt (twoBytes n ++ post) 0 ≡ n
 unfolding twoAt twoBytes
 two-back n post h = two-sum n h
@@ -53,15 +55,18 @@ pub signed-back : (v : ℤ) → Short v → signed (complement v) ≡ v
 unfolding signed complement
 signed-back (pos n) h = rw (lt-ltb n 2_147_483_648 h)
 signed-back (negsuc n) h =
+    let w : complement (negsuc n) ≡ wordSize - suc n = refl in
     let a : wordSize - (wordSize - suc n) ≡ suc n = omega arith in
     rw (le-ltb (wordSize - suc n) 2_147_483_648 (omega arith), a)
 
+-- Four bytes of two's complement written are read back.
 pub signed-four-back : (v : ℤ) (post : List ℕ) → Short v → signedAt (fourBytes (complement v) ++ post) 0 ≡ v
 unfolding signedAt
 signed-four-back v post h = rw (four-back (complement v) post (complement-below v h)) (signed-back v h)
 
 -- ---- the mark byte
 
+-- Kind and firm flag of a mark byte are read back, and its other bits are nought.
 pub mark-kind : (k : ℕ) (b : Bool) → k < 4 → kindBits (mark k b) ≡ k
 unfolding kindBits mark
 mark-kind k true h = omega arith
@@ -77,7 +82,7 @@ unfolding highBits mark
 mark-high k true h = omega arith
 mark-high k false h = omega arith
 
--- a mark byte is its kind, its third bit and its upper bits
+-- A mark byte whose upper bits are nought is built again from its kind and its third bit.
 pub mark-parts : (m : ℕ) → highBits m ≡ 0 → mark (kindBits m) (firmBit m) ≡ m
 unfolding highBits mark kindBits firmBit
 mark-parts m h = cases (eqb (m / 4 % 2) 1)

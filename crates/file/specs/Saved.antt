@@ -1,6 +1,6 @@
 -- Believed: a whole plan saved (02, S-1): slots of 16 bytes, linked by a next slot number, where 0 ends the chain. Assumes nothing.
 use Prim.Native.Nat.{ℕ, suc, _+_}
-use mathlib.Core.Bool.{Bool, true, false}
+use mathlib.Core.Bool.{false}
 use mathlib.Core.List.{List, [], _∷_, _++_}
 use lib.ListN.{length}
 use lib.IntN.{ℤ, pos}

@@ -24,14 +24,14 @@ use Rattle.guarantee.proofs.Consistent.{Consistent, Parted, Active, out
 
 -- ---- the closing moves
 
-data Closing : Call → Type 0 where
+pub data Closing : Call → Type 0 where
   by-send : (s : ℤ) → Closing (send s)
   by-replay : (n : ℤ) → Closing (replay n)
   by-stop : Closing stop
   by-confirm : (s : ℤ) → Closing (confirm s)
   by-install : Closing install
 
-which-closing : (c : Call) → T (closes c) → Closing c
+pub which-closing : (c : Call) → T (closes c) → Closing c
 which-closing (measure v) h = absurd h
 which-closing (rule a c b f) h = absurd h
 which-closing open-plan h = absurd h
@@ -66,7 +66,7 @@ unfolding step
 if-taken c p h = passed (checks c p) (verdict-by (first (checks c p)) c p h)
 
 -- the invariant: what holds of the plan alone, and what ties it to the history
-abbrev Sound : Plan → History → Type 0
+abbrev pub Sound : Plan → History → Type 0
 Sound p h = Holding (p .mode) (p .content) × Consistent (p .mode) (p .content) h
 
 pub sound-step : (c : Call) (p : Plan) (h : History) → Sound p h → Sound (following p c) (noting p h c)
@@ -74,7 +74,7 @@ sound-step c p h t = stepped (λ r. Sound (r .plan) (recorded c (r .answer) h)) 
     (λ k. (holding-after c (p .mode) (p .content) (t .0) k, consistent-after c (p .mode) (p .content) h (t .0) (t .1) k))
     (λ n. t)
 
-keeps : (c : Call) (p : Plan) (h : History) → T (not (accepts p c)) → (following p c ≡ p) × (noting p h c ≡ h)
+pub keeps : (c : Call) (p : Plan) (h : History) → T (not (accepts p c)) → (following p c ≡ p) × (noting p h c ≡ h)
 unfolding step
 keeps c p h k = by (first (checks c p)) k
   where
@@ -82,7 +82,7 @@ keeps c p h k = by (first (checks c p)) k
     by fine k = absurd k
     by (refused n) k = (refl, refl)
 
-stays-put : (c : Call) (p : Plan) → T (not (accepts p c)) → following p c ≡ p
+pub stays-put : (c : Call) (p : Plan) → T (not (accepts p c)) → following p c ≡ p
 stays-put c p k = keeps c p empty k .0
 
 moves : (c : Call) (p : Plan) → T (accepts p c) → following p c ≡ after c (p .mode) (p .content)
@@ -154,7 +154,7 @@ module _ (m : Mode) (d : Content) (h : History) (t : Parted d h) (a : Active m d
       (λ q. (replay (pos (q .0)), tt, taken-if (replay (pos (q .0))) (plan m d) (on-way, (is-none-yes _ (logs-in z), (q .2, (q .3, tt)))))))
       (λ q. (send (pos (q .0)), tt, taken-if (send (pos (q .0))) (plan m d) (on-way, (in-range _ (q .0) (q .1) (omega (arith, q .2, t .sides)), (q .3, tt)))))
 
-able-with : (p : Plan) (h : History) → Sound p h → T (active (p .mode)) → Able p
+pub able-with : (p : Plan) (h : History) → Sound p h → T (active (p .mode)) → Able p
 able-with p h t k = let st = out (p .mode) (p .content) h k (t .1 .stage) in able (p .mode) (p .content) h (st .0) (st .1) k
 
 -- what install finds: nothing is left but itself
@@ -245,13 +245,13 @@ whole-left : (p : Plan) → p .mode ≡ whole → leftIn p ≡ 0
 whole-left p e = rw e
 
 -- one call on, with no accepted edit: the join is under way as before and the number left has fallen by the call's share, or the call was its install
-abbrev On : Call → Plan → Type 0
+abbrev pub On : Call → Plan → Type 0
 On c p = T (active (following p c .mode)) × (leftIn p ≡ bit (closes c && accepts p c) + leftIn (following p c))
 
-abbrev Over : Call → Plan → Type 0
+abbrev pub Over : Call → Plan → Type 0
 Over c p = (c ≡ install) × T (accepts p c) × (following p c .mode ≡ whole) × (leftIn p ≡ 1)
 
-one-on : (c : Call) (p : Plan) (h : History) → Sound p h → T (active (p .mode)) → T (not (edits c && accepts p c)) → On c p ⊎ Over c p
+pub one-on : (c : Call) (p : Plan) (h : History) → Sound p h → T (active (p .mode)) → T (not (edits c && accepts p c)) → On c p ⊎ Over c p
 one-on c p h t a q =
     cases (accepts p c)
     (λ y.
@@ -308,7 +308,7 @@ carried (c ∷ cs) p h t a q =
     }))
 
 -- a whole plan accepts no closing move
-shut : {c : Call} → Closing c → (d : Content) → Pass (checks c (plan whole d)) → ⊥
+pub shut : {c : Call} → Closing c → (d : Content) → Pass (checks c (plan whole d)) → ⊥
 unfolding checks further
 shut (by-send s) d c = c .0
 shut (by-replay n) d c = c .0
@@ -323,7 +323,7 @@ none-taken (c ∷ cs) p e k =
     let n = not-T (accepts p c) (λ y. shut (which-closing c (b .0)) (p .content) (rw e at (if-taken c p y))) in
     rw (no-is (accepts p c) n, stays-put c p n) (none-taken cs p e (b .1))
 
-not-editing : (c : Call) (b : Bool) → T (closes c) → T (not (edits c && b))
+pub not-editing : (c : Call) (b : Bool) → T (closes c) → T (not (edits c && b))
 not-editing c b k = by (which-closing c k)
   where
     by : {c : Call} → Closing c → T (not (edits c && b))
@@ -418,7 +418,7 @@ shows : (d : Content) (vs : List ℤ) → length (d .sides) ≡ 1 → sideAt d 1
 unfolding step checks further gives
 shows d vs one e room = rw (one, e) (cases (leb (length vs) room) (λ t. rw t (ap {B = Answer} ok e)) (λ t. rw t))
 
-guaranteed : (p : Plan) (h : History) → Sound p h → Guarantee p h
+pub guaranteed : (p : Plan) (h : History) → Sound p h → Guarantee p h
 guaranteed p h sound =
     let g = sound .0 in
     let t = sound .1 in
@@ -448,10 +448,10 @@ guaranteed p h sound =
       draft-holds = g .draft;
     }
 
-started : Sound start empty
+pub started : Sound start empty
 started = (holding-start, record { mode = refl; rules = refl; next = omega arith; reported = λ n. refl; ordered = tt; stage = refl })
 
-sound-run : (cs : List Call) (p : Plan) (h : History) → Sound p h → Sound (run cs (record { plan = p; history = h }) .plan) (run cs (record { plan = p; history = h }) .history)
+pub sound-run : (cs : List Call) (p : Plan) (h : History) → Sound p h → Sound (run cs (record { plan = p; history = h }) .plan) (run cs (record { plan = p; history = h }) .history)
 sound-run [] p h t = t
 sound-run (c ∷ cs) p h t = sound-run cs (following p c) (noting p h c) (sound-step c p h t)
 
