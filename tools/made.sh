@@ -3,6 +3,7 @@
 counter=target/bin/counter
 library=target/staticlib/libscreen.a
 explainer=target/explain/release/explain
+desk=target/desk/release/desk
 
 stale() { # FILE SOURCE..
     made=$1
@@ -41,4 +42,12 @@ make_explainer() {
     need cargo 'Rust' || return
     echo "building $explainer: some seconds" >&2
     CARGO_TARGET_DIR=target/explain cargo build --release --offline --quiet --manifest-path explain/Cargo.toml && mark "$explainer"
+}
+
+make_desk() {
+    make_library || return
+    stale "$desk" desk "$library" || return 0
+    need cargo 'Rust' || return
+    echo "building $desk: some seconds" >&2
+    CARGO_TARGET_DIR=target/desk cargo build --release --offline --quiet --manifest-path desk/Cargo.toml && mark "$desk"
 }
