@@ -7,9 +7,23 @@ pub const FILE_LIMIT: usize = 97 * SLOT;
 
 mod library {
     extern "C" {
-        pub fn screen_load(file: *const u8, file_len: usize, sheet: *const u8, sheet_len: usize, area: *mut u8, area_len: usize) -> u64;
+        pub fn screen_load(
+            file: *const u8,
+            file_len: usize,
+            sheet: *const u8,
+            sheet_len: usize,
+            area: *mut u8,
+            area_len: usize,
+        ) -> u64;
         pub fn screen_save(sheet: *const u8, sheet_len: usize, area: *mut u8, area_len: usize) -> u64;
-        pub fn screen_save_on(file: *const u8, file_len: usize, sheet: *const u8, sheet_len: usize, area: *mut u8, area_len: usize) -> u64;
+        pub fn screen_save_on(
+            file: *const u8,
+            file_len: usize,
+            sheet: *const u8,
+            sheet_len: usize,
+            area: *mut u8,
+            area_len: usize,
+        ) -> u64;
     }
 }
 
@@ -26,9 +40,8 @@ pub struct Run {
 /// Loads the file and runs the sheet on it, into the area.
 pub fn load(file: &[u8], sheet: &[u8], area: &mut [u8]) -> Result<Run, Refused> {
     // The slices are valid for their lengths, and the one that is written is borrowed alone.
-    let result = unsafe {
-        library::screen_load(file.as_ptr(), file.len(), sheet.as_ptr(), sheet.len(), area.as_mut_ptr(), area.len())
-    };
+    let result =
+        unsafe { library::screen_load(file.as_ptr(), file.len(), sheet.as_ptr(), sheet.len(), area.as_mut_ptr(), area.len()) };
     value(result).map(|run| Run { written: (run / 2) as usize, ended: run % 2 == 1 })
 }
 

@@ -51,10 +51,18 @@ fn save(old: Option<&Path>, sheet: &Path, plan: &Path) -> Result<(), String> {
     let old = old.map(|old| read(old, FILE_LIMIT)).transpose()?;
     let lines = read_sheet(sheet)?;
     let file = entry::save(old.as_deref(), &lines).map_err(refusals::in_words)?;
-    let place = Place::new(plan).map_err(|error| format!("cannot write {}: {error}", plan.display()))?;
-    place.put(&file).map_err(|error| format!("cannot write {}: {error}", plan.display()))?;
+    put(&file, plan, sheet).map_err(|error| format!("cannot write {}: {error}", plan.display()))?;
     let line = format!("saved: {}\n", contents(&file));
     print(line.as_bytes()).map_err(|error| format!("the plan is saved, but that cannot be said: {error}"))
+}
+
+/// A sheet is not written over by its own plan: that is a slip of whoever typed the names.
+fn put(file: &[u8], plan: &Path, sheet: &Path) -> io::Result<()> {
+    let place = Place::new(plan)?;
+    if sheet != Path::new("-") && place.holds(sheet) {
+        return Err(io::Error::other("it is the sheet"));
+    }
+    place.put(file)
 }
 
 fn load(plan: &Path, sheet: Option<&Path>) -> Result<(), String> {

@@ -3,6 +3,7 @@
 
 use std::fs::{self, File, OpenOptions};
 use std::io::{self, ErrorKind, Write};
+use std::os::unix::fs::MetadataExt;
 use std::path::{Path, PathBuf};
 use std::process;
 
@@ -39,6 +40,12 @@ impl Place {
             _ => PathBuf::from("."),
         };
         Ok(Place { path, folder, old })
+    }
+
+    /// Whether this very file is there already, under whatever name.
+    pub fn holds(&self, file: &Path) -> bool {
+        let same = |old: &fs::Metadata, other: fs::Metadata| (old.dev(), old.ino()) == (other.dev(), other.ino());
+        self.old.as_ref().zip(fs::metadata(file).ok()).is_some_and(|(old, other)| same(old, other))
     }
 
     /// Puts the bytes there. After an error what was there is there still, unless it says otherwise.
