@@ -98,3 +98,88 @@ fn keep_rights(file: &File, old: &fs::Metadata) -> io::Result<()> {
         _ => Ok(()),
     }
 }
+
+#[cfg(test)]
+mod tests {
+    use super::*;
+    use std::env;
+    use std::os::unix::fs::{symlink, PermissionsExt};
+
+    /// A folder of its own for each test, which goes with it.
+    struct Folder(PathBuf);
+
+    impl Folder {
+        fn new(test: &str) -> Folder {
+            let folder = env::temp_dir().join(format!("molzaken-{}-{test}", process::id()));
+            fs::create_dir(&folder).unwrap();
+            Folder(folder)
+        }
+
+        fn file(&self, name: &str) -> PathBuf {
+            self.0.join(name)
+        }
+
+        fn names(&self) -> Vec<String> {
+            let mut names: Vec<String> =
+                fs::read_dir(&self.0).unwrap().map(|entry| entry.unwrap().file_name().into_string().unwrap()).collect();
+            names.sort();
+            names
+        }
+    }
+
+    impl Drop for Folder {
+        fn drop(&mut self) {
+            let _ = fs::remove_dir_all(&self.0);
+        }
+    }
+
+    fn put(path: &Path, bytes: &[u8]) -> io::Result<()> {
+        Place::new(path)?.put(bytes)
+    }
+
+    #[test]
+    fn a_file_takes_its_place_and_leaves_nothing_beside() {
+        let folder = Folder::new("place");
+        let file = folder.file(&"x".repeat(255));
+        for bytes in [&b"a long one"[..], b"short", b""] {
+            put(&file, bytes).unwrap();
+            assert_eq!(fs::read(&file).unwrap(), bytes);
+            assert_eq!(folder.names().len(), 1);
+        }
+    }
+
+    #[test]
+    fn names_that_are_taken_are_left_alone() {
+        let folder = Folder::new("taken");
+        let taken = folder.file(&format!(".molzaken-{}-0", process::id()));
+        fs::write(&taken, "other").unwrap();
+        put(&folder.file("plan"), b"new").unwrap();
+        assert_eq!((fs::read(&taken).unwrap(), folder.names().len()), (b"other".to_vec(), 2));
+    }
+
+    #[test]
+    fn a_link_stays_one_and_rights_are_kept() {
+        let folder = Folder::new("link");
+        let (file, link) = (folder.file("plan"), folder.file("link"));
+        fs::write(&file, "old").unwrap();
+        fs::set_permissions(&file, fs::Permissions::from_mode(0o640)).unwrap();
+        symlink("plan", &link).unwrap();
+        put(&link, b"new").unwrap();
+        assert!(fs::symlink_metadata(&link).unwrap().is_symlink());
+        assert_eq!(fs::read(&file).unwrap(), b"new");
+        assert_eq!(fs::metadata(&file).unwrap().permissions().mode() & 0o777, 0o640);
+        assert!(Place::new(&link).unwrap().holds(&file) && !Place::new(&folder.file("none")).unwrap().holds(&file));
+    }
+
+    #[test]
+    fn what_is_no_plain_file_stays() {
+        let folder = Folder::new("plain");
+        let file = folder.file("plan");
+        fs::write(&file, "old").unwrap();
+        fs::set_permissions(&file, fs::Permissions::from_mode(0o444)).unwrap();
+        for path in [&folder.0, &file, Path::new("/dev/null"), Path::new(""), Path::new(".."), &folder.file("none/plan")] {
+            assert!(put(path, b"new").is_err(), "{}", path.display());
+        }
+        assert_eq!((fs::read(&file).unwrap(), folder.names().len()), (b"old".to_vec(), 1));
+    }
+}
