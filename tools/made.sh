@@ -34,7 +34,9 @@ make_counter() {
 
 make_library() {
     stale "$library" crates crates.txt || return 0
-    need rt 'the Rattle kit' && rt staticlib screen && mark "$library"
+    need rt 'the Rattle kit' || return
+    echo "building $library and proving what it stands on: some minutes if nothing was proved before" >&2
+    RT_JOBS=${RT_JOBS:-4} rt staticlib screen && mark "$library"
 }
 
 make_explainer() {
