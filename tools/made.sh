@@ -3,6 +3,7 @@
 counter=target/bin/counter
 library=target/staticlib/libscreen.a
 explainer=target/explain/release/explain
+desk=target/desk/release/desk
 
 stale() { # FILE SOURCE..
     made=$1
@@ -33,7 +34,9 @@ make_counter() {
 
 make_library() {
     stale "$library" crates crates.txt || return 0
-    need rt 'the Rattle kit' && rt staticlib screen && mark "$library"
+    need rt 'the Rattle kit' || return
+    echo "building $library and proving what it stands on: some minutes if nothing was proved before" >&2
+    RT_JOBS=${RT_JOBS:-4} rt staticlib screen && mark "$library"
 }
 
 make_explainer() {
@@ -41,4 +44,12 @@ make_explainer() {
     need cargo 'Rust' || return
     echo "building $explainer: some seconds" >&2
     CARGO_TARGET_DIR=target/explain cargo build --release --offline --quiet --manifest-path explain/Cargo.toml && mark "$explainer"
+}
+
+make_desk() {
+    make_library || return
+    stale "$desk" desk "$library" || return 0
+    need cargo 'Rust' || return
+    echo "building $desk: some seconds" >&2
+    CARGO_TARGET_DIR=target/desk cargo build --release --offline --quiet --manifest-path desk/Cargo.toml && mark "$desk"
 }

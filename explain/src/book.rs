@@ -1,6 +1,7 @@
 //! What is remembered of the accepted lines, from their numbers and answers alone (01, "The book").
 
 use crate::call::{Call, Edit, Rule};
+use crate::saved::Saved;
 use std::collections::BTreeMap;
 
 #[derive(Clone, Copy, PartialEq, Eq, Debug)]
@@ -86,6 +87,14 @@ impl Default for Book {
 }
 
 impl Book {
+    /// A loaded plan: whole, with no kept edits.
+    pub fn on(plan: &Saved) -> Book {
+        let values = (1..).zip(plan.values.iter().copied()).collect();
+        let rules = (1..).zip(plan.rules.iter().copied()).collect();
+        let sides = BTreeMap::from([(1, Side { values, ..Side::default() })]);
+        Book { mode: Mode::Whole, rules, sides, ..Book::default() }
+    }
+
     /// Enters an accepted line. `given` are the answer's numbers, at least one.
     pub fn enter(&mut self, call: Call, given: &[i64]) {
         match call {

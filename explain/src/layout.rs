@@ -42,11 +42,16 @@ impl Page {
         }
     }
 
-    /// Words that belong to no line, with an empty line above them if there is anything above.
-    pub fn note(&mut self, words: &[String]) {
-        if !self.text.is_empty() {
+    /// An empty line, if there is anything above and it does not end in one.
+    pub fn gap(&mut self) {
+        if !self.text.is_empty() && !self.text.ends_with("\n\n") {
             self.text.push('\n');
         }
+    }
+
+    /// Words that belong to no line, with a gap above them.
+    pub fn note(&mut self, words: &[String]) {
+        self.gap();
         for paragraph in words {
             self.put("", 0, paragraph);
         }

@@ -10,18 +10,31 @@ mod names;
 mod phrases;
 pub mod refusals;
 mod refused;
+mod saved;
 mod words;
 
 pub use names::Names;
+pub use saved::Saved;
 
 use layout::Page;
 use words::Teller;
 
 /// The whole sheet, each line with its answer and what it means.
 pub fn explain(sheet: &[u8], answers: &[u8], names: Names) -> String {
-    let answers = lines(answers);
-    let mut teller = Teller::new(names);
+    told(Page::new(), Teller::new(names), sheet, answers)
+}
+
+/// The same for a sheet on a saved plan, behind what the plan holds.
+pub fn explain_on(plan: &Saved, sheet: &[u8], answers: &[u8], names: Names) -> String {
+    let teller = Teller::on(plan, names);
     let mut page = Page::new();
+    page.note(&teller.loaded());
+    page.gap();
+    told(page, teller, sheet, answers)
+}
+
+fn told(mut page: Page, mut teller: Teller, sheet: &[u8], answers: &[u8]) -> String {
+    let answers = lines(answers);
     // 52 is the one answer to a whole sheet, of which no line was run.
     if answers.first().is_some_and(|answer| *answer == b"no 52") {
         page.note(&teller.too_long());

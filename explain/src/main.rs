@@ -1,10 +1,10 @@
 //! Prints a sheet with its answers in plain words.
 //!
-//! explain SHEET ANSWERS [NAMES]
+//! explain [--on PLAN] SHEET ANSWERS [NAMES]
 
 #![forbid(unsafe_code)]
 
-use explain::{explain, Names};
+use explain::{explain, explain_on, Names, Saved};
 use std::env;
 use std::fs;
 use std::io::{self, Write};
@@ -21,15 +21,23 @@ fn main() -> ExitCode {
 }
 
 fn explained(arguments: &[String]) -> Result<String, String> {
+    let (plan, arguments) = match arguments {
+        [option, plan, rest @ ..] if option == "--on" => (Some(Saved::read(&read(plan)?)), rest),
+        _ => (None, arguments),
+    };
     let (sheet, answers, names) = match arguments {
         [sheet, answers] => (sheet, answers, Names::default()),
         [sheet, answers, names] => {
             let text = String::from_utf8_lossy(&read(names)?).into_owned();
             (sheet, answers, Names::read(&text).map_err(|problem| format!("{names}: {problem}"))?)
         }
-        _ => return Err("usage: explain SHEET ANSWERS [NAMES]".to_string()),
+        _ => return Err("usage: explain [--on PLAN] SHEET ANSWERS [NAMES]".to_string()),
     };
-    Ok(explain(&read(sheet)?, &read(answers)?, names))
+    let (sheet, answers) = (read(sheet)?, read(answers)?);
+    Ok(match plan {
+        None => explain(&sheet, &answers, names),
+        Some(plan) => explain_on(&plan, &sheet, &answers, names),
+    })
 }
 
 /// Fails where not all was written, also where the reader had seen enough, as `head`.

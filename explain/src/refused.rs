@@ -20,7 +20,12 @@ impl Teller {
             _ => call.and_then(|call| self.detail(number, call)),
         };
         let detail = detail.map_or(String::new(), |detail| format!(" {detail}"));
-        format!("Refused. {}{detail} To {}: {}", known.meaning, known.to, known.advice)
+        // Only a run without a file begins with a blank plan.
+        let advice = match number {
+            52 if self.is_on_a_file() => "cut the sheet in two; save what the first leaves whole, and run the second on it.",
+            _ => known.advice,
+        };
+        format!("Refused. {}{detail} To {}: {advice}", known.meaning, known.to)
     }
 
     /// What the book knows about the case, where that helps.
@@ -31,6 +36,9 @@ impl Teller {
             (17, _) => self.broken_rules(&book.broken(book.values(1))).map(|rules| format!("{}.", capital(&rules))),
             (21, _) => Some(format!("The plan has {}.", up_to(book.sides.len(), "side"))),
             (25, Call::Edit(edit)) => Some(match book.edits.get(&edit.earlier) {
+                None if self.is_from_before(edit.earlier) => {
+                    format!("Edit {} was made before the plan was saved, and is not kept.", edit.earlier)
+                }
                 None => format!("No edit {} is kept.", edit.earlier),
                 Some(kept) if kept.edit.client != edit.client => format!("Edit {} is {}.", edit.earlier, self.by(&kept.edit)),
                 Some(_) => format!("Edit {} is not sent yet.", edit.earlier),

@@ -4,21 +4,57 @@ use crate::book::{Book, Broken, Fate, Kept, Mode, Trial};
 use crate::call::{Answer, Call, Change, Edit, Rule};
 use crate::names::Names;
 use crate::phrases::{capital, count, mm, numbered};
+use crate::saved::Saved;
 
 const JOIN: &str =
     "The join begins, from the plan as it was at the split. Every side sends its edits; then each edit is tried on \
                     the joined plan.";
 const STOP: &str = "No more edits are taken. What was not sent has to be sent and tried, and every side confirms.";
 
+/// The next number once every number has been given.
+const LAST: i64 = 1_000_000;
+
 pub struct Teller {
     pub(crate) book: Book,
     pub(crate) names: Names,
     refused: usize,
+    /// The next edit's number in the file that the sheet is run on, 0 without a file. Earlier edits are not in the file.
+    first: i64,
 }
 
 impl Teller {
     pub fn new(names: Names) -> Teller {
-        Teller { book: Book::default(), names, refused: 0 }
+        Teller { book: Book::default(), names, refused: 0, first: 0 }
+    }
+
+    pub fn on(plan: &Saved, names: Names) -> Teller {
+        Teller { book: Book::on(plan), names, refused: 0, first: plan.next }
+    }
+
+    /// What was loaded.
+    pub fn loaded(&self) -> Vec<String> {
+        let measures = count(self.book.values(1).len(), "measure");
+        let rules = count(self.book.rules.len(), "rule");
+        let side = self.names.introduced("side", 1);
+        let edits = match self.first {
+            ..=1 => "No edit was made on it yet.".to_string(),
+            LAST.. => "Edit 999,999 was made on it, and there is none after it.".to_string(),
+            next => format!("The next edit is number {next}; no earlier one is kept in the file."),
+        };
+        let mut words =
+            vec![format!("Loaded: a whole plan with {measures} and {rules}. There is one copy of it, {side}. {edits}")];
+        words.extend(self.book.values(1).iter().map(|(&number, &value)| format!("- {}", self.measured(number, value))));
+        words.extend(self.book.rules.iter().map(|(&number, rule)| format!("- {}", self.ruled(number, rule))));
+        words
+    }
+
+    pub(crate) fn is_on_a_file(&self) -> bool {
+        self.first > 0
+    }
+
+    /// Whether the edit was made before the plan was saved.
+    pub(crate) fn is_from_before(&self, edit: i64) -> bool {
+        0 < edit && edit < self.first
     }
 
     /// Paragraphs for one line. Items begin with a dash.
@@ -61,7 +97,7 @@ impl Teller {
     fn accepted(&self, call: Call, given: &[i64]) -> Vec<String> {
         let number = given[0];
         vec![match call {
-            Call::Measure { value } => format!("{} is {}.", capital(&self.names.introduced("measure", number)), mm(value)),
+            Call::Measure { value } => self.measured(number, value),
             Call::Rule(rule) => self.ruled(number, &rule),
             Call::Open => self.opened(),
             Call::Split { side } => self.split(side, number),
@@ -76,6 +112,10 @@ impl Teller {
             Call::Fate { edit } => self.fate(edit, number, given.get(1).copied().unwrap_or(0)),
             Call::Left => return self.left(number),
         }]
+    }
+
+    fn measured(&self, number: i64, value: i64) -> String {
+        format!("{} is {}.", capital(&self.names.introduced("measure", number)), mm(value))
     }
 
     fn ruled(&self, number: i64, rule: &Rule) -> String {
@@ -212,6 +252,7 @@ impl Teller {
             2 => format!("{what}: sent, waits to be tried."),
             3 => format!("{what}: accepted, number {place} of those tried."),
             4 => format!("{what}: revoked, number {place} of those tried."),
+            _ if self.is_from_before(number) => format!("No edit {number} is kept: it was made before the plan was saved."),
             _ => format!("No edit {number} is kept: it was never made, or before the last split, or on the whole plan."),
         }
     }

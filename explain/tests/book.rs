@@ -1,8 +1,8 @@
-//! What the book works out is what `show`, `fate` and `left` answer, in every stored sheet.
+//! What the book works out is what `show`, `fate` and `left` answer in every stored sheet, and what a saved plan holds.
 
 use explain::book::{Book, Fate, Mode};
 use explain::call::{Answer, Call};
-use explain::lines;
+use explain::{lines, Saved};
 use std::fs;
 use std::path::Path;
 
@@ -25,11 +25,26 @@ fn read(book: &Book, call: Call) -> Option<Vec<i64>> {
     }
 }
 
+/// The plan of a file that is stored as hexadecimal text, if there is one.
+fn saved(file: &Path) -> Option<Saved> {
+    let text = fs::read_to_string(file).ok()?;
+    let digits = text.lines().flat_map(|line| line.split('#').next().unwrap().split_whitespace());
+    Some(Saved::read(&digits.map(|byte| u8::from_str_radix(byte, 16).unwrap()).collect::<Vec<_>>()))
+}
+
+/// The second and later parts of a story are run on the plan that the part before them left.
+fn start(sheet: &Path) -> Book {
+    let name = sheet.file_stem().unwrap().to_str().unwrap();
+    let part = name.rsplit_once('-').and_then(|(story, part)| Some((story, part.parse::<usize>().ok()?)));
+    let before = part.filter(|(_, part)| *part > 1).map(|(story, part)| format!("{story}-{}.hex", part - 1));
+    before.and_then(|file| saved(&sheet.with_file_name(file))).map_or(Book::default(), |plan| Book::on(&plan))
+}
+
 /// Follows a sheet by its answers, and counts those compared. The place that `fate` gives is not in the book.
 fn compare(sheet: &Path) -> usize {
     let answers = fs::read(sheet.with_extension("answers")).unwrap();
     let bytes = fs::read(sheet).unwrap();
-    let mut book = Book::default();
+    let mut book = start(sheet);
     let mut compared = 0;
     for (line, answer) in lines(&bytes).into_iter().zip(lines(&answers)) {
         let Some(Answer::Given(given)) = Answer::read(answer) else { continue };
@@ -40,6 +55,11 @@ fn compare(sheet: &Path) -> usize {
             compared += 1;
         }
         book.enter(call, &given);
+    }
+    if let Some(plan) = saved(&sheet.with_extension("hex")) {
+        assert_eq!(book.mode, Mode::Whole);
+        assert!(book.values(1).values().eq(&plan.values) && book.rules.values().eq(&plan.rules), "{}", sheet.display());
+        compared += 1;
     }
     compared
 }

@@ -1,7 +1,7 @@
 //! Whatever bytes a sheet, its answers and its names are of, the page is made, fits, and shows every line.
 
 use explain::call::CALLS;
-use explain::{explain, lines, Names};
+use explain::{explain, explain_on, lines, Names, Saved};
 
 #[path = "../../tests/differential/src/random.rs"]
 #[allow(dead_code)]
@@ -31,15 +31,18 @@ fn text(random: &mut Random, names: &[&str], most: usize) -> Vec<u8> {
 }
 
 fn check(sheet: &[u8], answers: &[u8], names: Names) {
-    let page = explain(sheet, answers, names);
+    check_page(&explain(sheet, answers, names), sheet, answers);
+}
+
+fn check_page(page: &str, sheet: &[u8], answers: &[u8]) {
     assert!(page.ends_with('\n'));
     for row in page.lines() {
         assert!(row.chars().count() <= 100, "{row}");
         assert!(!row.ends_with(' ') && !row.chars().any(char::is_control), "{row:?}");
     }
     if lines(answers).first() != Some(&&b"no 52"[..]) {
-        // The words stand further to the right than the line numbers.
-        let fronts = page.lines().filter(|row| !row.starts_with("    "));
+        // The words stand further to the right than the line numbers, and what was loaded above the heading.
+        let fronts = page.lines().skip_while(|row| !row.starts_with("line  ")).filter(|row| !row.starts_with("    "));
         let numbers = fronts.filter_map(|row| row.split_whitespace().next()?.parse().ok());
         assert_eq!(numbers.collect::<Vec<usize>>(), (1..=lines(sheet).len()).collect::<Vec<_>>(), "{page}");
     }
@@ -51,6 +54,26 @@ fn any_bytes() {
         let mut random = Random::item(1, item);
         let (sheet, answers) = (bytes(&mut random, 400), bytes(&mut random, 400));
         check(&sheet, &answers, Names::default());
+    }
+}
+
+/// Also where the file that the sheet is said to be run on is none, or damaged.
+#[test]
+fn any_plan() {
+    let sheet = include_bytes!("../../examples/stick-2.sheet");
+    let answers = include_bytes!("../../examples/stick-2.answers");
+    let text = include_str!("../../examples/stick-1.hex");
+    let digits = text.lines().flat_map(|line| line.split('#').next().unwrap().split_whitespace());
+    let good: Vec<u8> = digits.map(|byte| u8::from_str_radix(byte, 16).unwrap()).collect();
+    for item in 0..600 {
+        let mut random = Random::item(4, item);
+        let mut file = if random.chance(200) { bytes(&mut random, 2000) } else { good.clone() };
+        for _ in 0..random.below(4).min(file.len()) {
+            let at = random.below(file.len());
+            file[at] = random.below(256) as u8;
+        }
+        file.truncate(random.below(2000));
+        check_page(&explain_on(&Saved::read(&file), sheet, answers, Names::default()), sheet, answers);
     }
 }
 

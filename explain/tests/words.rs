@@ -1,20 +1,40 @@
 //! Words for cases that the examples do not have. The answers are those that document 01 asks for.
 
-use explain::{explain, Names};
+use explain::call::Rule;
+use explain::{explain, explain_on, Names, Saved};
 
-/// The page for lines written as `line | answer`, without its line breaks.
-fn page(sheet: &str) -> String {
-    let half = |at: usize| sheet.lines().map(|line| format!("{}\n", line.split('|').nth(at).unwrap().trim())).collect::<String>();
-    let page = explain(half(0).as_bytes(), half(1).as_bytes(), Names::default());
+/// The sheet and the answers of lines written as `line | answer`.
+fn halves(sheet: &str) -> [String; 2] {
+    [0, 1].map(|at| sheet.lines().map(|line| format!("{}\n", line.split('|').nth(at).unwrap().trim())).collect())
+}
+
+fn without_breaks(page: String) -> String {
     page.split_whitespace().collect::<Vec<_>>().join(" ")
+}
+
+/// The page without its line breaks.
+fn page(sheet: &str) -> String {
+    let [sheet, answers] = halves(sheet);
+    without_breaks(explain(sheet.as_bytes(), answers.as_bytes(), Names::default()))
+}
+
+/// The same for a sheet on a plan of two measures and a firm rule, whose next edit has this number.
+fn page_on(next: i64, sheet: &str) -> String {
+    let [sheet, answers] = halves(sheet);
+    let plan = Saved { values: vec![-7, 12], rules: vec![Rule { low: 1, gap: -3, high: 2, firm: true }], next };
+    without_breaks(explain_on(&plan, sheet.as_bytes(), answers.as_bytes(), Names::default()))
+}
+
+#[track_caller]
+fn has(page: &str, parts: &[&str]) {
+    for part in parts {
+        assert!(page.contains(part), "`{part}` is not in {page}");
+    }
 }
 
 #[track_caller]
 fn says(sheet: &str, parts: &[&str]) {
-    let page = page(sheet);
-    for part in parts {
-        assert!(page.contains(part), "`{part}` is not in {page}");
-    }
+    has(&page(sheet), parts);
 }
 
 /// A rule would be broken too, but the range is tested first.
@@ -76,4 +96,55 @@ fn an_answer_that_does_not_belong() {
     says("open | ok", &["This answer does not belong to this line."]);
     says("opened | ok 0", &["This answer does not belong to this line."]);
     says("open | no 99", &["Refused with 99, a number that has no meaning here."]);
+}
+
+#[test]
+fn what_was_loaded() {
+    let held =
+        "- Measure 1 is -0.7 mm. - Measure 2 is 1.2 mm. - Rule 1: measure 1 minus 0.3 mm must be less than measure 2. It is firm";
+    let whole = "Loaded: a whole plan with 2 measures and 1 rule. There is one copy of it, side 1.";
+    for (next, edits) in [
+        (1, "No edit was made on it yet."),
+        (2, "The next edit is number 2; no earlier one is kept in the file."),
+        (1_000_000, "Edit 999,999 was made on it, and there is none after it."),
+    ] {
+        has(&page_on(next, "show 1 | ok -7 12"), &[&format!("{whole} {edits} {held}"), "The plan: measure 1 at -0.7 mm"]);
+    }
+}
+
+#[test]
+fn edits_made_before_the_plan_was_saved() {
+    let sheet = "fate 3 | ok 0 0\nfate 4 | ok 0 0\nedit 1 5 3 1 2 1 | no 25\nedit 1 5 4 1 2 1 | no 25\nedit 1 5 0 1 2 1 | ok 4";
+    has(
+        &page_on(4, sheet),
+        &[
+            "No edit 3 is kept: it was made before the plan was saved.",
+            "No edit 4 is kept: it was never made, or before the last split, or on the whole plan.",
+            "Edit 3 was made before the plan was saved, and is not kept.",
+            "No edit 4 is kept. To whoever",
+            "Edit 4 by client 5: add 0.1 mm to measure 1, from -0.7 mm to -0.6 mm.",
+        ],
+    );
+    says("fate 0 | ok 0 0", &["No edit 0 is kept: it was never made"]);
+}
+
+#[test]
+fn a_loaded_plan_is_joined_with_its_own_rules() {
+    let sheet = "split 1 | ok 2\nedit 2 5 0 1 2 1 | no 26\njoin | ok 0\nsend 1 | ok 0\nsend 2 | ok 0\nstop | ok 0\n\
+                 confirm 1 | ok 0\nconfirm 2 | ok 0\ninstall | ok 0\nedit 1 5 0 1 1 15 | no 29";
+    has(
+        &page_on(4, sheet),
+        &[
+            "Rule 1 is firm: measure 1 minus 0.3 mm",
+            "No measure differs from before the split.",
+            "(1.2 mm is not less than 1.2 mm)",
+        ],
+    );
+}
+
+#[test]
+fn a_sheet_too_long_on_a_loaded_plan() {
+    let page = page_on(1, "x | no 52");
+    has(&page, &["Loaded: ", "The answer to the whole sheet is no 52.", "run the second on it."]);
+    assert!(!page.contains("blank plan"), "{page}");
 }

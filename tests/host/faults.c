@@ -3,7 +3,9 @@
  *     FAULT_PROGRAM=NAME    another program than the counter
  *     FAULT_READ=N:ERROR    the N-th read of standard input fails with ERROR: EINTR, EAGAIN, EIO, ENOSPC
  *     FAULT_WRITE=N:ERROR   the N-th write to standard output, likewise; with ERROR NOTHING it takes nothing and names no error
- *     FAULT_SHORT=N         no read or write moves more than N bytes
+ *     FAULT_FILE=N:ERROR    the N-th write to any other descriptor but standard error, likewise
+ *     FAULT_SYNC=N:ERROR    the N-th sync of a file or folder; FAULT_RENAME=N:ERROR the N-th renaming
+ *     FAULT_SHORT=N         no read or write of these moves more than N bytes
  *     FAULT_NONBLOCK=FD     the descriptor does not block
  *     FAULT_WAITS=FILE      gets the process's number once a call would have to wait, after others have moved bytes
  *     FAULT_SIGPIPE=1       a write that nobody reads ends the program, whatever it was started with */
@@ -22,13 +24,14 @@ static const struct {
     int number;
 } errors[] = {{"NOTHING", 0}, {"EINTR", EINTR}, {"EAGAIN", EAGAIN}, {"EIO", EIO}, {"ENOSPC", ENOSPC}};
 
-/* Of standard input and standard output: the calls and bytes so far, and which call fails, with what. */
+/* Of standard input, standard output and each sort of call on files: the calls and bytes so far, and which call fails, with what. */
+enum { INPUT, OUTPUT, FILES, SYNCS, RENAMES, SORTS };
 static struct {
     long calls;
     long moved;
     long failing;
     int error;
-} ends[2];
+} ends[SORTS];
 static size_t most = (size_t)-1;
 static const char *waits;
 
@@ -58,8 +61,11 @@ __attribute__((constructor)) static void start(void) {
         most = 0;
         return;
     }
-    choose(0, getenv("FAULT_READ"));
-    choose(1, getenv("FAULT_WRITE"));
+    choose(INPUT, getenv("FAULT_READ"));
+    choose(OUTPUT, getenv("FAULT_WRITE"));
+    choose(FILES, getenv("FAULT_FILE"));
+    choose(SYNCS, getenv("FAULT_SYNC"));
+    choose(RENAMES, getenv("FAULT_RENAME"));
     if (getenv("FAULT_SHORT") != NULL)
         most = strtoul(getenv("FAULT_SHORT"), NULL, 10);
     if (getenv("FAULT_NONBLOCK") != NULL) {
@@ -80,17 +86,24 @@ static void tell(void) {
     waits = NULL;
 }
 
+/* Whether the call, one more of its sort, is the one that fails. */
+static int fails(int sort) {
+    if (most == 0 || ++ends[sort].calls != ends[sort].failing)
+        return 0;
+    errno = ends[sort].error;
+    return 1;
+}
+
 static ssize_t move(long call, int fd, void *bytes, size_t size) {
-    if (most == 0 || fd != (call == SYS_write))
+    int sort = call == SYS_read ? INPUT : fd == 1 ? OUTPUT : FILES;
+    if (most == 0 || fd == 2 || (sort == INPUT && fd != 0))
         return syscall(call, fd, bytes, size);
-    if (++ends[fd].calls == ends[fd].failing) {
-        errno = ends[fd].error;
+    if (fails(sort))
         return errno == 0 ? 0 : -1;
-    }
     ssize_t moved = syscall(call, fd, bytes, size < most ? size : most);
     if (moved > 0)
-        ends[fd].moved += moved;
-    else if (moved < 0 && errno == EAGAIN && waits != NULL && ends[fd].moved > 0) {
+        ends[sort].moved += moved;
+    else if (moved < 0 && errno == EAGAIN && waits != NULL && ends[sort].moved > 0) {
         tell();
         errno = EAGAIN;
     }
@@ -103,4 +116,12 @@ ssize_t read(int fd, void *bytes, size_t size) {
 
 ssize_t write(int fd, const void *bytes, size_t size) {
     return move(SYS_write, fd, (void *)bytes, size);
+}
+
+int fsync(int fd) {
+    return fails(SYNCS) ? -1 : (int)syscall(SYS_fsync, fd);
+}
+
+int rename(const char *from, const char *to) {
+    return fails(RENAMES) ? -1 : renameat(AT_FDCWD, from, AT_FDCWD, to);
 }
