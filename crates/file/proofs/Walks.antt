@@ -11,7 +11,7 @@ use Rattle.protocol.specs.Lists.{isNone, countTo, all, any}
 use Rattle.protocol.proofs.Laws.{cases, yes-is, no-is, is-yes, is-no, both, and-in, neither, same-no}
 use Rattle.file.specs.Bytes.{twoAt, kindBits, measureKind, ruleKind}
 use Rattle.file.specs.Loaded.{slotIn, slots, nextIn, markIn, zeroFrom, clearMeasure, clearRule, firstSlot, measureChain, ruleChain, met, marked, leavesFile, meetsTwice, wellMarked, missesSlot, clear, chain, elem, repeats}
-use Rattle.file.specs.Walked.{stopped, ended, good, walk, asMeasure, asRule}
+use Rattle.file.specs.Walked.{stopped, ended, good, walk, asMeasure, asRule, Sound46}
 use Rattle.file.proofs.Enough.{met-most, met-counted, count-to-not}
 
 -- the slots ks seen after those of seen, the newest first
@@ -172,14 +172,6 @@ all-both p q (k ∷ ks) t =
     (and-in (p k) _ (b .0) (ih .0), and-in (q k) _ (b .1) (ih .1))
 
 -- ---- the theorem
-
--- the five tests of 46 that speak of slots
-pub record Sound46 (f : List ℕ) : Type 0 where
-  pub stays : T (not (leavesFile f))
-  pub once : T (not (meetsTwice f))
-  pub marked-well : T (wellMarked f)
-  pub full : T (not (missesSlot f))
-  pub clean : T (clear f)
 
 -- the walk over the measures, then that over the rules, and as many slots seen as there are behind slot 0
 pub record Walks (f : List ℕ) : Type 0 where

@@ -2,10 +2,10 @@
 use Prim.Native.Nat.{ℕ, zero, suc}
 use mathlib.Core.Bool.{Bool, not, cond, _&&_}
 use mathlib.Core.List.{List, [], _∷_}
-use lib.Dec.{eqb, ltb}
+use lib.Dec.{T, eqb, ltb}
 use Rattle.protocol.specs.Lists.{isNone}
 use Rattle.file.specs.Bytes.{measureKind, ruleKind, kindBits}
-use Rattle.file.specs.Loaded.{slotIn, slots, nextIn, markIn, clearMeasure, clearRule, elem}
+use Rattle.file.specs.Loaded.{slotIn, slots, nextIn, markIn, clearMeasure, clearRule, elem, leavesFile, meetsTwice, wellMarked, missesSlot, clear}
 
 -- stopped at a bad slot, or ended, with all slots seen
 pub data Walked : Type 0 where
@@ -30,3 +30,11 @@ asMeasure s = eqb (kindBits (markIn s)) measureKind && clearMeasure s
 
 abbrev pub asRule : List ℕ → Bool
 asRule s = eqb (kindBits (markIn s)) ruleKind && clearRule s
+
+-- the five tests of 46 that speak of slots
+pub record Sound46 (f : List ℕ) : Type 0 where
+  pub stays : T (not (leavesFile f))
+  pub once : T (not (meetsTwice f))
+  pub marked-well : T (wellMarked f)
+  pub full : T (not (missesSlot f))
+  pub clean : T (clear f)

@@ -1,17 +1,17 @@
 -- The parts of a slot's words are the slot's. Assumes nothing.
-use Prim.Native.Nat.{ℕ, _+_, _*_, _/_, _%_, _<_}
+use Prim.Native.Nat.{ℕ, _+_, _*_, _/_, _%_, _<_, _≤_}
 use native.Mathlib.Omega.{arith}
 use mathlib.Core.Path.{_≡_, refl, sym, ap, ap₂, _∙_}
 use mathlib.Core.Bool.{Bool, true, false, not, cond, _&&_, and-true}
-use mathlib.Core.List.{List}
+use mathlib.Core.List.{List, []}
 use borrow.Author.Tests.{eq-eqb, ne-eqb}
 use lib.Dec.{T, eqb, eqb→eq}
-use lib.ListN.{length, getD, drop}
+use lib.ListN.{length, getD, take, drop, length-take, length-drop, drop-of-length-le}
 use Rattle.protocol.specs.Lists.{isNone, all}
 use Rattle.protocol.proofs.Laws.{cases, is-yes}
-use Rattle.file.specs.Bytes.{byteAt, twoAt, fourAt, kindBits, firmBit, highBits, measureKind, ruleKind}
-use Rattle.file.specs.Loaded.{zeroFrom, clearMeasure, clearRule, markIn, nextIn}
-use Rattle.file.specs.Walked.{asMeasure, asRule}
+use Rattle.file.specs.Bytes.{byteAt, twoAt, fourAt, kindBits, firmBit, highBits, measureKind}
+use Rattle.file.specs.Loaded.{slotIn, zeroFrom, clearMeasure, clearRule, markIn, nextIn}
+use Rattle.file.specs.Walked.{asMeasure}
 use Rattle.file.proofs.Cells.{cells, cells-of}
 use Rattle.slots.specs.declared.Slot.{Slot}
 use Rattle.slots.specs.Words.{wordsOf, Parted}
@@ -124,9 +124,22 @@ module _ (s : List ℕ) (l : length s ≡ 16) (p : Parted s) where
       ∙ ap (λ t. eqb (kindBits (markIn s)) measureKind && t) (measure-order (isNone (highBits (markIn s))) (not (firmBit (markIn s))) (isNone (byteAt s 3)) (isNone (w .third)) (isNone (w .fourth)))
       ∙ ap₂ (λ m r. eqb (kindBits m) measureKind && (isNone (highBits m) && (isNone r && (isNone (w .fourth) && (not (firmBit m) && isNone (w .third)))))) (mark-part s p) (rest-part s p)
 
-  pub rule-fits : asRule s ≡ fitsKind ruleKind w
+  -- of another kind, as of a rule
+  pub rule-fits : (kind : ℕ) → eqb kind measureKind ≡ false → (eqb (kindBits (markIn s)) kind && clearRule s) ≡ fitsKind kind w
   unfolding clearRule
-  rule-fits =
-      ap (λ t. eqb (kindBits (markIn s)) ruleKind && (isNone (highBits (markIn s)) && isNone (byteAt s 3) && t)) (zero-12 s l)
-      ∙ ap (λ t. eqb (kindBits (markIn s)) ruleKind && t) (rule-order (isNone (highBits (markIn s))) (isNone (byteAt s 3)) (isNone (w .fourth)))
-      ∙ ap₂ (λ m r. eqb (kindBits m) ruleKind && (isNone (highBits m) && (isNone r && (isNone (w .fourth) && true)))) (mark-part s p) (rest-part s p)
+  rule-fits kind e =
+      ap (λ t. eqb (kindBits (markIn s)) kind && (isNone (highBits (markIn s)) && isNone (byteAt s 3) && t)) (zero-12 s l)
+      ∙ ap (λ t. eqb (kindBits (markIn s)) kind && t) (rule-order (isNone (highBits (markIn s))) (isNone (byteAt s 3)) (isNone (w .fourth)))
+      ∙ ap₂ (λ m r. eqb (kindBits m) kind && (isNone (highBits m) && (isNone r && (isNone (w .fourth) && true)))) (mark-part s p) (rest-part s p)
+      ∙ ap (λ b. eqb (kindBits (markPart w)) kind
+      && (isNone (highBits (markPart w)) && (isNone (restPart w) && (isNone (w .fourth) && cond b (not (firmBit (markPart w)) && isNone (w .third)) true)))) (sym e)
+
+-- a slot of the file has all its bytes
+pub slot-whole : (f : List ℕ) (k : ℕ) → k < length f / 16 → length (slotIn f k) ≡ 16
+unfolding slotIn
+slot-whole f k h = let d = length-drop (16 * k) f in let t = length-take 16 (drop (16 * k) f) in omega arith
+
+-- one behind its end has none, where the file has whole slots
+pub slot-none : (f : List ℕ) (k : ℕ) → length f % 16 ≡ 0 → length f / 16 ≤ k → slotIn f k ≡ []
+unfolding slotIn
+slot-none f k e h = ap (take 16) (drop-of-length-le f {i = 16 * k} (omega arith))

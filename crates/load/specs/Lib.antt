@@ -1,0 +1,4 @@
+pub mod Walking
+pub mod Drawing
+pub mod Reading
+pub mod Loading
