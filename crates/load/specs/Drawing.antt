@@ -13,6 +13,8 @@ use Rattle.file.specs.Loaded.{slotIn, slots, valueIn, ruleIn, chain, firstRefus
 use Rattle.heads.specs.declared.Head.{Head}
 use Rattle.records.specs.declared.EditRecord.{EditRecord}
 use Rattle.state.specs.declared.State.{State}
+use Rattle.state.specs.declared.Answer.{Answer}
+use Rattle.state.specs.declared.Answer.the-variants.{Refused, Given}
 use Rattle.state.specs.Spread.{spread}
 use Rattle.state.specs.Sizes.{Sized}
 use Rattle.state.specs.View.{view, stateOf}
@@ -27,6 +29,11 @@ slotCalls op f ks = map (λ k. slotCall op (slotIn f k)) ks
 
 abbrev pub chainCalls : ℕ → List ℕ → ℕ → List Call
 chainCalls op f start = slotCalls op f (chain f (slots f) start)
+
+-- the refusal that an answer is, or 0
+abbrev pub refusedIn : Answer → ℕ
+refusedIn (Refused k r) = k
+refusedIn (Given count a b c) = 0
 
 -- a refusal's number, 0 for none
 abbrev pub verdictOf : ℕ → Verdict

@@ -1,19 +1,30 @@
 // A saved plan loaded (02, S-1): the file is read whole first, then drawn by the calls that one would draw it by.
 ghost use mathlib.Core.Path.{_≡_};
-ghost use mathlib.Core.Bool.{Bool, true};
-ghost use mathlib.Core.List.{List};
-ghost use Prim.Native.Nat.{_+_, _<_, _≤_};
-ghost use lib.Dec.{T};
+ghost use mathlib.Core.Bool.{true, cond, _&&_};
+ghost use mathlib.Core.List.{List, [], _∷_};
+ghost use Prim.Native.Nat.{ℕ, _+_, _%_, _<_, _≤_};
+ghost use lib.Dec.{T, ltb};
+ghost use lib.IntN.{pos};
+ghost use Rattle.protocol.specs.Lists.{isNone, bit};
 ghost use Rattle.protocol.specs.Calls.{first};
-ghost use Rattle.file.specs.Loaded.{slotIn, slots, sized, numbered, drawing};
+ghost use Rattle.file.specs.Loaded.{slots, sized, numbered, ruleIn, drawing};
 ghost use Rattle.file.specs.Walked.{Sound46};
+ghost use Rattle.slots.specs.Words.{wordsOf, Parted};
 ghost use Rattle.heads.specs.Numbers.{headFrom};
-ghost use Rattle.state.specs.Meets.{refusalOf};
+ghost use Rattle.state.specs.Meets.{refusalOf, refusal as refusalAnswer};
 ghost use Rattle.load.specs.Walking.{Walking};
-
-ghost use Rattle.load.specs.Reading.{headChecks};
+ghost use Rattle.load.specs.Reading.{headChecks, renumberedHead};
+ghost use Rattle.load.specs.Drawing.{refusedIn, slotCall, chainCalls, DrewFrom};
+ghost use Rattle.load.specs.Loading.{MeetsLoad};
 use heads::Head;
+use heads::Numbers;
+use protocol::call;
 use protocol::limit;
+use rules::Table;
+use slots::Slot;
+use state::Answer;
+use state::Answered;
+use state::State;
 
 // The next number where the last one has been given.
 const NEXT_LIMIT: u32 = limit::NUMBER + 1;
@@ -126,4 +137,145 @@ fn read_refusal(h: Head, f: &[u8]) -> u32
         return 0;
     }
     46
+}
+
+// ---- the file, drawn
+
+// The refusal that an answer is, or 0.
+fn refused(answer: Answer) -> u32
+    ensures { λ r. ⌜ r ≡ refusedIn answer ⌝ }
+{
+    match answer {
+        Answer::Refused(k, _) => k,
+        Answer::Given(_, _, _, _) => 0,
+    }
+}
+
+fn flag(firm: bool) -> i32
+    ensures { λ r. ⌜ r ≡ pos (bit firm) ⌝ }
+{
+    if firm { 1 } else { 0 }
+}
+
+// Draws the rule of a slot, and gives the refusal, or 0.
+fn draw_rule(w: Slot, head: &mut Numbers, values: &mut [i32; limit::VALUES], table: &mut Table) -> u32
+    ensures { λ r. ⌜ ((s : List ℕ) → w ≡ wordsOf s → Parted s → DrewFrom (ruleIn s ∷ []) r (headFrom (now (head .entry))) (now (values .entry)) (now (table .entry))
+        (headFrom (now (head .exit))) (now (values .exit)) (now (table .exit))) ⌝ }
+{
+    let lower = slots::low(w.second) as i32;
+    let upper = slots::high(w.second) as i32;
+    let gap = slots::value(w.third);
+    let firm = flag(slots::firm_of(slots::mark_byte(w.first)));
+    refused(draw::make(call::RULE, lower, gap, upper, firm, head, values, table))
+}
+
+// Draws what a slot has, a measure or a rule.
+fn draw_slot(op: u32, w: Slot, head: &mut Numbers, values: &mut [i32; limit::VALUES], table: &mut Table) -> u32
+    ensures { λ r. ⌜ ((s : List ℕ) → w ≡ wordsOf s → Parted s → DrewFrom (slotCall op s ∷ []) r (headFrom (now (head .entry))) (now (values .entry)) (now (table .entry))
+        (headFrom (now (head .exit))) (now (values .exit)) (now (table .exit))) ⌝ }
+{
+    if op == call::MEASURE {
+        return refused(draw::make(call::MEASURE, slots::value(w.second), 0, 0, 0, head, values, table));
+    }
+    draw_rule(w, head, values, table)
+}
+
+// The slot that is drawn next: none behind a refusal, or where as many have been drawn as the file has.
+fn following(refusal: u32, i: usize, count: usize, w: Slot) -> usize
+    ensures { λ r. ⌜ r ≡ cond (isNone refusal && ltb i count) (w .first % 65536) 0 ⌝ }
+{
+    if refusal != 0 {
+        return 0;
+    }
+    if i < count {
+        return slots::low(w.first) as usize;
+    }
+    0
+}
+
+// Draws the slots of a chain, up to the first that is refused.
+fn draw_chain(
+    f: &[u8],
+    op: u32,
+    start: usize,
+    head: &mut Numbers,
+    values: &mut [i32; limit::VALUES],
+    table: &mut Table,
+) -> u32
+    requires { ⌜ T (sized (now f)) ⌝ }
+    ensures { λ r. ⌜ DrewFrom (chainCalls op (now (f .entry)) start) r (headFrom (now (head .entry))) (now (values .entry)) (now (table .entry))
+        (headFrom (now (head .exit))) (now (values .exit)) (now (table .exit)) ⌝ }
+{
+    let count = f.len() / slots::SIZE;
+    let mut k = start;
+    let mut i: usize = 0;
+    let mut refusal: u32 = 0;
+    while k != 0 {
+        let w = slots::read(f, k);
+        refusal = draw_slot(op, w, head, values, table);
+        i += 1;
+        k = following(refusal, i, count, w);
+    }
+    refusal
+}
+
+// Draws the measures, then the rules, then opens the plan, up to the first that is refused.
+fn draw_file(f: &[u8], head: &mut Numbers, values: &mut [i32; limit::VALUES], table: &mut Table) -> u32
+    requires { ⌜ T (sized (now f)) ⌝ }
+    ensures { λ r. ⌜ DrewFrom (drawing (now (f .entry))) r (headFrom (now (head .entry))) (now (values .entry)) (now (table .entry)) (headFrom (now (head .exit)))
+        (now (values .exit)) (now (table .exit)) ⌝ }
+{
+    let w = slots::read(f, 0);
+    let measures = draw_chain(f, call::MEASURE, slots::low(w.first) as usize, head, values, table);
+    if measures != 0 {
+        return measures;
+    }
+    let rules = draw_chain(f, call::RULE, slots::high(w.first) as usize, head, values, table);
+    if rules != 0 {
+        return rules;
+    }
+    refused(draw::make(call::OPEN, 0, 0, 0, 0, head, values, table))
+}
+
+fn with_next(h: Head, next: u32) -> Head
+    ensures { λ r. ⌜ r ≡ renumberedHead h next ⌝ }
+{
+    let mut r = h;
+    r.next = next;
+    r
+}
+
+fn refusal(p: State, k: u32) -> Answered
+    ensures { λ r. ⌜ r ≡ record { state = p; answer = refusalAnswer k } ⌝ }
+{
+    let answer = Answer::Refused(k, 0);
+    Answered { state: p, answer }
+}
+
+// Loads a file: the plan is drawn and opened on numbers of its own, so that a refusal leaves it as it was, and has the file's next number.
+pub fn load(p: State, f: &[u8]) -> Answered
+    ensures { λ r. ⌜ MeetsLoad (now (f .entry)) p r ⌝ }
+{
+    let h = p.head;
+    let unread = read_refusal(h, f);
+    if unread != 0 {
+        return refusal(p, unread);
+    }
+    let mut head = heads::numbers(h);
+    let mut values = p.values;
+    let mut table = p.table;
+    let undrawn = draw_file(f, &mut head, &mut values, &mut table);
+    if undrawn != 0 {
+        return refusal(p, undrawn);
+    }
+    let w = slots::read(f, 0);
+    let drawn = with_next(heads::from_numbers(&head), w.second);
+    let base = p.base;
+    let draft = p.draft;
+    let arrived = p.arrived;
+    let confirmed = p.confirmed;
+    let edits = p.edits;
+    let state = state::of(drawn, base, draft, values, arrived, confirmed, table, edits);
+    let answer = Answer::Given(0, 0, 0, 0);
+    Answered { state, answer }
 }
