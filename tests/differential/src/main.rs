@@ -49,7 +49,7 @@ fn main() -> ExitCode {
     let seed = argument(1, 1);
     let lines = argument(2, 1_500_000);
     let lists = argument(3, 2_000);
-    let files = argument(4, 20_000);
+    let files = argument(4, 40_000);
     let Ok(program) = std::env::var("COUNTER") else {
         eprintln!("differential: COUNTER names no program");
         return ExitCode::from(2);

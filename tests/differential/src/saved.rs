@@ -190,7 +190,11 @@ impl Check {
     fn sheet_on(&mut self, random: &mut Random, file: &[u8]) -> Result<(), Difference> {
         let mut plan = Plan::new();
         if plan.load(file).is_err() {
-            return self.file(file);
+            // Refused before anything is said of the sheet.
+            let sheet = long(random);
+            self.run(Entry::Load, file, &sheet, ROOM)?;
+            self.run(Entry::SaveOn, file, &sheet, 0)?;
+            return Ok(());
         }
         let sheet = if random.chance(30) { long(random) } else { later(random, plan) };
         let all = 300 * sheet.iter().filter(|&&b| b == b'\n').count() + 300;
@@ -209,11 +213,9 @@ impl Check {
     /// Saves in areas of some lengths, last in a roomy one.
     fn lengths(&mut self, random: &mut Random, entry: Entry, file: &[u8], sheet: &[u8]) -> Result<u64, Difference> {
         let given = self.run(entry, file, sheet, ROOM)?;
-        let need = given as usize / 256;
-        if need > 0 {
-            for length in [0, need - 1, need, need + 1, random.below(need)] {
-                self.run(entry, file, sheet, length)?;
-            }
+        let need = (given as usize / 256).max(1);
+        for length in [0, need - 1, need, need + 1, random.below(need)] {
+            self.run(entry, file, sheet, length)?;
         }
         self.run(entry, file, sheet, ROOM)
     }
