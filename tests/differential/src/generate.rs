@@ -84,6 +84,11 @@ pub struct Generator<'a> {
 
 impl<'a> Generator<'a> {
     pub fn new(random: &'a mut Random, style: Style) -> Generator<'a> {
+        Generator::on(Plan::new(), random, style)
+    }
+
+    /// Goes on from a plan that is blank with nothing drawn, or was loaded.
+    pub fn on(plan: Plan, random: &'a mut Random, style: Style) -> Generator<'a> {
         let mut generator = Generator {
             measures_due: style.measures,
             rules_due: style.rules,
@@ -92,7 +97,7 @@ impl<'a> Generator<'a> {
             late_due: 0,
             splits_due: 0,
             opened: 0,
-            plan: Plan::new(),
+            plan,
             drawn: Vec::new(),
             random,
             style,

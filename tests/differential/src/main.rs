@@ -1,7 +1,7 @@
-//! Compares the library with the separate program on random sheets, and holds the claim about whole lists of calls against
-//! the library's answers.
+//! Compares the library with the separate program on random sheets and on files of saved plans, and holds the claim about whole
+//! lists of calls against the library's answers.
 //!
-//! differential [SEED [LINES [LISTS]]]
+//! differential [SEED [LINES [LISTS [FILES]]]]
 //!
 //! The environment's COUNTER names the counter program, which is run on some of the sheets.
 
@@ -9,13 +9,16 @@ mod book;
 mod call;
 mod compare;
 mod counter;
+mod files;
 mod generate;
 mod random;
+mod saved;
 mod sheets;
 
 use call::NAMES;
 use compare::{shrink, Areas, Counts};
 use random::Random;
+use saved::{Check, Difference, ENTRIES};
 use std::process::ExitCode;
 
 /// Refusals that a sheet can meet. 30 needs more lines than a sheet has; 41 never is an answer line.
@@ -25,6 +28,8 @@ const REFUSALS: [usize; 28] = [
 
 /// Shorter runs, as to repeat a failure, need not meet every refusal.
 const LINES_TO_MEET_ALL: u64 = 500_000;
+
+const FILES_TO_MEET_ALL: u64 = 2_000;
 
 const FAILURES_SHOWN: usize = 5;
 
@@ -44,11 +49,12 @@ fn main() -> ExitCode {
     let seed = argument(1, 1);
     let lines = argument(2, 1_500_000);
     let lists = argument(3, 2_000);
+    let files = argument(4, 40_000);
     let Ok(program) = std::env::var("COUNTER") else {
         eprintln!("differential: COUNTER names no program");
         return ExitCode::from(2);
     };
-    println!("seed {seed}, {lines} lines, {lists} lists");
+    println!("seed {seed}, {lines} lines, {lists} lists, {files} files");
     let mut passed = 0u64;
     let mut failed = 0u64;
 
@@ -136,12 +142,95 @@ fn main() -> ExitCode {
     }
     println!("counter program run on {COUNTER_SHEETS} sheets");
 
+    if files > 0 {
+        let (good, bad) = saved_plans(seed, files);
+        passed += good;
+        failed += bad;
+    }
+
     println!("{passed} passed, {failed} failed");
     if failed == 0 && passed > 0 {
         ExitCode::SUCCESS
     } else {
         ExitCode::FAILURE
     }
+}
+
+/// Files and sheets around saved plans: those of every run, then random ones. Gives how many passed and failed.
+fn saved_plans(seed: u64, files: u64) -> (u64, u64) {
+    let mut check = Check::new();
+    let mut passed = 0;
+    let mut failed = 0;
+    let mut told = |name: &str, result: Result<(), Difference>| match result {
+        Ok(()) => passed += 1,
+        Err(difference) => {
+            failed += 1;
+            if failed <= FAILURES_SHOWN as u64 {
+                println!("{name}: {}", difference.what);
+                show_file(&difference);
+            }
+        }
+    };
+    files::each(&mut |name, file| told(name, check.file(file)));
+    told("long sheets", check.long_sheets());
+    for index in 0..files {
+        let mut random = Random::item(seed, index);
+        match index % 20 {
+            0 => told(&format!("any sheet {index}"), check.any_sheet(&mut random)),
+            1..4 => told(&format!("saved plan {index}"), check.trip(&mut random)),
+            _ => told(&format!("file {index}"), check.damaged(&mut random)),
+        }
+    }
+    let counts = &check.counts;
+    println!(
+        "{} files, {} runs of load and save; {} plans saved, loaded and saved again, also from another order of slots",
+        counts.files, counts.runs, counts.round_trips
+    );
+    println!(
+        "{} lines answered on loaded plans, {} of them refused as 30, {} sheets too long; {} runs ended",
+        counts.lines, counts.used_up, counts.too_long, counts.ended
+    );
+    let mut met = |what: &str, count: u64, expected: bool| {
+        if (count > 0) == expected {
+            passed += 1;
+        } else if count > 0 || files >= FILES_TO_MEET_ALL {
+            failed += 1;
+            println!("{what}: met {count} times");
+        }
+    };
+    for ((_, name, refusals), (accepted, refused)) in ENTRIES.iter().zip(counts.accepted.iter().zip(&counts.refused)) {
+        print!("{name}: accepted {accepted}, refused");
+        for refusal in *refusals {
+            print!(" {refusal}: {}", refused[*refusal]);
+        }
+        println!();
+        met(name, *accepted, true);
+        for (refusal, &count) in refused.iter().enumerate() {
+            met(&format!("{name}, refusal {refusal}"), count, refusals.contains(&refusal));
+        }
+    }
+    for (what, count) in [
+        ("edits refused as 30", counts.used_up),
+        ("sheets too long", counts.too_long),
+        ("runs that ended", counts.ended),
+        ("round trips", counts.round_trips),
+    ] {
+        met(what, count, true);
+    }
+    (passed, failed)
+}
+
+/// Prints a file by its slots, and the start of the sheet.
+fn show_file(difference: &Difference) {
+    for (at, slot) in difference.file.chunks(files::SLOT).enumerate().take(100) {
+        print!("  {at:3}:");
+        for byte in slot {
+            print!(" {byte:02x}");
+        }
+        println!();
+    }
+    let sheet = &difference.sheet;
+    println!("  on it {} bytes: {}", sheet.len(), sheet[..sheet.len().min(2000)].escape_ascii());
 }
 
 /// Prints a sheet with both programs' answers, or its start if it is long.

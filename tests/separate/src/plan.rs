@@ -62,6 +62,9 @@ pub enum Refusal {
     AlreadyConfirmed = 39,
     NotAllConfirmed = 40,
     AreaShort = 41,
+    FileLength = 44,
+    FileSum = 45,
+    FileForm = 46,
     Unreadable = 51,
     SheetTooLong = 52,
 }
@@ -103,11 +106,12 @@ impl Change {
 }
 
 #[derive(Clone, Copy)]
-struct Rule {
-    low: u8,
-    high: u8,
-    firm: bool,
-    offset: i32,
+pub(crate) struct Rule {
+    /// Indices of the measures.
+    pub(crate) low: u8,
+    pub(crate) high: u8,
+    pub(crate) firm: bool,
+    pub(crate) offset: i32,
 }
 
 /// A rule seen from one of its two measures: with x the measure's own value and v the other's,
@@ -204,7 +208,8 @@ impl Plan {
             base: [0; MEASURE_LIMIT],
             draft: [0; MEASURE_LIMIT],
             values: [[0; MEASURE_LIMIT]; SIDE_LIMIT],
-            edits: Vec::with_capacity(KEPT_LIMIT),
+            // Room is made by the first split, so that a plan that stays whole asks for none.
+            edits: Vec::new(),
         }
     }
 
@@ -258,27 +263,57 @@ impl Plan {
         Ok(())
     }
 
-    /// Sorts the rules by the measures that they name.
+    /// Sorts the rules by the measures that they name: counts them, then puts each behind those before it.
     fn index_rules(&mut self) {
-        let mut at = 0;
-        for m in 0..self.measures as usize {
-            self.starts[m] = at as u8;
-            for r in &self.rule[..self.rules as usize] {
-                let (sign, other) = if r.low as usize == m {
-                    (1, r.high)
-                } else if r.high as usize == m {
-                    (-1, r.low)
-                } else {
-                    continue;
-                };
-                self.bounds[at] = Bound { offset: r.offset, sign, other };
-                at += 1;
-                if r.firm {
-                    self.firm |= 1 << m;
-                }
+        let rules = &self.rule[..self.rules as usize];
+        let mut ends = [0u8; MEASURE_LIMIT];
+        for r in rules {
+            ends[r.low as usize] += 1;
+            ends[r.high as usize] += 1;
+            if r.firm {
+                self.firm |= 1 << r.low | 1 << r.high;
             }
-            self.starts[m + 1] = at as u8;
         }
+        let mut at = 0;
+        for (start, end) in self.starts.iter_mut().zip(&mut ends) {
+            *start = at;
+            at += *end;
+            *end = *start;
+        }
+        self.starts[MEASURE_LIMIT] = at;
+        for r in rules {
+            for (measure, sign, other) in [(r.low, 1, r.high), (r.high, -1, r.low)] {
+                let end = &mut ends[measure as usize];
+                self.bounds[*end as usize] = Bound { offset: r.offset, sign, other };
+                *end += 1;
+            }
+        }
+    }
+
+    /// Whether the plan is blank with nothing drawn.
+    pub(crate) fn is_new(&self) -> bool {
+        self.mode == Mode::Blank && self.measures == 0 && self.rules == 0
+    }
+
+    /// Takes back what is drawn of a blank plan.
+    pub(crate) fn undraw(&mut self) {
+        self.measures = 0;
+        self.rules = 0;
+    }
+
+    /// Says which number the next edit gets. No edit is kept.
+    pub(crate) fn number_from(&mut self, next: u32) {
+        self.next_number = next;
+        self.first_number = next;
+    }
+
+    /// The values of side 1.
+    pub(crate) fn first_values(&self) -> &[i32] {
+        &self.values[0][..self.measures as usize]
+    }
+
+    pub(crate) fn drawn_rules(&self) -> &[Rule] {
+        &self.rule[..self.rules as usize]
     }
 
     pub fn split(&mut self, s: i32) -> Result<u32, Refusal> {
@@ -291,6 +326,7 @@ impl Plan {
         if self.mode == Mode::Whole {
             self.base = self.values[0];
             self.edits.clear();
+            self.edits.reserve(KEPT_LIMIT);
             self.first_number = self.next_number;
             self.mode = Mode::Split;
         }
@@ -564,7 +600,7 @@ impl Plan {
         self.bounds[from..to].iter().all(|b| b.sign * (value - values[b.other as usize]) + b.offset < 0)
     }
 
-    fn need(&self, mode_fits: bool) -> Result<(), Refusal> {
+    pub(crate) fn need(&self, mode_fits: bool) -> Result<(), Refusal> {
         if mode_fits {
             Ok(())
         } else {

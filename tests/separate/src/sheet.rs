@@ -12,11 +12,33 @@ const LF: u8 = b'\n';
 
 /// Answers a sheet into the area. Gives twice the bytes written, plus 1 if an answer did not fit.
 pub fn screen_run(sheet: &[u8], area: &mut [u8]) -> u64 {
+    // An empty sheet needs no plan.
+    if sheet.is_empty() {
+        return 0;
+    }
+    run_on(&mut Plan::new(), sheet, area)
+}
+
+/// Answers a sheet on a plan, with what `screen_run` gives.
+pub(crate) fn run_on(plan: &mut Plan, sheet: &[u8], area: &mut [u8]) -> u64 {
     let length = area.len();
     let mut writer = Writer { rest: area };
-    let fitted = run(sheet, &mut writer).is_some();
+    let fitted = if sheet.len() > SHEET_LIMIT {
+        writer.refusal(Refusal::SheetTooLong)
+    } else {
+        run(plan, sheet, &mut writer)
+    };
     let used = length - writer.rest.len();
-    2 * used as u64 + !fitted as u64
+    2 * used as u64 + fitted.is_none() as u64
+}
+
+/// Makes the calls of a sheet on a plan, with no answers.
+pub(crate) fn make_calls(plan: &mut Plan, sheet: &[u8]) -> Result<(), Refusal> {
+    if sheet.len() > SHEET_LIMIT {
+        return Err(Refusal::SheetTooLong);
+    }
+    run(plan, sheet, &mut Dropped);
+    Ok(())
 }
 
 /// All answers of a sheet.
@@ -34,29 +56,20 @@ pub fn answers(sheet: &[u8]) -> Vec<u8> {
 }
 
 /// Runs the lines one by one. None if an answer does not fit.
-fn run(sheet: &[u8], writer: &mut Writer) -> Option<()> {
-    if sheet.len() > SHEET_LIMIT {
-        return writer.refusal(Refusal::SheetTooLong);
-    }
-    if sheet.is_empty() {
-        return Some(());
-    }
-    let mut plan = Plan::new();
+fn run(plan: &mut Plan, sheet: &[u8], answers: &mut impl Answers) -> Option<()> {
     let mut reader = Reader { rest: sheet.iter() };
-    loop {
-        match line(&mut plan, &mut reader, writer) {
+    while !reader.rest.as_slice().is_empty() {
+        match line(plan, &mut reader, answers) {
             Ok(fitted) => fitted?,
             Err(Unread { last }) => {
                 if last != LF {
                     reader.skip_line();
                 }
-                writer.refusal(Refusal::Unreadable)?;
+                answers.refusal(Refusal::Unreadable)?;
             }
         }
-        if reader.rest.as_slice().is_empty() {
-            return Some(());
-        }
     }
+    Some(())
 }
 
 /// A line that cannot be read, with the last byte taken from it.
@@ -66,73 +79,73 @@ struct Unread {
 
 /// Reads one line, makes its call and writes the answer. None if the answer does not fit.
 #[inline(always)]
-fn line(plan: &mut Plan, reader: &mut Reader, writer: &mut Writer) -> Result<Option<()>, Unread> {
+fn line(plan: &mut Plan, reader: &mut Reader, answers: &mut impl Answers) -> Result<Option<()>, Unread> {
     let start = reader.rest.clone();
     Ok(match reader.letters() {
         MEASURE => {
             reader.ending(b"ure")?;
             let [v] = reader.numbers()?;
-            writer.given(plan.measure(v))
+            answers.given(plan.measure(v))
         }
         RULE => {
             let [a, c, b, f] = reader.numbers()?;
-            writer.given(plan.rule(a, c, b, f))
+            answers.given(plan.rule(a, c, b, f))
         }
         OPEN => {
             let [] = reader.numbers()?;
-            writer.nothing(plan.open())
+            answers.nothing(plan.open())
         }
         SPLIT => {
             reader.ending(b"t")?;
             let [s] = reader.numbers()?;
-            writer.given(plan.split(s))
+            answers.given(plan.split(s))
         }
         EDIT => {
             let [s, client, after, m, kind, constant] = reader.numbers()?;
-            writer.given(plan.edit(s, client, after, m, kind, constant))
+            answers.given(plan.edit(s, client, after, m, kind, constant))
         }
         JOIN => {
             let [] = reader.numbers()?;
-            writer.nothing(plan.join())
+            answers.nothing(plan.join())
         }
         SEND => {
             let [s] = reader.numbers()?;
-            writer.given(plan.send(s))
+            answers.given(plan.send(s))
         }
         REPLAY => {
             reader.ending(b"ay")?;
             let [n] = reader.numbers()?;
-            writer.given(plan.replay(n).map(|fate| fate as u32))
+            answers.given(plan.replay(n).map(|fate| fate as u32))
         }
         STOP => {
             let [] = reader.numbers()?;
-            writer.nothing(plan.stop())
+            answers.nothing(plan.stop())
         }
         CONFIRM => {
             reader.ending(b"irm")?;
             let [s] = reader.numbers()?;
-            writer.nothing(plan.confirm(s))
+            answers.nothing(plan.confirm(s))
         }
         INSTALL => {
             reader.ending(b"all")?;
             let [] = reader.numbers()?;
-            writer.nothing(plan.install())
+            answers.nothing(plan.install())
         }
         SHOW => {
             let [s] = reader.numbers()?;
             match plan.values_of(s) {
-                Ok(values) => writer.values(values),
-                Err(refusal) => writer.refusal(refusal),
+                Ok(values) => answers.values(values),
+                Err(refusal) => answers.refusal(refusal),
             }
         }
         FATE => {
             let [n] = reader.numbers()?;
             let (fate, place) = plan.fate(n);
-            writer.pair(fate as u32, place)
+            answers.pair(fate as u32, place)
         }
         LEFT => {
             let [] = reader.numbers()?;
-            writer.number(plan.left())
+            answers.number(plan.left())
         }
         _ => {
             // A line feed may be among the letters.
@@ -245,12 +258,13 @@ impl Reader<'_> {
     }
 }
 
-/// The unused rest of the area. Each answer goes in whole, or None is given.
-struct Writer<'a> {
-    rest: &'a mut [u8],
-}
+/// What becomes of the answers. None if one does not fit.
+trait Answers {
+    fn number(&mut self, n: u32) -> Option<()>;
+    fn pair(&mut self, fate: u32, place: u32) -> Option<()>;
+    fn values(&mut self, values: &[i32]) -> Option<()>;
+    fn refusal(&mut self, refusal: Refusal) -> Option<()>;
 
-impl Writer<'_> {
     #[inline]
     fn given(&mut self, given: Result<u32, Refusal>) -> Option<()> {
         match given {
@@ -263,25 +277,35 @@ impl Writer<'_> {
     fn nothing(&mut self, given: Result<(), Refusal>) -> Option<()> {
         self.given(given.map(|()| 0))
     }
+}
 
-    /// Takes L bytes of the rest.
-    #[inline]
-    fn take<const L: usize>(&mut self) -> Option<&mut [u8; L]> {
-        if self.rest.len() < L {
-            return None;
-        }
-        let (line, rest) = std::mem::take(&mut self.rest).split_first_chunk_mut()?;
-        self.rest = rest;
-        Some(line)
-    }
+/// No answer is wanted.
+struct Dropped;
 
-    #[inline]
-    fn refusal(&mut self, refusal: Refusal) -> Option<()> {
-        let n = refusal as u8;
-        *self.take()? = [b'n', b'o', b' ', b'0' + n / 10, b'0' + n % 10, LF];
+impl Answers for Dropped {
+    fn number(&mut self, _: u32) -> Option<()> {
         Some(())
     }
 
+    fn pair(&mut self, _: u32, _: u32) -> Option<()> {
+        Some(())
+    }
+
+    fn values(&mut self, _: &[i32]) -> Option<()> {
+        Some(())
+    }
+
+    fn refusal(&mut self, _: Refusal) -> Option<()> {
+        Some(())
+    }
+}
+
+/// The unused rest of the area. Each answer goes in whole, or None is given.
+struct Writer<'a> {
+    rest: &'a mut [u8],
+}
+
+impl Answers for Writer<'_> {
     #[inline]
     fn number(&mut self, n: u32) -> Option<()> {
         match n {
@@ -294,16 +318,6 @@ impl Writer<'_> {
         }
     }
 
-    /// A line of L bytes with one number.
-    #[inline]
-    fn sized_number<const L: usize>(&mut self, n: u32) -> Option<()> {
-        let line = self.take::<L>()?;
-        line[..3].copy_from_slice(b"ok ");
-        put_digits(n, &mut line[3..L - 1]);
-        line[L - 1] = LF;
-        Some(())
-    }
-
     #[inline]
     fn pair(&mut self, fate: u32, place: u32) -> Option<()> {
         match place {
@@ -311,16 +325,6 @@ impl Writer<'_> {
             10..=99 => self.sized_pair::<8>(fate, place),
             _ => self.sized_pair::<9>(fate, place),
         }
-    }
-
-    /// A line of L bytes with a fate, which is one digit, and a place.
-    #[inline]
-    fn sized_pair<const L: usize>(&mut self, fate: u32, place: u32) -> Option<()> {
-        let line = self.take::<L>()?;
-        line[..5].copy_from_slice(&[b'o', b'k', b' ', b'0' + fate as u8, b' ']);
-        put_digits(place, &mut line[5..L - 1]);
-        line[L - 1] = LF;
-        Some(())
     }
 
     fn values(&mut self, values: &[i32]) -> Option<()> {
@@ -334,6 +338,45 @@ impl Writer<'_> {
             }
         };
         self.rest = &mut std::mem::take(&mut self.rest)[length..];
+        Some(())
+    }
+    #[inline]
+    fn refusal(&mut self, refusal: Refusal) -> Option<()> {
+        let n = refusal as u8;
+        *self.take()? = [b'n', b'o', b' ', b'0' + n / 10, b'0' + n % 10, LF];
+        Some(())
+    }
+}
+
+impl Writer<'_> {
+    /// Takes L bytes of the rest.
+    #[inline]
+    fn take<const L: usize>(&mut self) -> Option<&mut [u8; L]> {
+        if self.rest.len() < L {
+            return None;
+        }
+        let (line, rest) = std::mem::take(&mut self.rest).split_first_chunk_mut()?;
+        self.rest = rest;
+        Some(line)
+    }
+
+    /// A line of L bytes with one number.
+    #[inline]
+    fn sized_number<const L: usize>(&mut self, n: u32) -> Option<()> {
+        let line = self.take::<L>()?;
+        line[..3].copy_from_slice(b"ok ");
+        put_digits(n, &mut line[3..L - 1]);
+        line[L - 1] = LF;
+        Some(())
+    }
+
+    /// A line of L bytes with a fate, which is one digit, and a place.
+    #[inline]
+    fn sized_pair<const L: usize>(&mut self, fate: u32, place: u32) -> Option<()> {
+        let line = self.take::<L>()?;
+        line[..5].copy_from_slice(&[b'o', b'k', b' ', b'0' + fate as u8, b' ']);
+        put_digits(place, &mut line[5..L - 1]);
+        line[L - 1] = LF;
         Some(())
     }
 }
