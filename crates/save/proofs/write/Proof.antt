@@ -1,0 +1,75 @@
+use borrow.Author.Needs.{needs}
+use Rattle.save.proofs.write.Statement.{statement}
+use Rattle.save.proofs.write.Tie as tie
+use Rattle.save.proofs.write.Reads as reads
+use Rattle.save.proofs.write.Lts as lts
+use Rattle.save.proofs.check_word.Reads as check-word-reads
+use Rattle.save.proofs.heading.Reads as heading-reads
+use Rattle.save.proofs.put_measures.Reads as put-measures-reads
+use Rattle.save.proofs.put_rules.Reads as put-rules-reads
+use Rattle.slots.proofs.put.Reads as put-reads
+
+add-size : tie.Need-add-size
+add-size c = search needs
+
+add-size-2 : tie.Need-add-size-2
+add-size-2 c = search needs
+
+mul-size : tie.Need-mul-size
+mul-size c = search needs
+
+heading-requires : tie.Need-heading-requires
+heading-requires c κs = search needs
+
+put-requires : tie.Need-put-requires
+put-requires c κs = search needs
+
+put-measures-requires : tie.Need-put-measures-requires
+put-measures-requires c κs = search needs
+
+add-put-rules : tie.Need-add-put-rules
+add-put-rules c = search needs
+
+put-rules-requires : tie.Need-put-rules-requires
+put-rules-requires c κs = search needs
+
+slice-reshare-prefix-check-word : tie.Need-slice-reshare-prefix-check-word
+slice-reshare-prefix-check-word c = search needs
+
+slice-aggregate-check-word : tie.Need-slice-aggregate-check-word
+slice-aggregate-check-word c = ?
+
+check-word-requires : tie.Need-check-word-requires
+check-word-requires c κs = search needs
+
+heading-requires-2 : tie.Need-heading-requires-2
+heading-requires-2 c κs = search needs
+
+put-requires-2 : tie.Need-put-requires-2
+put-requires-2 c κs = search needs
+
+same-length : tie.Need-same-length
+same-length c = search needs
+
+returns : tie.Need-returns
+returns c = ?
+
+pub write-spec : {M : Type 1} → statement M
+write-spec =
+    tie.close
+    (tie.spec
+    add-size
+    add-size-2
+    mul-size
+    heading-requires
+    put-requires
+    put-measures-requires
+    add-put-rules
+    put-rules-requires
+    slice-reshare-prefix-check-word
+    slice-aggregate-check-word
+    check-word-requires
+    heading-requires-2
+    put-requires-2
+    same-length
+    returns)
