@@ -73,7 +73,7 @@ loop-again c =
       omega (arith, t),
       put-length (c .before .before .before .before .before .before .before .before .loop .area) _ (1 + i) _ (omega (arith, t, l, r)) (c .before .before .put .ensures) ∙ l,
       full-put measureSlot measure-16 1 (s .n) _ (c .before .before .before .before .before .before .before .before .loop .area) i t _ _ _ (omega (arith, l, r)) (c .before .before .put .ensures) ((c .before .before .before .before .measure-slot .ensures) ∙ ap (measureSlot (c .before .before .before .before .before .before .link .result)) v) ((c .before .before .before .before .before .before .link .ensures) ∙ ap (λ k. linkTo k (1 + s .n)) e)
-      ∙ inv .2,
+          ∙ inv .2,
     )
 
 same-length : tie.Need-same-length Inv-loop μ-loop

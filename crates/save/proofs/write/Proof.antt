@@ -1,3 +1,13 @@
+use Prim.Native.Nat.{_+_, _*_}
+use native.Mathlib.Omega.{arith}
+use mathlib.Core.Path.{refl, sym, ap, _∙_}
+use lib.Seq.{sets, length-take-le}
+use Rattle.rows.specs.Rows.{row}
+use Rattle.rows.proofs.Spans.{length-span}
+use Rattle.state.proofs.View.{row-length}
+use Rattle.save.specs.Parts.{ruleAt, rulesOf}
+use Rattle.save.proofs.Slots.{put-sets}
+use Rattle.save.proofs.Files.{file-is}
 use borrow.Author.Needs.{needs}
 use Rattle.save.proofs.write.Statement.{statement}
 use Rattle.save.proofs.write.Tie as tie
@@ -37,7 +47,8 @@ slice-reshare-prefix-check-word : tie.Need-slice-reshare-prefix-check-word
 slice-reshare-prefix-check-word c = search needs
 
 slice-aggregate-check-word : tie.Need-slice-aggregate-check-word
-slice-aggregate-check-word c = ?
+slice-aggregate-check-word c =
+    let s = (c .before .before .before .before .before .before .before .before .before .before .before .before .before .before .before .args) in sym (length-take-le (16 * (1 + s .n + s .m)) _ (omega (arith, (c .before .before .before .before .before .before .before .before .before .before .before .before .before .before .before .pre))))
 
 check-word-requires : tie.Need-check-word-requires
 check-word-requires c κs = search needs
@@ -52,7 +63,16 @@ same-length : tie.Need-same-length
 same-length c = search needs
 
 returns : tie.Need-returns
-returns c = ?
+returns c =
+    let s = (c .before .before .before .before .before .before .before .before .before .before .before .before .before .before .before .before .before .before .before .before .before .args) in
+    let h = (c .before .before .before .before .before .before .before .before .before .before .before .before .before .before .before .before .before .before .before .before .before .pre) in
+    let vs = row (s .values .now) 0 (s .n) in
+    let rs = rulesOf (s .table .now) (s .m) in
+    let head = (c .before .before .before .before .before .before .before .before .before .before .before .before .before .before .before .before .before .put .ensures) ∙ put-sets (s .area .now) 0 _ (omega (arith, h)) ∙ ap (sets (s .area .now) 0) (c .before .before .before .before .before .before .before .before .before .before .before .before .before .before .before .before .before .before .heading .ensures) in
+    let c3 = (c .before .before .before .before .before .before .before .before .before .put-rules .last .0) in
+    let last = (c .before .before .put2 .ensures) ∙ put-sets c3 0 _ (omega (arith, h)) ∙ ap (sets c3 0) (c .before .before .before .heading2 .ensures) in
+    file-is vs rs (s .next) (s .n) (s .m) (row-length (s .values .now) 0 (s .n)) (length-span 0 (s .m) (ruleAt (s .table .now))) (s .area .now) _ _ _ (h .2) head (c .before .before .before .before .before .before .before .before .before .before .before .before .before .put-measures .ensures)
+    (c .before .before .before .before .before .before .before .before .before .put-rules .ensures) _ _ _ refl (c .before .before .before .before .before .check-word .ensures) last
 
 pub write-spec : {M : Type 1} → statement M
 write-spec =
