@@ -6,12 +6,12 @@ use mathlib.Core.Bool.{true, false}
 use mathlib.Core.List.{List, [], _∷_, _++_, append-assoc}
 use borrow.Author.Tests.{le-leb, lt-leb}
 use lib.IntN.{ℤ, pos}
-use lib.ListN.{length, getD, take, drop, length-append}
+use lib.ListN.{length, take, drop, length-append}
 use lib.Seq.{sets, sets-eq, take-at, drop-at, take-all}
-use Rattle.protocol.specs.Plan.{Rule, Plan, whole, is}
+use Rattle.protocol.specs.Plan.{Rule, whole, is}
 use Rattle.protocol.specs.Calls.{no, ok}
 use Rattle.file.specs.Bytes.{total, balancing}
-use Rattle.file.specs.Saved.{slotZero, measureSlot, ruleSlot, startAt, slotsFrom, chains, heading, checkWord, fileOf, saved, saveChecks, save, saveInto}
+use Rattle.file.specs.Saved.{measureSlot, ruleSlot, slotsFrom, chains, heading, checkWord, fileOf, saved, saveChecks, save, saveInto}
 use Rattle.file.proofs.Sums.{length-slots, measure-16, rule-16, heading-16, file-length}
 use Rattle.format.specs.Sheets.{inFront}
 use Rattle.heads.specs.Heads.{modeOf, measuresIn}
@@ -22,7 +22,7 @@ use Rattle.state.specs.declared.State.{State}
 use Rattle.state.specs.Spread.{spread}
 use Rattle.state.specs.View.{view}
 use Rattle.state.proofs.View.{first-row, row-length}
-use Rattle.save.specs.Parts.{linkTo, ruleAt, rulesOf}
+use Rattle.save.specs.Parts.{headOf, ruleAt, rulesOf}
 use Rattle.save.proofs.Slots.{start-link}
 
 -- ---- the front of an area
@@ -47,17 +47,14 @@ front-anew area old new rest e h =
 -- ---- the file of a plan with n measures and m rules
 
 module _ (vs : List ℤ) (rs : List Rule) (next n m : ℕ) (p : length vs ≡ n) (q : length rs ≡ m) where
-  abbrev pub Heads : ℕ → List ℕ
-  Heads check = slotZero (linkTo 1 (1 + n)) (linkTo (1 + n) (1 + n + m)) next check (1 + n + m)
-
-  heads-are : (check : ℕ) → Heads check ≡ heading vs rs next check
-  heads-are check =
+  head-is : (check : ℕ) → headOf n m next check ≡ heading vs rs next check
+  head-is check =
       let e : suc (length vs) ≡ 1 + n = omega arith in
       let d : suc (length vs + length rs) ≡ 1 + n + m = omega arith in
       sym (rw (start-link 1 n vs p, start-link (suc (length vs)) m rs q, e, d))
 
-  whole-length : length (chains vs rs next) ≡ 16 * (n + m)
-  whole-length =
+  chains-length : length (chains vs rs next) ≡ 16 * (n + m)
+  chains-length =
       let a = length-append (slotsFrom measureSlot 1 vs) (slotsFrom ruleSlot (suc (length vs)) rs) in
       let b = length-slots measureSlot measure-16 1 vs in
       let c = length-slots ruleSlot rule-16 (suc (length vs)) rs in
@@ -67,10 +64,10 @@ module _ (vs : List ℤ) (rs : List Rule) (next n m : ℕ) (p : length vs ≡ n)
   front-length check =
       let a = length-append (heading vs rs next check) (chains vs rs next) in
       let b = heading-16 vs rs next check in
-      let c = whole-length in
+      let c = chains-length in
       omega arith
 
-  module _ (area a b c : List ℕ) (h : 16 * (1 + n + m) ≤ length area) (x : a ≡ sets area 0 (Heads 0)) (y : b ≡ sets a 16 (slotsFrom measureSlot 1 vs))
+  module _ (area a b c : List ℕ) (h : 16 * (1 + n + m) ≤ length area) (x : a ≡ sets area 0 (headOf n m next 0)) (y : b ≡ sets a 16 (slotsFrom measureSlot 1 vs))
       (z : c ≡ sets b (16 * (1 + n)) (slotsFrom ruleSlot (1 + n) rs)) where
     -- the slots, with 0 for the check word
     slots-are : c ≡ inFront (heading vs rs next 0 ++ chains vs rs next) area
@@ -85,7 +82,7 @@ module _ (vs : List ℤ) (rs : List Rule) (next n m : ℕ) (p : length vs ≡ n)
         let t = front-length 0 in
         let j : 16 * (1 + n) ≡ 0 + length (head ++ ms) = omega arith in
         let front : b ≡ sets area 0 (head ++ ms) =
-        y ∙ ap₂ (λ xs k. sets xs k ms) (x ∙ ap (sets area 0) (heads-are 0)) i ∙ sets-both head ms area 0 in
+        y ∙ ap₂ (λ xs k. sets xs k ms) (x ∙ ap (sets area 0) (head-is 0)) i ∙ sets-both head ms area 0 in
         z ∙ ap₂ (λ xs k. sets xs (16 * (1 + n)) (slotsFrom ruleSlot k rs)) front e
         ∙ ap (λ k. sets (sets area 0 (head ++ ms)) k (slotsFrom ruleSlot (suc (length vs)) rs)) j
         ∙ sets-both (head ++ ms) (slotsFrom ruleSlot (suc (length vs)) rs) area 0
@@ -102,12 +99,13 @@ module _ (vs : List ℤ) (rs : List Rule) (next n m : ℕ) (p : length vs ≡ n)
         r ∙ ap (λ xs. balancing (total xs)) (take-all (16 * (length f / 16)) f (omega arith) ∙ g)
 
     -- and the file, once it is written
-    pub file-is : (f d : List ℕ) (check : ℕ) → f ≡ take (16 * (1 + n + m)) c → check ≡ balancing (total (take (16 * (length f / 16)) f)) → d ≡ sets c 0 (Heads check) → d ≡ inFront (fileOf vs rs next) area
+    pub file-is : (f d : List ℕ) (check : ℕ) → f ≡ take (16 * (1 + n + m)) c → check ≡ balancing (total (take (16 * (length f / 16)) f)) → d ≡ sets c 0 (headOf n m next check)
+        → d ≡ inFront (fileOf vs rs next) area
     unfolding fileOf
     file-is f d check e r w =
         let t = front-length 0 in
         let u = check-is f check e r in
-        w ∙ ap₂ (λ xs k. sets xs 0 k) slots-are (heads-are check ∙ ap (heading vs rs next) u)
+        w ∙ ap₂ (λ xs k. sets xs 0 k) slots-are (head-is check ∙ ap (heading vs rs next) u)
         ∙ front-anew area (heading vs rs next 0) (heading vs rs next (checkWord vs rs next)) (chains vs rs next)
         (heading-16 vs rs next (checkWord vs rs next) ∙ sym (heading-16 vs rs next 0)) (omega arith)
 

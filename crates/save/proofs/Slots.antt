@@ -1,18 +1,17 @@
 -- The slots of a saved plan as words, and written one behind the other. Assumes nothing.
 use Prim.Native.Nat.{ℕ, suc, _+_, _*_, _-_, _/_, _%_, _<_, _≤_}
 use native.Mathlib.Omega.{arith}
-use mathlib.Core.Path.{_≡_, refl, sym, ap, ap₂, _∙_}
+use mathlib.Core.Path.{_≡_, sym, ap, ap₂, _∙_}
 use mathlib.Core.Bool.{Bool, true, false}
 use mathlib.Core.List.{List, [], _∷_, _++_, append-assoc}
 use borrow.Author.Tests.{lt-ltb, le-ltb}
 use lib.IntN.{ℤ}
-use lib.ListN.{length, take, drop, length-append}
-use lib.Seq.{sets, sets-eq, length-sets, take-at, drop-at}
+use lib.ListN.{length}
+use lib.Seq.{sets, length-sets}
 use Rattle.protocol.specs.Plan.{Rule}
-use Rattle.file.specs.Bytes.{wordSize, twoBytes, fourBytes, complement, measureKind, ruleKind, mark, kindBits, total, balancing}
-use Rattle.file.specs.Saved.{slotZero, measureSlot, ruleSlot, startAt, slotsFrom, chains, heading, checkWord, fileOf}
-use Rattle.file.proofs.Sums.{length-slots, measure-16, rule-16, heading-16, balancing-only}
-use Rattle.format.specs.Sheets.{inFront}
+use Rattle.file.specs.Bytes.{wordSize, twoBytes, fourBytes, complement, measureKind, ruleKind, mark, balancing}
+use Rattle.file.specs.Saved.{slotZero, measureSlot, ruleSlot, startAt, slotsFrom}
+use Rattle.file.proofs.Sums.{balancing-only}
 use Rattle.rows.specs.Rows.{span}
 use Rattle.rows.proofs.Spans.{length-span, span-next, span-over}
 use Rattle.slots.specs.declared.Slot.{Slot}

@@ -5,10 +5,10 @@ ghost use lib.Seq.{sets};
 ghost use mathlib.Core.Path.{_≡_};
 ghost use Rattle.file.specs.Bytes.{total, balancing};
 ghost use Rattle.file.specs.Loaded.{slots};
-ghost use Rattle.file.specs.Saved.{slotZero, measureSlot, ruleSlot, slotsFrom, fileOf, save, saveInto};
+ghost use Rattle.file.specs.Saved.{measureSlot, ruleSlot, slotsFrom, fileOf, save, saveInto};
 ghost use Rattle.format.specs.Sheets.{inFront};
 ghost use Rattle.rows.specs.Rows.{row};
-ghost use Rattle.save.specs.Parts.{linkTo, ruleAt, rulesOf};
+ghost use Rattle.save.specs.Parts.{linkTo, headOf, ruleAt, rulesOf};
 ghost use Rattle.slots.specs.Words.{bytesOf};
 ghost use Rattle.state.specs.Meets.{answerOf};
 ghost use Rattle.state.specs.View.{view};
@@ -31,7 +31,7 @@ fn link(k: usize, end: usize) -> u32
 // Slot 0 of a plan with n measures and m rules.
 fn heading(n: usize, m: usize, next: u32, check: u32) -> Slot
     requires { ⌜ (n ≤ 32) × (m ≤ 64) ⌝ }
-    ensures { λ r. ⌜ bytesOf r ≡ slotZero (linkTo 1 (1 + n)) (linkTo (1 + n) (1 + n + m)) next check (1 + n + m) ⌝ }
+    ensures { λ r. ⌜ bytesOf r ≡ headOf n m next check ⌝ }
 {
     let count = 1 + n + m;
     Slot {
@@ -99,14 +99,22 @@ fn put_rules(area: &mut [u8], table: &Table, k: usize, m: usize)
 
 // ---- the file
 
-// The word that makes the sum of all words 0 where it is written for a nought.
+// One slot for the plan, each measure and each rule.
+fn file_size(n: usize, m: usize) -> usize
+    requires { ⌜ (n ≤ 32) × (m ≤ 64) ⌝ }
+    ensures { λ r. ⌜ r ≡ 16 * (1 + n + m) ⌝ }
+{
+    slots::SIZE * (1 + n + m)
+}
+
+// What is to stand in place of a 0 so that all words add up to 0.
 fn check_word(f: &[u8]) -> u32
     ensures { λ r. ⌜ r ≡ balancing (total (take (16 * slots (now (f .entry))) (now (f .entry)))) ⌝ }
 {
     std::num::wrapping_sub_u32(0, slots::sum(f))
 }
 
-// The check word is reckoned over the slots as they stand in the area, with 0 in its place.
+// The whole file. The check word is reckoned over the slots as they stand in the area, with 0 in its place.
 fn write<'a>(
     values: &'a [i32; limit::VALUES],
     table: &'a Table,
@@ -118,7 +126,7 @@ fn write<'a>(
     requires { ⌜ (n ≤ 32) × (m ≤ 64) × (16 * (1 + n + m) ≤ length (now area)) ⌝ }
     ensures { λ _. ⌜ now (area .exit) ≡ inFront (fileOf (row (now (values .entry)) 0 n) (rulesOf (now (table .entry)) m) next) (now (area .entry)) ⌝ }
 {
-    let size = slots::SIZE * (1 + n + m);
+    let size = file_size(n, m);
     slots::put(area, 0, heading(n, m, next, 0));
     put_measures(area, values, n);
     put_rules(area, table, 1 + n, m);
@@ -126,7 +134,7 @@ fn write<'a>(
     slots::put(area, 0, heading(n, m, next, check));
 }
 
-// A whole plan, in the front of the lent area, the rest untouched; gives the length of what is written. A refusal leaves the area as it was.
+// What is written fills the front of the lent area, its length is given, and the rest is untouched; a refusal leaves the area as it was.
 pub fn save(p: State, area: &mut [u8]) -> Answer
     ensures { λ r. ⌜ (answerOf r ≡ save (length (now (area .entry))) (view p) .answer) × (now (area .exit) ≡ saveInto (view p) (now (area .entry))) ⌝ }
 {
@@ -137,7 +145,7 @@ pub fn save(p: State, area: &mut [u8]) -> Answer
     }
     let n = rows::capped(h.measures, limit::MEASURES);
     let m = rows::capped(h.rules, limit::RULES);
-    let size = slots::SIZE * (1 + n + m);
+    let size = file_size(n, m);
     if area.len() < size {
         return Answer::Refused(41, 0);
     }

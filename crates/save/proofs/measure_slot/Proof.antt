@@ -27,8 +27,9 @@ word-of-requires c κs = search needs
 returns : tie.Need-returns
 unfolding kindBits
 returns c =
-    let s = (c .before .before .before .args) in
-    measure-words (s .next) _ _ (s .v) ((c .before .joined .ensures) ∙ ap (joinedWord (s .next)) (c .before .before .mark-of .ensures)) ((c .word-of .ensures) ∙ ap complement (toZ-ofZ (c .before .before .before .fits .v)))
+    let s = c .before .before .before .args in
+    let first = c .before .joined .ensures ∙ ap (joinedWord (s .next)) (c .before .before .mark-of .ensures) in
+    measure-words (s .next) _ _ (s .v) first (c .word-of .ensures ∙ ap complement (toZ-ofZ (c .before .before .before .fits .v)))
 
 pub measure-slot-spec : {M : Type 1} → statement M
 measure-slot-spec =

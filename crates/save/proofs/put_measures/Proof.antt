@@ -1,5 +1,5 @@
 use borrow.Author.Needs.{needs}
-use Prim.Native.Nat.{_+_, _*_, _-_, _≤_}
+use Prim.Native.Nat.{_+_, _-_, _≤_}
 use native.Mathlib.Omega.{arith}
 use mathlib.Core.Path.{_≡_, refl, sym, ap, _∙_}
 use lib.IntN.{pos}
@@ -62,22 +62,25 @@ loop-less c = omega arith
 
 loop-again : tie.Need-loop-again Inv-loop μ-loop
 loop-again c =
-    let s = (c .before .before .before .before .before .before .before .before .before .before .args) in
-    let i = (c .before .before .before .before .before .before .before .before .loop .i) in
-    let t = (c .before .before .before .before .before .before .before .loop-test .taken) in
-    let inv = (c .before .before .before .before .before .before .before .before .loop .inv) in
-    let l : length ((c .before .before .before .before .before .before .before .before .loop .area)) ≡ length (s .area .now) = inv .1 in
-    let r = (c .before .before .before .before .before .before .before .before .before .before .pre) in
+    let s = c .before .before .before .before .before .before .before .before .before .before .args in
+    let r = c .before .before .before .before .before .before .before .before .before .before .pre in
+    let at = c .before .before .before .before .before .before .before .before .loop .area in
+    let i = c .before .before .before .before .before .before .before .before .loop .i in
+    let inv = c .before .before .before .before .before .before .before .before .loop .inv in
+    let l : length at ≡ length (s .area .now) = inv .1 in
+    let t = c .before .before .before .before .before .before .before .loop-test .taken in
     let e : 2 + i ≡ 1 + i + 1 = omega arith in
-    let v = toZ-ofZ (fits32 (getD (s .values .now) i (pos 0)) (c .before .before .before .before .before .measure-slot-arg .given)) in (
+    let link = c .before .before .before .before .before .before .link .ensures ∙ ap (λ k. linkTo k (1 + s .n)) e in
+    let v = toZ-ofZ (fits32 (getD (s .values .now) i (pos 0)) (c .before .before .before .before .before .measure-slot-arg .given)) in
+    let slot = c .before .before .before .before .measure-slot .ensures ∙ ap (measureSlot (c .before .before .before .before .before .before .link .result)) v in
+    let put = c .before .before .put .ensures in (
       omega (arith, t),
-      put-length (c .before .before .before .before .before .before .before .before .loop .area) _ (1 + i) _ (omega (arith, t, l, r)) (c .before .before .put .ensures) ∙ l,
-      full-put measureSlot measure-16 1 (s .n) _ (c .before .before .before .before .before .before .before .before .loop .area) i t _ _ _ (omega (arith, l, r)) (c .before .before .put .ensures) ((c .before .before .before .before .measure-slot .ensures) ∙ ap (measureSlot (c .before .before .before .before .before .before .link .result)) v) ((c .before .before .before .before .before .before .link .ensures) ∙ ap (λ k. linkTo k (1 + s .n)) e)
-          ∙ inv .2,
+      put-length at _ (1 + i) _ (omega (arith, t, l, r)) put ∙ l,
+      full-put measureSlot measure-16 1 (s .n) _ at i t _ _ _ (omega (arith, l, r)) put slot link ∙ inv .2,
     )
 
 same-length : tie.Need-same-length Inv-loop μ-loop
-same-length c = (c .before .loop .inv .1)
+same-length c = c .before .loop .inv .1
 
 returns : tie.Need-returns Inv-loop μ-loop
 returns c =

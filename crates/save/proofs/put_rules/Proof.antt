@@ -1,7 +1,7 @@
 use borrow.Author.Needs.{needs}
 use Prim.Native.Nat.{_+_, _*_, _-_, _≤_}
 use native.Mathlib.Omega.{arith}
-use mathlib.Core.Path.{_≡_, refl, sym, ap, _∙_}
+use mathlib.Core.Path.{_≡_, refl, sym, _∙_}
 use lib.ListN.{length}
 use lib.Seq.{sets}
 use Rattle.file.specs.Saved.{ruleSlot, slotsFrom}
@@ -56,23 +56,29 @@ loop-less c = omega arith
 
 loop-again : tie.Need-loop-again Inv-loop μ-loop
 loop-again c =
-    let s = (c .before .before .before .before .before .before .before .before .before .args) in
-    let i = (c .before .before .before .before .before .before .before .loop .i) in
-    let t = (c .before .before .before .before .before .before .loop-test .taken) in
-    let inv = (c .before .before .before .before .before .before .before .loop .inv) in
-    let l : length ((c .before .before .before .before .before .before .before .loop .area)) ≡ length (s .area .now) = inv .1 in
-    let r = (c .before .before .before .before .before .before .before .before .before .pre) in (
+    let s = c .before .before .before .before .before .before .before .before .before .args in
+    let r = c .before .before .before .before .before .before .before .before .before .pre in
+    let at = c .before .before .before .before .before .before .before .loop .area in
+    let i = c .before .before .before .before .before .before .before .loop .i in
+    let inv = c .before .before .before .before .before .before .before .loop .inv in
+    let l : length at ≡ length (s .area .now) = inv .1 in
+    let t = c .before .before .before .before .before .before .loop-test .taken in
+    let link = c .before .before .before .before .before .link .ensures in
+    let slot = c .before .before .before .before .rule-slot .ensures in
+    let put = c .before .before .put .ensures in (
       omega (arith, t),
-      put-length (c .before .before .before .before .before .before .before .loop .area) _ (s .k + i) _ (omega (arith, t, l, r)) (c .before .before .put .ensures) ∙ l,
-      full-put ruleSlot rule-16 (s .k) (s .m) (ruleAt (s .table .now)) (c .before .before .before .before .before .before .before .loop .area) i t _ _ _ (omega (arith, l, r)) (c .before .before .put .ensures) (c .before .before .before .before .rule-slot .ensures) (c .before .before .before .before .before .link .ensures) ∙ inv .2,
+      put-length at _ (s .k + i) _ (omega (arith, t, l, r)) put ∙ l,
+      full-put ruleSlot rule-16 (s .k) (s .m) (ruleAt (s .table .now)) at i t _ _ _ (omega (arith, l, r)) put slot link ∙ inv .2,
     )
 
 same-length : tie.Need-same-length Inv-loop μ-loop
-same-length c = (c .before .loop .inv .1)
+same-length c = c .before .loop .inv .1
 
 returns : tie.Need-returns Inv-loop μ-loop
 returns c =
-    sym (full-last ruleSlot (c .before .before .before .args .k) (c .before .before .before .args .m) (ruleAt (c .before .before .before .args .table .now)) (c .before .loop .area) (c .before .loop .i) (omega (arith, (c .loop-test .left)))) ∙ (c .before .loop .inv .2)
+    let s = c .before .before .before .args in
+    let at = c .before .loop in
+    sym (full-last ruleSlot (s .k) (s .m) (ruleAt (s .table .now)) (at .area) (at .i) (omega (arith, c .loop-test .left))) ∙ at .inv .2
 
 pub put-rules-spec : {M : Type 1} → statement M
 put-rules-spec =

@@ -2,7 +2,7 @@ use Prim.Native.Nat.{_+_, _*_}
 use lib.Dec.{eqb}
 use lib.IntN.{pos}
 use lib.ListN.{getD}
-use mathlib.Core.Path.{sym, ap, ap₂, _∙_}
+use mathlib.Core.Path.{_≡_, sym, ap, ap₂, _∙_}
 use mir.Facts.{toZ-ofZ}
 use Rattle.exact.proofs.Ints.{fits32}
 use Rattle.file.specs.Bytes.{complement, kindBits, ruleKind, mark}
@@ -20,6 +20,27 @@ use Rattle.exact.proofs.number.Reads as number-reads
 use Rattle.slots.proofs.joined.Reads as joined-reads
 use Rattle.slots.proofs.mark_of.Reads as mark-of-reads
 use Rattle.slots.proofs.word_of.Reads as word-of-reads
+
+lower : (c : tie.After-number) → let s = c .before .before .args in c .number .result ≡ ruleAt (s .table .now) (s .i) .lower
+lower c =
+    let s = c .before .before in
+    let t = s .args .table .now in
+    let i = s .args .i in
+    c .number .ensures ∙ ap natural (toZ-ofZ (fits32 (getD t (4 * i) (pos 0)) (c .before .number-arg .given))) ∙ sym (at-lower t i (s .pre))
+
+upper : (c : tie.After-number2) → let s = c .before .before .before .before .args in c .number2 .result ≡ ruleAt (s .table .now) (s .i) .upper
+upper c =
+    let s = c .before .before .before .before in
+    let t = s .args .table .now in
+    let i = s .args .i in
+    c .number2 .ensures ∙ ap natural (toZ-ofZ (fits32 (getD t (4 * i + 2) (pos 0)) (c .before .number-arg2 .given))) ∙ sym (at-upper t i (s .pre))
+
+firm : (c : tie.After-number3) → let s = c .before .before .before .before .before .before .args in eqb (c .number3 .result) 1 ≡ ruleAt (s .table .now) (s .i) .firm
+firm c =
+    let s = c .before .before .before .before .before .before in
+    let t = s .args .table .now in
+    let i = s .args .i in
+    ap (λ n. eqb n 1) (c .number3 .ensures ∙ ap natural (toZ-ofZ (fits32 (getD t (4 * i + 3) (pos 0)) (c .before .number-arg3 .given)))) ∙ sym (at-firm t i (s .pre))
 
 mul-number : tie.Need-mul-number
 mul-number c = search needs
@@ -93,15 +114,16 @@ word-of-requires c κs = search needs
 returns : tie.Need-returns
 unfolding kindBits
 returns c =
-    let s = (c .before .before .before .before .before .before .before .before .before .before .before .args) in
-    let t = s .table .now in
-    let h = (c .before .before .before .before .before .before .before .before .before .before .before .pre) in
-    let a = (c .before .before .before .before .before .before .before .before .before .number .ensures) ∙ ap natural (toZ-ofZ (fits32 (getD t (4 * s .i) (pos 0)) (c .before .before .before .before .before .before .before .before .before .before .number-arg .given))) ∙ sym (at-lower t (s .i) h) in
-    let b = (c .before .before .before .before .before .before .before .number2 .ensures) ∙ ap natural (toZ-ofZ (fits32 (getD t (4 * s .i + 2) (pos 0)) (c .before .before .before .before .before .before .before .before .number-arg2 .given))) ∙ sym (at-upper t (s .i) h) in
-    let f = ap (λ n. eqb n 1) ((c .before .before .before .before .before .number3 .ensures) ∙ ap natural (toZ-ofZ (fits32 (getD t (4 * s .i + 3) (pos 0)) (c .before .before .before .before .before .before .number-arg3 .given)))) ∙ sym (at-firm t (s .i) h) in
-    let g = toZ-ofZ (fits32 (getD t (4 * s .i + 1) (pos 0)) (c .before .word-of-arg .given)) ∙ sym (at-gap t (s .i) h) in
-    rule-words (s .next) _ _ _ (ruleAt t (s .i)) ((c .before .before .before .joined .ensures) ∙ ap (joinedWord (s .next)) ((c .before .before .before .before .mark-of .ensures) ∙ ap (mark ruleKind) f)) ((c .before .before .joined2 .ensures) ∙ ap₂ joinedWord a b)
-    ((c .word-of .ensures) ∙ ap complement g)
+    let s = c .before .before .before .before .before .before .before .before .before .before .before in
+    let t = s .args .table .now in
+    let i = s .args .i in
+    let next = s .args .next in
+    let marked = c .before .before .before .before .mark-of .ensures ∙ ap (mark ruleKind) (firm (c .before .before .before .before .before)) in
+    let a = lower (c .before .before .before .before .before .before .before .before .before) in
+    let b = upper (c .before .before .before .before .before .before .before) in
+    let pair = c .before .before .joined2 .ensures ∙ ap₂ joinedWord a b in
+    let gap = toZ-ofZ (fits32 (getD t (4 * i + 1) (pos 0)) (c .before .word-of-arg .given)) ∙ sym (at-gap t i (s .pre)) in
+    rule-words next _ _ _ (ruleAt t i) (c .before .before .before .joined .ensures ∙ ap (joinedWord next) marked) pair (c .word-of .ensures ∙ ap complement gap)
 
 pub rule-slot-spec : {M : Type 1} → statement M
 rule-slot-spec =

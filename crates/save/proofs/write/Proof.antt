@@ -1,6 +1,6 @@
-use Prim.Native.Nat.{_+_, _*_}
 use native.Mathlib.Omega.{arith}
-use mathlib.Core.Path.{refl, sym, ap, _∙_}
+use mathlib.Core.Path.{sym, ap, _∙_}
+use lib.ListN.{take}
 use lib.Seq.{sets, length-take-le}
 use Rattle.rows.specs.Rows.{row}
 use Rattle.rows.proofs.Spans.{length-span}
@@ -14,19 +14,14 @@ use Rattle.save.proofs.write.Tie as tie
 use Rattle.save.proofs.write.Reads as reads
 use Rattle.save.proofs.write.Lts as lts
 use Rattle.save.proofs.check_word.Reads as check-word-reads
+use Rattle.save.proofs.file_size.Reads as file-size-reads
 use Rattle.save.proofs.heading.Reads as heading-reads
 use Rattle.save.proofs.put_measures.Reads as put-measures-reads
 use Rattle.save.proofs.put_rules.Reads as put-rules-reads
 use Rattle.slots.proofs.put.Reads as put-reads
 
-add-size : tie.Need-add-size
-add-size c = search needs
-
-add-size-2 : tie.Need-add-size-2
-add-size-2 c = search needs
-
-mul-size : tie.Need-mul-size
-mul-size c = search needs
+file-size-requires : tie.Need-file-size-requires
+file-size-requires c κs = search needs
 
 heading-requires : tie.Need-heading-requires
 heading-requires c κs = search needs
@@ -48,7 +43,9 @@ slice-reshare-prefix-check-word c = search needs
 
 slice-aggregate-check-word : tie.Need-slice-aggregate-check-word
 slice-aggregate-check-word c =
-    let s = (c .before .before .before .before .before .before .before .before .before .before .before .before .before .before .before .args) in sym (length-take-le (16 * (1 + s .n + s .m)) _ (omega (arith, (c .before .before .before .before .before .before .before .before .before .before .before .before .before .before .before .pre))))
+    let h = c .before .before .before .before .before .before .before .before .before .before .before .before .before .before .before .before .pre in
+    let e = c .before .before .before .before .before .before .before .before .before .before .before .before .before .before .file-size .ensures in
+    sym (length-take-le (c .before .before .before .before .before .before .before .before .before .before .before .before .before .before .file-size .result) _ (omega arith))
 
 check-word-requires : tie.Need-check-word-requires
 check-word-requires c κs = search needs
@@ -64,23 +61,28 @@ same-length c = search needs
 
 returns : tie.Need-returns
 returns c =
-    let s = (c .before .before .before .before .before .before .before .before .before .before .before .before .before .before .before .before .before .before .before .before .before .args) in
-    let h = (c .before .before .before .before .before .before .before .before .before .before .before .before .before .before .before .before .before .before .before .before .before .pre) in
+    let s = c .before .before .before .before .before .before .before .before .before .before .before .before .before .before .before .before .before .before .before .before .before .before .args in
+    let h = c .before .before .before .before .before .before .before .before .before .before .before .before .before .before .before .before .before .before .before .before .before .before .pre in
+    let at = s .area .now in
     let vs = row (s .values .now) 0 (s .n) in
     let rs = rulesOf (s .table .now) (s .m) in
-    let head = (c .before .before .before .before .before .before .before .before .before .before .before .before .before .before .before .before .before .put .ensures) ∙ put-sets (s .area .now) 0 _ (omega (arith, h)) ∙ ap (sets (s .area .now) 0) (c .before .before .before .before .before .before .before .before .before .before .before .before .before .before .before .before .before .before .heading .ensures) in
-    let c3 = (c .before .before .before .before .before .before .before .before .before .put-rules .last .0) in
-    let last = (c .before .before .put2 .ensures) ∙ put-sets c3 0 _ (omega (arith, h)) ∙ ap (sets c3 0) (c .before .before .before .heading2 .ensures) in
-    file-is vs rs (s .next) (s .n) (s .m) (row-length (s .values .now) 0 (s .n)) (length-span 0 (s .m) (ruleAt (s .table .now))) (s .area .now) _ _ _ (h .2) head (c .before .before .before .before .before .before .before .before .before .before .before .before .before .put-measures .ensures)
-    (c .before .before .before .before .before .before .before .before .before .put-rules .ensures) _ _ _ refl (c .before .before .before .before .before .check-word .ensures) last
+    let laid = c .before .before .before .before .before .before .before .before .before .put-rules .last .0 in
+    let size = c .before .before .before .before .before .before .before .before .before .before .before .before .before .before .before .before .before .before .before .before .file-size .ensures in
+    let put = c .before .before .before .before .before .before .before .before .before .before .before .before .before .before .before .before .before .put .ensures in
+    let head = put ∙ put-sets at 0 _ (omega (arith, h)) in
+    let zero = c .before .before .before .before .before .before .before .before .before .before .before .before .before .before .before .before .before .before .heading .ensures in
+    let measures = c .before .before .before .before .before .before .before .before .before .before .before .before .before .put-measures .ensures in
+    let rules = c .before .before .before .before .before .before .before .before .before .put-rules .ensures in
+    let last = (c .before .before .put2 .ensures) ∙ put-sets laid 0 _ (omega (arith, h)) ∙ ap (sets laid 0) (c .before .before .before .heading2 .ensures) in
+    file-is vs rs (s .next) (s .n) (s .m) (row-length (s .values .now) 0 (s .n)) (length-span 0 (s .m) (ruleAt (s .table .now)))
+    at _ _ _ (h .2) (head ∙ ap (sets at 0) zero) measures rules
+    _ _ _ (ap (λ k. take k laid) size) (c .before .before .before .before .before .check-word .ensures) last
 
 pub write-spec : {M : Type 1} → statement M
 write-spec =
     tie.close
     (tie.spec
-    add-size
-    add-size-2
-    mul-size
+    file-size-requires
     heading-requires
     put-requires
     put-measures-requires
