@@ -54,6 +54,7 @@ fn measure_slot(next: u32, v: i32) -> Slot
     }
 }
 
+// Rule i of the table, from 0.
 fn rule_slot(next: u32, table: &Table, i: usize) -> Slot
     requires { ⌜ i < 64 ⌝ }
     ensures { λ r. ⌜ bytesOf r ≡ ruleSlot next (ruleAt (now (table .entry)) i) ⌝ }
@@ -72,6 +73,7 @@ fn rule_slot(next: u32, table: &Table, i: usize) -> Slot
 
 // ---- chains
 
+// Side 1's values, from slot 1 on; the chain ends before slot n + 1.
 fn put_measures(area: &mut [u8], values: &[i32; limit::VALUES], n: usize)
     requires { ⌜ (n ≤ 32) × (16 * (1 + n) ≤ length (now area)) ⌝ }
     ensures { λ _. ⌜ now (area .exit) ≡ sets (now (area .entry)) 16 (slotsFrom measureSlot 1 (row (now (values .entry)) 0 n)) ⌝ }
@@ -84,7 +86,7 @@ fn put_measures(area: &mut [u8], values: &[i32; limit::VALUES], n: usize)
     }
 }
 
-// From slot k on.
+// The first m rules, from slot k on.
 fn put_rules(area: &mut [u8], table: &Table, k: usize, m: usize)
     requires { ⌜ (k ≤ 33) × (m ≤ 64) × (16 * (k + m) ≤ length (now area)) ⌝ }
     ensures { λ _. ⌜ now (area .exit) ≡ sets (now (area .entry)) (16 * k) (slotsFrom ruleSlot k (rulesOf (now (table .entry)) m)) ⌝ }
@@ -134,7 +136,7 @@ fn write<'a>(
     slots::put(area, 0, heading(n, m, next, check));
 }
 
-// What is written fills the front of the lent area, its length is given, and the rest is untouched; a refusal leaves the area as it was.
+// 31 when the plan is not whole, then 41 (02, S-1). What is written fills the front of the lent area, its length is given, and the rest is untouched; a refusal leaves the area as it was.
 pub fn save(p: State, area: &mut [u8]) -> Answer
     ensures { λ r. ⌜ (answerOf r ≡ save (length (now (area .entry))) (view p) .answer) × (now (area .exit) ≡ saveInto (view p) (now (area .entry))) ⌝ }
 {
