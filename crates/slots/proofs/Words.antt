@@ -101,7 +101,7 @@ complement-above (negsuc n) e = absurd (subst T e tt)
 
 -- ---- writing
 
-sets-both : (xs ys area : List ℕ) (at : ℕ) → sets (sets area at xs) (at + length xs) ys ≡ sets area at (xs ++ ys)
+pub sets-both : (xs ys area : List ℕ) (at : ℕ) → sets (sets area at xs) (at + length xs) ys ≡ sets area at (xs ++ ys)
 sets-both [] ys area at = let e : at + 0 ≡ at = omega arith in ap (λ n. sets area n ys) e
 sets-both (x ∷ xs) ys area at = let e : at + suc (length xs) ≡ suc at + length xs = omega arith in ap (λ n. sets (sets (set area at x) (suc at) xs) n ys) e ∙ sets-both xs ys (set area at x) (suc at)
 
