@@ -5,22 +5,22 @@ use mathlib.Core.Path.{_≡_, refl, sym, ap, ap₂, subst, _∙_}
 use mathlib.Core.Bool.{Bool, false, cond, _&&_, and-false}
 use mathlib.Core.Logic.{_≢_}
 use mathlib.Core.List.{List, [], _∷_, _++_, map, append-nil, append-assoc}
-use borrow.Author.Tests.{ltb-true, ltb-false, eq-eqb, ne-eqb}
+use borrow.Author.Tests.{ltb-true, ltb-false, lt-ltb, eq-eqb, ne-eqb}
 use lib.Dec.{T, eqb, ltb, eqb→eq}
 use lib.IntN.{ℤ, pos}
 use lib.ListN.{length}
 use Rattle.protocol.specs.Lists.{isNone}
 use Rattle.protocol.specs.Plan.{Plan}
-use Rattle.protocol.specs.Calls.{Call, Verdict, fine, refused, first, checks, isRefusal, stepBy, step, following, end, no, ok}
+use Rattle.protocol.specs.Calls.{Call, measure, open-plan, Verdict, fine, refused, first, checks, isRefusal, stepBy, step, following, end, no, ok}
 use Rattle.protocol.proofs.Laws.{cases, is-yes}
 use Rattle.protocol.proofs.Refusals.{AnswerAgreed, answer-agreed}
 use Rattle.file.specs.Bytes.{twoAt, fourAt}
-use Rattle.file.specs.Loaded.{slotIn, slots, nextIn, chain, orElse, firstRefusal}
+use Rattle.file.specs.Loaded.{slotIn, slots, nextIn, valueIn, ruleIn, chain, firstSlot, measureChain, ruleChain, orElse, firstRefusal, drawing}
 use Rattle.heads.specs.declared.Head.{Head}
 use Rattle.records.specs.declared.EditRecord.{EditRecord}
 use Rattle.slots.specs.declared.Slot.{Slot}
 use Rattle.slots.specs.Words.{wordsOf, noWords, wordsIn, Parted}
-use Rattle.slots.proofs.Parts.{next-part, slot-none}
+use Rattle.slots.proofs.Parts.{next-part, second-part, slot-none}
 use Rattle.state.specs.declared.State.{State}
 use Rattle.state.specs.declared.Answer.{Answer}
 use Rattle.state.specs.declared.Answer.the-variants.{Refused, Given}
@@ -34,7 +34,7 @@ use Rattle.load.specs.Drawing.{refusedIn, slotCall, slotCalls, chainCall
 
 -- ---- lists of calls
 
-first-append : (cs ds : List Call) (p : Plan) → firstRefusal (cs ++ ds) p ≡ orElse (firstRefusal cs p) (firstRefusal ds (end cs p))
+pub first-append : (cs ds : List Call) (p : Plan) → firstRefusal (cs ++ ds) p ≡ orElse (firstRefusal cs p) (firstRefusal ds (end cs p))
 unfolding firstRefusal
 first-append [] ds p = refl
 first-append (c ∷ cs) ds p = ap (orElse (first (checks c p))) (first-append cs ds (following p c)) ∙ grouped (first (checks c p)) _ _
@@ -43,7 +43,7 @@ first-append (c ∷ cs) ds p = ap (orElse (first (checks c p))) (first-append cs
     grouped fine b c = refl
     grouped (refused k) b c = refl
 
-end-append : (cs ds : List Call) (p : Plan) → end (cs ++ ds) p ≡ end ds (end cs p)
+pub end-append : (cs ds : List Call) (p : Plan) → end (cs ++ ds) p ≡ end ds (end cs p)
 end-append [] ds p = refl
 end-append (c ∷ cs) ds p = end-append cs ds (following p c)
 
@@ -80,7 +80,7 @@ drew-one c p q a k e m = record {
 same-calls : {cs ds : List Call} {k : ℕ} {p q : State} → cs ≡ ds → Drew cs k p q → Drew ds k p q
 same-calls {k = k} {p} {q} e d = subst (λ cs. Drew cs k p q) e d
 
-same-refusal : {cs : List Call} {j k : ℕ} {p q : State} → j ≡ k → Drew cs j p q → Drew cs k p q
+pub same-refusal : {cs : List Call} {j k : ℕ} {p q : State} → j ≡ k → Drew cs j p q → Drew cs k p q
 same-refusal {cs} {p = p} {q} e d = subst (λ k. Drew cs k p q) e d
 
 pub drew-then : (cs ds : List Call) (k : ℕ) (p q r : State) → Drew cs 0 p q → Drew ds k q r → Drew (cs ++ ds) k p r
@@ -141,16 +141,19 @@ module _ (f : List ℕ) (op start : ℕ) where
 
   pub drawing-begin : 0 < slots f → (h : Head) (values table : List ℤ) → Drawing h values table h values table start 0 0
   unfolding firstRefusal
-  drawing-begin o h values table = (λ n. o, λ base draft arrived confirmed edits z l.
-      let n : slots f - 0 ≡ slots f = omega arith in
-      record {
-        done = [];
-        rest = chain f (slots f) start;
-        parts = refl;
-        drew = record { verdict = refl; plan = λ z. refl; sized = z; long = l };
-        going = λ z. ap (λ m. chain f m start) (sym n);
-        over = λ z. absurd (z refl);
-      })
+  drawing-begin o h values table = (
+    λ n. o,
+    λ base draft arrived confirmed edits z l.
+        let n : slots f - 0 ≡ slots f = omega arith in
+        record {
+          done = [];
+          rest = chain f (slots f) start;
+          parts = refl;
+          drew = record { verdict = refl; plan = λ z. refl; sized = z; long = l };
+          going = λ z. ap (λ m. chain f m start) (sym n);
+          over = λ z. absurd (z refl);
+        },
+  )
 
   -- where it ends
   pub drawing-ends : {h h′ : Head} {values table values′ table′ : List ℤ} {k i refusal : ℕ} → Drawing h values table h′ values′ table′ k i refusal → k ≡ 0
@@ -173,22 +176,25 @@ module _ (f : List ℕ) (op start : ℕ) where
   pub drawing-on : {h h₁ h₂ : Head} {values table v₁ t₁ v₂ t₂ : List ℤ} {k i refusal : ℕ} → Drawing h values table h₁ v₁ t₁ k i refusal → k ≢ 0 → (w : Slot) → w ≡ wordsOf (slotIn f k)
       → Parted (slotIn f k) → (r : ℕ) → DrewFrom (slotCall op (slotIn f k) ∷ []) r h₁ v₁ t₁ h₂ v₂ t₂ → (k′ : ℕ)
       → k′ ≡ cond (isNone r && ltb (i + 1) (slots f)) (w .first % 65_536) 0 → Drawing h values table h₂ v₂ t₂ k′ (i + 1) r
-  drawing-on {k = k} {i} {refusal} d n w w-is p r one k′ to = (further, λ base draft arrived confirmed edits s l.
-      let a = d .1 base draft arrived confirmed edits s l in
-      let z : refusal ≡ 0 = cases (eqb refusal 0) (λ e. eqb→eq refusal 0 (is-yes e)) (λ e. absurd (n (a .over (λ y. absurd (is-yes (sym e ∙ eq-eqb refusal 0 y)))))) in
-      let m : slots f - i ≡ suc (slots f - (i + 1)) = let h = d .0 n in omega arith in
-      let step : a .rest ≡ k ∷ chain f (slots f - (i + 1)) (nextIn (slotIn f k)) = a .going z ∙ ap (λ j. chain f j k) m ∙ rw (ne-eqb k 0 n) in
-      let so-far = same-refusal z (a .drew) in
-      let next-is : w .first % 65_536 ≡ nextIn (slotIn f k) = ap (λ (x : Slot). x .first % 65_536) w-is ∙ sym (next-part (slotIn f k) p) in
-      record {
-        done = a .done ++ (k ∷ []);
-        rest = chain f (slots f - (i + 1)) (nextIn (slotIn f k));
-        parts = a .parts ∙ ap (λ ks. a .done ++ ks) step ∙ sym (append-assoc (a .done) (k ∷ []) _);
-        drew = same-calls (sym (calls-append op f (a .done) (k ∷ [])))
-            (drew-then (slotCalls op f (a .done)) (slotCall op (slotIn f k) ∷ []) r _ _ _ so-far (one base draft arrived confirmed edits (so-far .sized) (so-far .long)));
-        going = λ e. follows e next-is;
-        over = λ e. to ∙ rw (ne-eqb r 0 e);
-      })
+  drawing-on {k = k} {i} {refusal} d n w w-is p r one k′ to = (
+    further,
+    λ base draft arrived confirmed edits s l.
+        let a = d .1 base draft arrived confirmed edits s l in
+        let z : refusal ≡ 0 = cases (eqb refusal 0) (λ e. eqb→eq refusal 0 (is-yes e)) (λ e. absurd (n (a .over (λ y. absurd (is-yes (sym e ∙ eq-eqb refusal 0 y)))))) in
+        let m : slots f - i ≡ suc (slots f - (i + 1)) = let h = d .0 n in omega arith in
+        let step : a .rest ≡ k ∷ chain f (slots f - (i + 1)) (nextIn (slotIn f k)) = a .going z ∙ ap (λ j. chain f j k) m ∙ rw (ne-eqb k 0 n) in
+        let so-far = same-refusal z (a .drew) in
+        let next-is : w .first % 65_536 ≡ nextIn (slotIn f k) = ap (λ (x : Slot). x .first % 65_536) w-is ∙ sym (next-part (slotIn f k) p) in
+        record {
+          done = a .done ++ (k ∷ []);
+          rest = chain f (slots f - (i + 1)) (nextIn (slotIn f k));
+          parts = a .parts ∙ ap (λ ks. a .done ++ ks) step ∙ sym (append-assoc (a .done) (k ∷ []) _);
+          drew = same-calls (sym (calls-append op f (a .done) (k ∷ [])))
+              (drew-then (slotCalls op f (a .done)) (slotCall op (slotIn f k) ∷ []) r _ _ _ so-far (one base draft arrived confirmed edits (so-far .sized) (so-far .long)));
+          going = λ e. follows e next-is;
+          over = λ e. to ∙ rw (ne-eqb r 0 e);
+        },
+  )
     where
       further : k′ ≢ 0 → i + 1 < slots f
       further e = cases (ltb (i + 1) (slots f))
@@ -210,3 +216,50 @@ drew-from op a b c d {h} {values = values} {table} {r = r} m k e base draft arri
 pub same-call : {c c′ : Call} {k : ℕ} {h h′ : Head} {values table values′ table′ : List ℤ} → c ≡ c′ → DrewFrom (c ∷ []) k h values table h′ values′ table′
     → DrewFrom (c′ ∷ []) k h values table h′ values′ table′
 same-call e d base draft arrived confirmed edits z l = same-calls (ap {B = List Call} (λ c. c ∷ []) e) (d base draft arrived confirmed edits z l)
+
+-- ---- the file
+
+module _ (f : List ℕ) (some : 0 < slots f) (w : Slot) (w-is : w ≡ wordsIn f 0) (p : 0 < slots f → Parted (slotIn f 0)) where
+  zero-is : w ≡ wordsOf (firstSlot f)
+  zero-is = w-is ∙ rw (lt-ltb 0 (slots f) some)
+
+  module _ (a : ℕ) (a-is : a ≡ w .first % 65_536) (b : ℕ) (b-is : b ≡ w .first / 65_536) where
+    measures-is : chainCalls 1 f a ≡ map (λ k. measure (valueIn (slotIn f k))) (measureChain f)
+    measures-is = ap (chainCalls 1 f) (a-is ∙ ap (λ (x : Slot). x .first % 65_536) zero-is ∙ sym (next-part (firstSlot f) (p some)))
+
+    rules-is : chainCalls 2 f b ≡ map (λ k. ruleIn (slotIn f k)) (ruleChain f)
+    rules-is = ap (chainCalls 2 f) (b-is ∙ ap (λ (x : Slot). x .first / 65_536) zero-is ∙ sym (second-part (firstSlot f) (p some)))
+
+    drawing-is : chainCalls 1 f a ++ (chainCalls 2 f b ++ (open-plan ∷ [])) ≡ drawing f
+    unfolding drawing
+    drawing-is = ap₂ (λ cs ds. cs ++ (ds ++ (open-plan ∷ []))) measures-is rules-is
+
+    module _ {h h₁ : Head} {v t v₁ t₁ : List ℤ} (j : ℕ) (first-drew : DrewFrom (chainCalls 1 f a) j h v t h₁ v₁ t₁) where
+      -- a measure was refused
+      pub file-measures : j ≢ 0 → DrewFrom (drawing f) j h v t h₁ v₁ t₁
+      file-measures n base draft arrived confirmed edits z l =
+          same-calls drawing-is (drew-stop (chainCalls 1 f a) (chainCalls 2 f b ++ (open-plan ∷ [])) j _ _ n (first-drew base draft arrived confirmed edits z l))
+
+      module _ (z₁ : j ≡ 0) {h₂ : Head} {v₂ t₂ : List ℤ} (k : ℕ) (then-drew : DrewFrom (chainCalls 2 f b) k h₁ v₁ t₁ h₂ v₂ t₂) where
+        -- a rule was refused
+        pub file-rules : k ≢ 0 → DrewFrom (drawing f) k h v t h₂ v₂ t₂
+        file-rules n base draft arrived confirmed edits z l =
+            let x = same-refusal z₁ (first-drew base draft arrived confirmed edits z l) in
+            same-calls drawing-is (drew-then (chainCalls 1 f a) (chainCalls 2 f b ++ (open-plan ∷ [])) k _ _ _ x
+            (drew-stop (chainCalls 2 f b) (open-plan ∷ []) k _ _ n (then-drew base draft arrived confirmed edits (x .sized) (x .long))))
+
+        -- open decides
+        pub file-open : k ≡ 0 → {h₃ : Head} {v₃ t₃ : List ℤ} (r : ℕ) → DrewFrom (open-plan ∷ []) r h₂ v₂ t₂ h₃ v₃ t₃ → DrewFrom (drawing f) r h v t h₃ v₃ t₃
+        file-open z₂ r last base draft arrived confirmed edits z l =
+            let x = same-refusal z₁ (first-drew base draft arrived confirmed edits z l) in
+            let y = same-refusal z₂ (then-drew base draft arrived confirmed edits (x .sized) (x .long)) in
+            same-calls drawing-is (drew-then (chainCalls 1 f a) (chainCalls 2 f b ++ (open-plan ∷ [])) r _ _ _ x
+            (drew-then (chainCalls 2 f b) (open-plan ∷ []) r _ _ _ y (last base draft arrived confirmed edits (y .sized) (y .long))))
+
+-- ---- on a state
+
+pub drawn-on : (p : State) (h : Head) → h ≡ p .head → {cs : List Call} {k : ℕ} {h′ : Head} {values′ table′ : List ℤ} → DrewFrom cs k h (p .values) (p .table) h′ values′ table′ → Sized (spread p)
+    → length (p .table) ≡ 256 → Drew cs k p (stateOf h′ (p .base) (p .draft) values′ (p .arrived) (p .confirmed) table′ (p .edits))
+drawn-on p h e {cs} {k} {h′} {values′} {table′} d z l =
+    let here = subst (λ x. DrewFrom cs k x (p .values) (p .table) h′ values′ table′) e d in
+    here (p .base) (p .draft) (p .arrived) (p .confirmed) (p .edits) z l

@@ -1,3 +1,4 @@
 pub mod Walking
 pub mod Reading
 pub mod Drawing
+pub mod Loading

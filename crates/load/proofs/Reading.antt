@@ -107,9 +107,12 @@ module _ (f : List ℕ) (size : T (sized f)) (w : Slot) (w-is : w ≡ wordsIn f 
   tail-is = zero-14 (firstSlot f) (slot-whole f 0 some) parted ∙ ap (λ (x : Slot). isNone (x .fourth / 65_536)) (sym words-is)
 
   pub tail-set : (n : ℕ) → n ≡ w .fourth / 65_536 → n ≢ 0 → Found f false
-  tail-set n e h = (λ z. absurd (is-yes z), λ s.
-      let c = sound-walks f some s .clean in
-      absurd (subst T (tail-is ∙ ap isNone (sym e) ∙ ne-eqb n 0 h) c))
+  tail-set n e h = (
+    λ z. absurd (is-yes z),
+    λ s.
+        let c = sound-walks f some s .clean in
+        absurd (subst T (tail-is ∙ ap isNone (sym e) ∙ ne-eqb n 0 h) c),
+  )
 
   module _ (a : ℕ) (a-is : a ≡ w .first % 65_536) (n : ℕ) (seen : List Bool) (walked : Walking f measureKind a 0 (replicate 97 false) n seen) where
     at-measures : a ≡ twoAt (firstSlot f) 0
@@ -119,9 +122,12 @@ module _ (f : List ℕ) (size : T (sized f)) (w : Slot) (w-is : w ≡ wordsIn f 
     first-walk = subst (λ k. WalkedAs (walk f asMeasure (slots f) k []) n seen) at-measures (walked [] none-marked refl)
 
     pub no-measures : n ≡ 0 → Found f false
-    no-measures z = (λ y. absurd (is-yes y), λ s.
-        let e = walk-number _ n seen _ first-walk (sound-walks f some s .measures) in
-        absurd (let q = sym z ∙ e in omega (arith, q)))
+    no-measures z = (
+      λ y. absurd (is-yes y),
+      λ s.
+          let e = walk-number _ n seen _ first-walk (sound-walks f some s .measures) in
+          absurd (let q = sym z ∙ e in omega (arith, q)),
+    )
 
     module _ (h : n ≢ 0) (tail : w .fourth / 65_536 ≡ 0) (b : ℕ) (b-is : b ≡ w .first / 65_536) (r : ℕ) (seen′ : List Bool) (more : Walking f ruleKind b (n - 1) seen r seen′) where
       at-rules : b ≡ twoAt (firstSlot f) 2
@@ -140,21 +146,21 @@ module _ (f : List ℕ) (size : T (sized f)) (w : Slot) (w-is : w ≡ wordsIn f 
           let m = measures-met in
           let m-is = walk-ended f asMeasure (slots f) (twoAt (firstSlot f) 0) [] (m .0) (m .1) .1 in (
             λ t.
-            let q = eqb→eq r (slots f) (is-yes t) in
-            let u = walk-some _ r seen′ second-walk (λ z. absurd (let o = some in omega (arith, q, z, o))) in
-            let u-is = walk-ended f asRule (slots f) (twoAt (firstSlot f) 2) (m .0) (u .0) (u .1) .1 in
-            let onto-is : onto (ruleChain f) (m .0) ≡ onto (ruleChain f) (onto (measureChain f) []) = ap (onto (ruleChain f)) m-is in
-            walks-sound f (record {
-              measures = m .1 ∙ ap ended m-is;
-              rules = ap (walk f asRule (slots f) (twoAt (firstSlot f) 2)) (sym m-is) ∙ u .1 ∙ ap ended (u-is ∙ onto-is);
-              full = let l = ap length (u-is ∙ onto-is) in let k = u .2 in omega (arith, l, k, q);
-              clean = subst T (sym (tail-is ∙ eq-eqb (w .fourth / 65_536) 0 tail)) tt;
-            }),
+                let q = eqb→eq r (slots f) (is-yes t) in
+                let u = walk-some _ r seen′ second-walk (λ z. absurd (let o = some in omega (arith, q, z, o))) in
+                let u-is = walk-ended f asRule (slots f) (twoAt (firstSlot f) 2) (m .0) (u .0) (u .1) .1 in
+                let onto-is : onto (ruleChain f) (m .0) ≡ onto (ruleChain f) (onto (measureChain f) []) = ap (onto (ruleChain f)) m-is in
+                walks-sound f (record {
+                  measures = m .1 ∙ ap ended m-is;
+                  rules = ap (walk f asRule (slots f) (twoAt (firstSlot f) 2)) (sym m-is) ∙ u .1 ∙ ap ended (u-is ∙ onto-is);
+                  full = let l = ap length (u-is ∙ onto-is) in let k = u .2 in omega (arith, l, k, q);
+                  clean = subst T (sym (tail-is ∙ eq-eqb (w .fourth / 65_536) 0 tail)) tt;
+                }),
             λ s.
-            let k = sound-walks f some s in
-            let rules-is = ap (walk f asRule (slots f) (twoAt (firstSlot f) 2)) m-is ∙ k .rules in
-            let e = walk-number _ r seen′ _ second-walk rules-is in
-            eq-eqb r (slots f) (let l = k .full in let o = some in omega (arith, e, l, o)),
+                let k = sound-walks f some s in
+                let rules-is = ap (walk f asRule (slots f) (twoAt (firstSlot f) 2)) m-is ∙ k .rules in
+                let e = walk-number _ r seen′ _ second-walk rules-is in
+                eq-eqb r (slots f) (let l = k .full in let o = some in omega (arith, e, l, o)),
           )
 
 -- ---- the next number

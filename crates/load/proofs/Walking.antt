@@ -83,19 +83,22 @@ module _ (f : List ℕ) (kind start met : ℕ) where
 
       -- it goes on
       pub walks-on : fitsKind kind x ≡ true → (next : ℕ) → next ≡ x .first % 65_536 → Walks seen₀ (set seen k true) next (i + 1)
-      walks-on t next e = (omega arith, λ ks m c.
-          let s = w .1 ks m c in
-          let met-now = s .slots-met in
-          let marked = s .marks .marks k (omega arith) in
-          let step = one-more k i met-now ne h true (rw (lt-ltb k (slots f) o, sym marked ∙ fresh, tested ∙ t)) in
-          let to : next ≡ nextIn (slotIn f k) = e ∙ ap (λ (y : Slot). y .first % 65_536) words-is ∙ sym (next-part (slotIn f k) p) in
-          let n : slots f - (i + 1) ≡ slots f - suc i = omega arith in
-          record {
-            slots-met = k ∷ met-now;
-            marks = record { long = length-set seen k true ∙ s .marks .long; marks = λ j b. also j b met-now (s .marks .long) (s .marks .marks j b) };
-            many = let l = s .many in omega arith;
-            on = ap₂ (λ a b. walk f (asKind kind) a b (k ∷ met-now)) n to ∙ sym step ∙ s .on;
-          })
+      walks-on t next e = (
+        omega arith,
+        λ ks m c.
+            let s = w .1 ks m c in
+            let met-now = s .slots-met in
+            let marked = s .marks .marks k (omega arith) in
+            let step = one-more k i met-now ne h true (rw (lt-ltb k (slots f) o, sym marked ∙ fresh, tested ∙ t)) in
+            let to : next ≡ nextIn (slotIn f k) = e ∙ ap (λ (y : Slot). y .first % 65_536) words-is ∙ sym (next-part (slotIn f k) p) in
+            let n : slots f - (i + 1) ≡ slots f - suc i = omega arith in
+            record {
+              slots-met = k ∷ met-now;
+              marks = record { long = length-set seen k true ∙ s .marks .long; marks = λ j b. also j b met-now (s .marks .long) (s .marks .marks j b) };
+              many = let l = s .many in omega arith;
+              on = ap₂ (λ a b. walk f (asKind kind) a b (k ∷ met-now)) n to ∙ sym step ∙ s .on;
+            },
+      )
         where
           also : (j : ℕ) → j < 97 → (ks : List ℕ) → length seen ≡ 97 → getD seen j false ≡ elem j ks → getD (set seen k true) j false ≡ elem j (k ∷ ks)
           also j b ks l m = cases (eqb j k)

@@ -90,11 +90,23 @@ fn is_chained(f: &[u8]) -> bool
         return false;
     }
     let mut seen = [false; slots::LIMIT];
-    let n = walk(f, slots::MEASURE, slots::low(w.first) as usize, 0, &mut seen);
+    let n = walk(
+        f,
+        slots::MEASURE,
+        slots::low(w.first) as usize,
+        0,
+        &mut seen,
+    );
     if n == 0 {
         return false;
     }
-    let all = walk(f, slots::RULE, slots::high(w.first) as usize, n - 1, &mut seen);
+    let all = walk(
+        f,
+        slots::RULE,
+        slots::high(w.first) as usize,
+        n - 1,
+        &mut seen,
+    );
     all == f.len() / slots::SIZE
 }
 
@@ -158,7 +170,12 @@ fn flag(firm: bool) -> i32
 }
 
 // Draws the rule of a slot, and gives the refusal, or 0.
-fn draw_rule(w: Slot, head: &mut Numbers, values: &mut [i32; limit::VALUES], table: &mut Table) -> u32
+fn draw_rule(
+    w: Slot,
+    head: &mut Numbers,
+    values: &mut [i32; limit::VALUES],
+    table: &mut Table,
+) -> u32
     ensures { λ r. ⌜ ((s : List ℕ) → w ≡ wordsOf s → Parted s → DrewFrom (ruleIn s ∷ []) r (headFrom (now (head .entry))) (now (values .entry)) (now (table .entry))
         (headFrom (now (head .exit))) (now (values .exit)) (now (table .exit))) ⌝ }
 {
@@ -170,12 +187,27 @@ fn draw_rule(w: Slot, head: &mut Numbers, values: &mut [i32; limit::VALUES], tab
 }
 
 // Draws what a slot has, a measure or a rule.
-fn draw_slot(op: u32, w: Slot, head: &mut Numbers, values: &mut [i32; limit::VALUES], table: &mut Table) -> u32
+fn draw_slot(
+    op: u32,
+    w: Slot,
+    head: &mut Numbers,
+    values: &mut [i32; limit::VALUES],
+    table: &mut Table,
+) -> u32
     ensures { λ r. ⌜ ((s : List ℕ) → w ≡ wordsOf s → Parted s → DrewFrom (slotCall op s ∷ []) r (headFrom (now (head .entry))) (now (values .entry)) (now (table .entry))
         (headFrom (now (head .exit))) (now (values .exit)) (now (table .exit))) ⌝ }
 {
     if op == call::MEASURE {
-        return refused(draw::make(call::MEASURE, slots::value(w.second), 0, 0, 0, head, values, table));
+        return refused(draw::make(
+            call::MEASURE,
+            slots::value(w.second),
+            0,
+            0,
+            0,
+            head,
+            values,
+            table,
+        ));
     }
     draw_rule(w, head, values, table)
 }
@@ -220,17 +252,36 @@ fn draw_chain(
 }
 
 // Draws the measures, then the rules, then opens the plan, up to the first that is refused.
-fn draw_file(f: &[u8], head: &mut Numbers, values: &mut [i32; limit::VALUES], table: &mut Table) -> u32
+fn draw_file(
+    f: &[u8],
+    head: &mut Numbers,
+    values: &mut [i32; limit::VALUES],
+    table: &mut Table,
+) -> u32
     requires { ⌜ T (sized (now f)) ⌝ }
     ensures { λ r. ⌜ DrewFrom (drawing (now (f .entry))) r (headFrom (now (head .entry))) (now (values .entry)) (now (table .entry)) (headFrom (now (head .exit)))
         (now (values .exit)) (now (table .exit)) ⌝ }
 {
     let w = slots::read(f, 0);
-    let measures = draw_chain(f, call::MEASURE, slots::low(w.first) as usize, head, values, table);
+    let measures = draw_chain(
+        f,
+        call::MEASURE,
+        slots::low(w.first) as usize,
+        head,
+        values,
+        table,
+    );
     if measures != 0 {
         return measures;
     }
-    let rules = draw_chain(f, call::RULE, slots::high(w.first) as usize, head, values, table);
+    let rules = draw_chain(
+        f,
+        call::RULE,
+        slots::high(w.first) as usize,
+        head,
+        values,
+        table,
+    );
     if rules != 0 {
         return rules;
     }

@@ -57,9 +57,11 @@ returns-4 : tie.Need-returns-4 Inv-loop μ-loop
 returns-4 c =
     let a = (c .before .before .before .before .before .before .before .before .before .before .args) in
     let w = (c .before .before .before .before .before .before .before .before .loop .inv .0) in
-    let o = (c .before .before .before .before .before .if2 .left) in
-    (omega arith, stop-unfit (a .f .now) (a .kind) (a .start) (a .met) (a .seen .now) _ _ _ w (c .before .before .before .before .before .before .before .loop-test .taken) _ (omega (arith, (c .before .before .before .before .before .before .if1 .left))) (omega (arith, o)) ((c .before .before .before .before .before .before .before .before .before .before .pre .0)) (c .before .before .before .if3 .left) _
-    (c .before .before .read .ensures .0) ((c .before .before .read .ensures .1) (omega (arith, o))) (sym (c .before .fits2 .ensures) ∙ not-true _ (c .if4 .taken)))
+    let o = (c .before .before .before .before .before .if2 .left) in (
+      omega arith,
+      stop-unfit (a .f .now) (a .kind) (a .start) (a .met) (a .seen .now) _ _ _ w (c .before .before .before .before .before .before .before .loop-test .taken) _ (omega (arith, (c .before .before .before .before .before .before .if1 .left))) (omega (arith, o)) ((c .before .before .before .before .before .before .before .before .before .before .pre .0)) (c .before .before .before .if3 .left) _
+          (c .before .before .read .ensures .0) ((c .before .before .read .ensures .1) (omega (arith, o))) (sym (c .before .fits2 .ensures) ∙ not-true _ (c .if4 .taken)),
+    )
 
 element-write-seen : tie.Need-element-write-seen Inv-loop μ-loop
 element-write-seen c =
@@ -82,9 +84,11 @@ loop-again : tie.Need-loop-again Inv-loop μ-loop
 loop-again c =
     let a = (c .before .before .before .before .before .before .before .before .before .before .before .args) in
     let w = (c .before .before .before .before .before .before .before .before .before .loop .inv .0) in
-    let o = (c .before .before .before .before .before .before .if2 .left) in
-    (walks-on (a .f .now) (a .kind) (a .start) (a .met) (a .seen .now) _ _ _ w (c .before .before .before .before .before .before .before .before .loop-test .taken) [] (omega (arith, (c .before .before .before .before .before .before .before .if1 .left))) (omega (arith, o)) ((c .before .before .before .before .before .before .before .before .before .before .before .pre .0)) (c .before .before .before .before .if3 .left) _
-    (c .before .before .before .read .ensures .0) ((c .before .before .before .read .ensures .1) (omega (arith, o))) (sym (c .before .before .fits2 .ensures) ∙ not-false _ (c .before .if4 .left)) _ (c .low .ensures), refl)
+    let o = (c .before .before .before .before .before .before .if2 .left) in (
+      walks-on (a .f .now) (a .kind) (a .start) (a .met) (a .seen .now) _ _ _ w (c .before .before .before .before .before .before .before .before .loop-test .taken) [] (omega (arith, (c .before .before .before .before .before .before .before .if1 .left))) (omega (arith, o)) ((c .before .before .before .before .before .before .before .before .before .before .before .pre .0)) (c .before .before .before .before .if3 .left) _
+          (c .before .before .before .read .ensures .0) ((c .before .before .before .read .ensures .1) (omega (arith, o))) (sym (c .before .before .fits2 .ensures) ∙ not-false _ (c .before .if4 .left)) _ (c .low .ensures),
+      refl,
+    )
 
 add-result : tie.Need-add-result Inv-loop μ-loop
 add-result c =
