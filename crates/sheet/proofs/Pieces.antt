@@ -13,11 +13,11 @@ use lib.Seq.{take-append-seam, drop-drop}
 use lib.Signed.{mag}
 use Rattle.protocol.specs.Lists.{all}
 use Rattle.protocol.specs.Plan.{Plan, Kept}
-use Rattle.protocol.specs.Calls.{no, start}
+use Rattle.protocol.specs.Calls.{no}
 use Rattle.protocol.proofs.Laws.{cases, and-in}
 use Rattle.format.specs.Numbers.{digits}
 use Rattle.format.specs.Lines.{lineFeed, lines, grow}
-use Rattle.format.specs.Sheets.{text, lineStep, answerLines, tooLong, replies, fitted, inFront, screened}
+use Rattle.format.specs.Sheets.{text, lineStep, answerLines, leaves, tooLong, replies, fitted, inFront, screened}
 use Rattle.format.specs.Longest.{longestAnswer}
 use Rattle.format.proofs.Longest.{isShort, isRow, short, Narrow, narrow-line, longest}
 use Rattle.rows.specs.Rows.{span, row}
@@ -30,7 +30,6 @@ use Rattle.state.proofs.View.{sides-most}
 use Rattle.state.proofs.Owned.{Ranged}
 use Rattle.run.specs.Progress.{Ran, ran, Advanced}
 use Rattle.sheet.specs.Runs.{handedBack}
-use Rattle.sheet.specs.Door.{leaves}
 use Rattle.sheet.specs.declared.Piece.{Piece}
 use Rattle.sheet.specs.Pieces.{flat, due, Pieced, Pieces, over, piece}
 
@@ -49,7 +48,7 @@ row-narrow vs at n l h =
     and-in (leb (length (row vs at n)) 32) (all isShort (row vs at n)) (le→leb (length (row vs at n)) 32 (omega arith))
     (every isShort at n (λ i. getD vs i (pos 0)) (λ i. short (getD vs i (pos 0)) (let b = h i in omega arith)))
 
-narrow-view : (p : State) → Ranged p → Narrow (view p .content)
+pub narrow-view : (p : State) → Ranged p → Narrow (view p .content)
 narrow-view p g = record {
   rules = span-most 0 (min (p .head .rules) 64) 64 _ (omega arith);
   next = short (pos (p .head .next)) (omega (arith, g .next));
@@ -68,6 +67,7 @@ record Shared (room : ℕ) (p : Plan) (ls : List (List ℕ)) (r : Ran) : Type 0 
   told : List (List ℕ)
   parts : answerLines p ls ≡ told ++ answerLines (r .plan) (r .rest)
   plan : r .plan ≡ leaves p (take (length told) ls)
+  left : r .rest ≡ drop (length told) ls
   bytes : r .bytes ≡ flat told
   room-for : length (flat told) ≤ room
   fewer : length (r .rest) ≤ length ls
@@ -75,11 +75,11 @@ record Shared (room : ℕ) (p : Plan) (ls : List (List ℕ)) (r : Ran) : Type 0 
 
 -- it writes nothing where the reserve is not free
 unbegun : (room : ℕ) (p : Plan) (ls : List (List ℕ)) → room < longestAnswer → Shared room p ls (record { bytes = []; rest = ls; plan = p; ended = false })
-unbegun room p ls h = record { told = []; parts = refl; plan = refl; bytes = refl; room-for = omega arith; fewer = omega arith; further = λ a b. absurd (omega arith) }
+unbegun room p ls h = record { told = []; parts = refl; plan = refl; left = refl; bytes = refl; room-for = omega arith; fewer = omega arith; further = λ a b. absurd (omega arith) }
 
 shared : (room : ℕ) (p : Plan) (ls : List (List ℕ)) → Narrow (p .content) → Shared room p ls (ran longestAnswer room p ls)
 unfolding ran answerLines
-shared room p [] g = record { told = []; parts = refl; plan = refl; bytes = refl; room-for = omega arith; fewer = omega arith; further = λ a b. absurd (omega arith) }
+shared room p [] g = record { told = []; parts = refl; plan = refl; left = refl; bytes = refl; room-for = omega arith; fewer = omega arith; further = λ a b. absurd (omega arith) }
 shared room p (l ∷ ls) g =
     let t = text (lineStep l p .answer) in
     cases (ltb room longestAnswer)
@@ -93,6 +93,7 @@ shared room p (l ∷ ls) g =
       told = t ∷ r .told;
       parts = ap {B = List (List ℕ)} (λ ts. t ∷ ts) (r .parts);
       plan = r .plan;
+      left = r .left;
       bytes = ap (λ bs. t ++ bs) (r .bytes);
       room-for = omega (arith, r .room-for);
       fewer = omega (arith, r .fewer);
@@ -146,6 +147,7 @@ module _ (sheet : List ℕ) (from : ℕ) (p : State) (lent : List ℕ) where
         told = s .told;
         parts = here ∙ s .parts ∙ ap (λ ts. s .told ++ ts) (sym (there ∙ ap₂ answerLines (h .plan) (h .rest)));
         plan = λ e. h .plan ∙ s .plan;
+        rest = λ e. h .rest ∙ s .left;
         written = w;
         room = let m = s .room-for in omega (arith, w, m);
         buffer = h .buffer ∙ ap (λ bs. inFront bs lent) (s .bytes);
@@ -162,6 +164,7 @@ module _ (sheet : List ℕ) (from : ℕ) (p : State) (lent : List ℕ) where
     told = [];
     parts = refl;
     plan = λ e. absurd (subst T (sym (lt-ltb 65536 (length sheet) far) ∙ e) tt);
+    rest = λ e. absurd (subst T (sym (lt-ltb 65536 (length sheet) far) ∙ e) tt);
     written = refl;
     room = omega arith;
     buffer = refl;
@@ -189,6 +192,7 @@ module _ (sheet : List ℕ) (from : ℕ) (p : State) (lent : List ℕ) where
           told = text (no 52) ∷ [];
           parts = rw (lt-ltb 65536 (length sheet) far, lt-ltb from (length sheet) left, le-ltb (length sheet) (length sheet) (omega arith));
           plan = λ e. absurd (subst T (sym (lt-ltb 65536 (length sheet) far) ∙ e) tt);
+          rest = λ e. absurd (subst T (sym (lt-ltb 65536 (length sheet) far) ∙ e) tt);
           written = refl;
           room = t .1;
           buffer = t .2;
@@ -199,9 +203,9 @@ module _ (sheet : List ℕ) (from : ℕ) (p : State) (lent : List ℕ) where
 
 -- ---- all pieces
 
-pub due-whole : (sheet : List ℕ) → due sheet 0 start ≡ replies sheet
+pub due-whole : (sheet : List ℕ) (p : Plan) → due sheet 0 p ≡ replies p sheet
 unfolding replies
-due-whole sheet = cases (tooLong sheet)
+due-whole sheet p = cases (tooLong sheet)
     (λ e. rw (e, lt-ltb 0 (length sheet) (let l = ltb-true 65536 (length sheet) e in omega arith)))
     (λ e. rw e)
 
@@ -221,6 +225,6 @@ pieces-due sheet from p bs (piece lent r after h rest) =
     let front : take (r .written) after ≡ flat (h .told) = ap₂ take (h .written) (h .buffer) ∙ take-append-seam (flat (h .told)) _ in
     ap₂ (λ x y. x ++ y) front (pieces-due sheet (r .next) (r .state) _ rest) ∙ sym (ap flat (h .parts) ∙ flat-append (h .told) _)
 
--- The pieces of a run from the sheet's beginning with a blank plan, one behind the other, are the answers to the sheet.
-pub pieces-whole : (sheet : List ℕ) (p : State) (bs : List (List ℕ)) → view p ≡ start → Pieces sheet 0 p bs → flat bs ≡ flat (replies sheet)
-pieces-whole sheet p bs e h = pieces-due sheet 0 p bs h ∙ ap (λ q. flat (due sheet 0 q)) e ∙ ap flat (due-whole sheet)
+-- The pieces of a run from the sheet's beginning, one behind the other, are the answers to the sheet on the plan that it began on.
+pub pieces-whole : (sheet : List ℕ) (p : State) (bs : List (List ℕ)) → Pieces sheet 0 p bs → flat bs ≡ flat (replies (view p) sheet)
+pieces-whole sheet p bs h = pieces-due sheet 0 p bs h ∙ ap flat (due-whole sheet (view p))

@@ -1,4 +1,4 @@
--- A run from a blank plan, with nothing held in reserve, is the screen's. Assumes nothing.
+-- A run with nothing held in reserve is the screen's. Assumes nothing.
 use Prim.Native.Nat.{ℕ, _+_, _*_, _-_, _<_, _≤_}
 use native.Mathlib.Omega.{arith}
 use mathlib.Core.Path.{_≡_, refl, ap, ap₂, _∙_}
@@ -10,12 +10,11 @@ use lib.ListN.{length, take, drop, length-append}
 use lib.Seq.{sets, length-sets}
 use Rattle.protocol.specs.Lists.{bit}
 use Rattle.protocol.specs.Plan.{Plan}
-use Rattle.protocol.specs.Calls.{no, start}
+use Rattle.protocol.specs.Calls.{no}
 use Rattle.protocol.proofs.Laws.{cases}
 use Rattle.format.specs.Lines.{lines}
 use Rattle.format.specs.Numbers.{digits}
-use Rattle.format.specs.Sheets.{text, lineStep, answerLines, replies, Fitted, behind, fitted, inFront, screened, screen}
-use Rattle.state.specs.View.{view, blankState}
+use Rattle.format.specs.Sheets.{text, lineStep, answerLines, replies, Fitted, behind, fitted, inFront, Screened, screened, screen}
 use Rattle.run.specs.Progress.{Ran, ran, Advanced}
 use Rattle.writer.proofs.Writes.{sets-front}
 use Rattle.sheet.specs.Runs.{handedBack}
@@ -41,17 +40,20 @@ fitted-most room (t ∷ ts) =
     (λ e. rw e (let a = length-append t (fitted (room - length t) ts .bytes) in let h = leb-true (length t) room e in omega arith))
     (λ e. rw e (omega arith))
 
-module _ (sheet area after : List ℕ) (q : Plan) (next written : ℕ) (ended : Bool) (h : Advanced 0 sheet 0 (view blankState) area q next written ended after) where
+module _ (p : Plan) (sheet area after : List ℕ) (q : Plan) (next written : ℕ) (ended : Bool) (h : Advanced 0 sheet 0 p area q next written ended after) where
   abbrev whole : Fitted
-  whole = fitted (length area) (answerLines start (lines sheet))
+  whole = fitted (length area) (answerLines p (lines sheet))
 
-  ran-whole : wholeOf (ran 0 (length area) (view blankState) (lines (drop 0 sheet))) ≡ whole
-  ran-whole = ran-fitted (length area) start (lines sheet)
+  ran-whole : wholeOf (ran 0 (length area) p (lines (drop 0 sheet))) ≡ whole
+  ran-whole = ran-fitted (length area) p (lines sheet)
+
+  pub written-is : written ≡ length (whole .bytes)
+  written-is = h .put ∙ ap (λ f. length (f .bytes)) ran-whole
 
   pub written-most : written ≤ length area
-  written-most = let e : written ≡ length (whole .bytes) = h .put ∙ ap (λ f. length (f .bytes)) ran-whole in let m = fitted-most (length area) (answerLines start (lines sheet)) in omega (arith, e, m)
+  written-most = let e : written ≡ length (whole .bytes) = h .put ∙ ap (λ f. length (f .bytes)) ran-whole in let m = fitted-most (length area) (answerLines p (lines sheet)) in omega (arith, e, m)
 
-  pub screened-is : (n : ℕ) → n ≡ 2 * written + bit ended → ltb 65536 (length sheet) ≡ false → handedBack n after ≡ screen sheet area
+  pub screened-is : (n : ℕ) → n ≡ 2 * written + bit ended → ltb 65536 (length sheet) ≡ false → handedBack n after ≡ screen p sheet area
   unfolding screen replies
   screened-is n e f =
       let w = h .put ∙ ap (λ x. length (x .bytes)) ran-whole in
@@ -81,3 +83,9 @@ module _ (area : List ℕ) (m : ℕ) where
   pub alone-fit : 6 ≤ length area → m ≡ 2 * 6 + bit false → handedBack m (sets area 0 alone) ≡ screened (fitted (length area) (text (no 52) ∷ [])) area
   unfolding fitted
   alone-fit h e = rw (alone-text, le-leb 6 (length area) h) (ap₂ handedBack e (sets-front area alone h))
+
+  pub alone-small : (after : List ℕ) → handedBack m after ≡ screened (fitted (length area) (text (no 52) ∷ [])) area → m < 4294967296
+  unfolding fitted
+  alone-small after h = cases (leb 6 (length area))
+      (λ e. let k = ap (λ (s : Screened). s .number) (rw (alone-text, e) at h) in omega (arith, k))
+      (λ e. let k = ap (λ (s : Screened). s .number) (rw (alone-text, e) at h) in omega (arith, k))

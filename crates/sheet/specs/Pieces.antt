@@ -32,6 +32,8 @@ pub record Pieced (sheet : List ℕ) (from : ℕ) (p : State) (lent : List ℕ) 
   pub parts : due sheet from (view p) ≡ told ++ due sheet (r .next) (view (r .state))
   -- the plan is the one that as many lines leave
   pub plan : tooLong sheet ≡ false → view (r .state) ≡ leaves (view p) (take (length told) (lines (drop from sheet)))
+  -- and the others are left
+  pub rest : tooLong sheet ≡ false → lines (drop (r .next) sheet) ≡ drop (length told) (lines (drop from sheet))
   -- they stand in front of the buffer, and the rest of it is as it was
   pub written : r .written ≡ length (flat told)
   pub room : r .written ≤ length lent
