@@ -308,8 +308,8 @@ fn move_in(
     plain_effect(answer)
 }
 
-// Indexes the rules, if the plan was opened: until then no call asks the index, and from then on the rules stay.
-fn note_index(index: &mut Index, table: &Table, k: u32, opened: bool)
+// Indexes the rules, if the plan was opened: until then no call asks the index, and from then on the rules stay. An owner that is handed an open plan does so too.
+pub fn note_index(index: &mut Index, table: &Table, k: u32, opened: bool)
     ensures { λ r. ⌜ (opened ≡ true → Indexed (now (index .exit)) (lowers (now (table .entry))) (gaps (now (table .entry))) (uppers (now (table .entry)))
         (firms (now (table .entry))) (min k 64)) × (opened ≡ false → now (index .exit) ≡ now (index .entry)) ⌝ }
 {

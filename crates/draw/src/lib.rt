@@ -6,7 +6,10 @@ ghost use mathlib.Core.Path.{_≡_};
 ghost use Rattle.draw.specs.Draw.{measureChecks, ruleChecks, openChecks, measured, ruled, opened, refusedDrawing, measureDecision, ruleDecision, openDecision, drawDecision, Drawn};
 ghost use Rattle.protocol.specs.Calls.{first, no15};
 ghost use Rattle.protocol.specs.Lists.{oneTo};
+ghost use Rattle.rows.specs.Rows.{row};
+ghost use Rattle.rules.specs.Rules.{holdsIn};
 ghost use Rattle.rules.specs.Table.{lowers, gaps, uppers, withRule};
+ghost use Rattle.heads.specs.Heads.{measuresIn};
 ghost use Rattle.heads.specs.Numbers.{headFrom};
 ghost use Rattle.state.specs.Meets.{refusalOf};
 ghost use Rattle.state.specs.Spread.{isAccepted};
@@ -158,6 +161,14 @@ fn decide_rule(h: Head, a: i32, c: i32, b: i32, f: i32, old: i32) -> Drawing
 
 // ---- open
 
+// Every rule holds of the values drawn, or of a whole plan's.
+pub fn rules_hold<'a>(h: Head, table: &'a Table, values: &'a [i32]) -> bool
+    ensures { λ t. ⌜ t ≡ holdsIn (lowers (now (table .entry))) (gaps (now (table .entry))) (uppers (now (table .entry))) (min (h .rules) 64)
+        (row (now (values .entry)) 0 (measuresIn h)) ⌝ }
+{
+    rules::all_hold(table, h.rules, values, 0, h.measures, 0, 0)
+}
+
 fn open_refusal<'a>(h: Head, table: &'a Table, values: &'a [i32]) -> u32
     ensures { λ r. ⌜ r ≡ refusalOf (first (openChecks h (lowers (now (table .entry))) (gaps (now (table .entry))) (uppers (now (table .entry))) (now (values .entry)))) ⌝ }
 {
@@ -168,7 +179,7 @@ fn open_refusal<'a>(h: Head, table: &'a Table, values: &'a [i32]) -> u32
     if h.measures == 0 {
         return 16;
     }
-    if rules::all_hold(table, h.rules, values, 0, h.measures, 0, 0) {
+    if rules_hold(h, table, values) {
         return 0;
     }
     17

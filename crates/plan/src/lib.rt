@@ -1,7 +1,8 @@
-// The plan as others use it: a blank plan and the fourteen calls of document 01, by value, with no precondition. Each promises `Meets call p r`
-// (state/specs/Meets): its answer and the plan after it are those of the protocol's `step`, and a refusal hands the state back as it was. show_in
-// promises `shown` of the whole buffer that it is lent, refused too; show is show_in with the filled part handed back. What every list of them
-// guarantees is proofs/Promise.
+// The plan as others use it: a blank plan, the fourteen calls of document 01, and loading and saving (02, S-1), by value, with no precondition.
+// Each call promises `Meets call p r` (state/specs/Meets): its answer and the plan after it are those of the protocol's `step`, and a refusal
+// hands the state back as it was. show_in promises `shown` of the whole buffer that it is lent, refused too; show is show_in with the filled part
+// handed back. load promises `MeetsLoad file p r` (load/specs/Loading), as the calls do; save promises its answer and `saveInto` of the whole
+// buffer that it is lent, refused too. What every list of them guarantees is proofs/Promise.
 ghost use mathlib.Core.Path.{_≡_};
 ghost use Rattle.protocol.specs.Calls.{measure, rule, open-plan, split-side, edit, join, send, replay, stop, confirm, install, fate-of, left};
 ghost use Rattle.protocol.specs.Numbering.{showOp};
@@ -9,11 +10,13 @@ ghost use mathlib.Core.Bool.{false};
 ghost use lib.Dec.{eqb};
 ghost use Rattle.state.specs.Meets.{Meets};
 ghost use Rattle.plan.specs.Turns.{Turns};
+pub use load::load;
 use protocol::call;
 pub use query::show;
 pub use query::show_in;
 use reader::Line;
 use records::Test;
+pub use save::save;
 pub use state::Answer;
 pub use state::Answered;
 pub use state::State;

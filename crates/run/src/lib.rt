@@ -1,13 +1,19 @@
 // The run over a sheet (01, "The sheet program"): each line is read, made on the plan and answered. The loop owns the plan: it lends its numbers to the call, and keeps its edits.
 ghost use mathlib.Core.Path.{_≡_};
-ghost use mathlib.Core.Bool.{true};
+ghost use mathlib.Core.Bool.{true, false};
 ghost use Rattle.protocol.specs.Plan.{is, blank};
 ghost use Rattle.heads.specs.Heads.{modeOf};
 ghost use Rattle.counts.specs.Tallies.{Tallied};
+ghost use Rattle.rules.specs.Table.{lowers, gaps, uppers};
+ghost use Rattle.state.specs.Spread.{spread};
 ghost use Rattle.state.specs.View.{view};
+ghost use Rattle.calls.specs.Makes.{SoundIn};
+ghost use Rattle.run.specs.Sound.{soundIn};
 ghost use Rattle.run.specs.Progress.{lastOf, Advanced};
 use counts::Tallies;
+use heads::Head;
 use records::Test;
+use rules::Table;
 use state::State;
 
 // Where a run stands: the plan, the place of the line that comes next, how many bytes were written, and whether an answer did not fit.
@@ -42,20 +48,37 @@ fn reached(state: State, next: usize, written: usize, ended: bool) -> Progress
     }
 }
 
-// The loop. In a plan that was handed in blank (`sound`) every rule holds once it is open, and every call keeps it so; its rules are indexed then.
+// The rules of a plan hold once it is open, and every call keeps it so (`sound`): of a blank one this is known, and a whole one is tested.
+fn is_sound<'a>(h: Head, table: &'a Table, values: &'a [i32]) -> bool
+    ensures { λ t. ⌜ t ≡ soundIn h (lowers (now (table .entry))) (gaps (now (table .entry))) (uppers (now (table .entry))) (now (values .entry)) ⌝ }
+{
+    let mode = h.mode;
+    let n = heads::mode_number(mode);
+    if n == 0 {
+        return true;
+    }
+    if n == 1 {
+        return draw::rules_hold(h, table, values);
+    }
+    false
+}
+
+// The loop. Where every rule holds (`sound`), the rules are indexed: at the start, if the plan is open, or when it is opened.
 fn go(
     p: State,
     t: Tallies,
     sound: bool,
+    opened: bool,
     reserve: usize,
     sheet: &[u8],
     from: usize,
     area: &mut [u8],
 ) -> Progress
-    requires { ⌜ Tallied t (view p) × (sound ≡ true → is blank (modeOf (p .head .mode)) ≡ true) ⌝ }
+    requires { ⌜ Tallied t (view p) × SoundIn sound (spread p) × (sound ≡ true → opened ≡ false → is blank (modeOf (p .head .mode)) ≡ true) ⌝ }
     ensures { λ r. ⌜ Advanced reserve (now (sheet .entry)) from (view p) (now (area .entry)) (view (r .state)) (r .next) (r .written) (r .ended) (now (area .exit)) ⌝ }
 {
-    let mut head = heads::numbers(p.head);
+    let h = p.head;
+    let mut head = heads::numbers(h);
     let mut base = p.base;
     let mut draft = p.draft;
     let mut values = p.values;
@@ -65,6 +88,7 @@ fn go(
     let mut edits = p.edits;
     let mut counts = t;
     let mut index = [0i32; 512];
+    calls::note_index(&mut index, &table, h.rules, opened);
     let mut at: usize = 0;
     let mut i = from;
     let mut ended = false;
@@ -125,14 +149,15 @@ fn go(
 }
 
 // Goes on from a line of the sheet, as long as `reserve` bytes of the area are free and each answer fits. The rules of a plan that is handed in
-// blank are tested when it is opened; of another nothing is known.
+// blank are tested when it is opened, those of a whole one at once; of another nothing is known.
 pub fn advance(p: State, reserve: usize, sheet: &[u8], from: usize, area: &mut [u8]) -> Progress
     ensures { λ r. ⌜ Advanced reserve (now (sheet .entry)) from (view p) (now (area .entry)) (view (r .state)) (r .next) (r .written) (r .ended) (now (area .exit)) ⌝ }
 {
     let h = p.head;
     let mode = h.mode;
-    let sound = heads::mode_number(mode) == 0;
+    let opened = heads::mode_number(mode) == 1;
+    let sound = is_sound(h, &p.table, &p.values);
     let edits = p.edits;
     let counts = query::tallies(edits, h, &p.arrived, &p.confirmed);
-    go(p, counts, sound, reserve, sheet, from, area)
+    go(p, counts, sound, opened, reserve, sheet, from, area)
 }

@@ -1,37 +1,25 @@
-use Rattle.rules.specs.Table.{lowers, gaps, uppers, firms}
 use Prim.Native.Nat.{min}
 use mathlib.Core.Bool.{true, false}
 use mathlib.Core.Path.{_≡_, sym, ap, _∙_}
 use borrow.Author.Tests.{eq-eqb, ne-eqb}
 use lib.Dec.{eqb}
-use lib.IntN.{pos}
 use Rattle.protocol.specs.Lists.{isNone}
 use Rattle.protocol.specs.Plan.{blank, is}
-use Rattle.rows.specs.Rows.{row}
-use Rattle.rules.specs.Rules.{holdsIn, testedIn}
 use Rattle.heads.specs.Heads.{modeOf, measuresIn}
-use Rattle.draw.proofs.Drawings.{some-left, no-value}
+use Rattle.draw.proofs.Drawings.{some-left}
 use borrow.Author.Needs.{needs}
 use Rattle.draw.proofs.open_refusal.Statement.{statement}
 use Rattle.draw.proofs.open_refusal.Tie as tie
 use Rattle.draw.proofs.open_refusal.Reads as reads
 use Rattle.draw.proofs.open_refusal.Lts as lts
 use Rattle.heads.proofs.mode_number.Reads as mode-number-reads
-use Rattle.rules.proofs.all_hold.Reads as all-hold-reads
+use Rattle.draw.proofs.rules_hold.Reads as rules-hold-reads
 
 mode-fine : (c : tie.Else1) → is blank (modeOf (c .before .before .args .h .mode)) ≡ true
 mode-fine c = sym (ap (λ n. eqb n 0) (c .before .mode-number .ensures)) ∙ eq-eqb _ 0 (c .if1 .left)
 
 drawn : (c : tie.Else2) → isNone (measuresIn (c .before .before .before .before .args .h)) ≡ false
 drawn c = some-left (c .before .before .before .before .args .h .measures) (c .if2 .left)
-
--- the test found what the rules are on the row as it stands
-rules-fine : (c : tie.After-all-hold) → let a = c .before .before .before .before .before .args in
-    c .all-hold .result ≡ holdsIn (lowers (a .table .now)) (gaps (a .table .now)) (uppers (a .table .now)) (min (a .h .rules) 64) (row (a .values .now) 0 (measuresIn (a .h)))
-unfolding testedIn holdsIn
-rules-fine c =
-    let a = c .before .before .before .before .before .args in
-    c .all-hold .ensures ∙ ap (holdsIn (lowers (a .table .now)) (gaps (a .table .now)) (uppers (a .table .now)) (min (a .h .rules) 64)) (no-value (pos 0) (row (a .values .now) 0 (measuresIn (a .h))))
 
 mode-number-requires : tie.Need-mode-number-requires
 mode-number-requires c κs = search needs
@@ -42,18 +30,18 @@ returns c = rw (← ((c .before .mode-number .ensures)), ne-eqb _ 0 (c .if1 .tak
 returns-2 : tie.Need-returns-2
 returns-2 c = rw (mode-fine (c .before .before), ap (λ n. isNone (min n 32)) (c .if2 .taken))
 
-all-hold-requires : tie.Need-all-hold-requires
-all-hold-requires c κs = search needs
+rules-hold-requires : tie.Need-rules-hold-requires
+rules-hold-requires c κs = search needs
 
 returns-3 : tie.Need-returns-3
 returns-3 c =
-    rw (mode-fine (c .before .before .before .before), drawn (c .before .before), sym (rules-fine (c .before)) ∙ (c .if3 .taken))
+    rw (mode-fine (c .before .before .before .before), drawn (c .before .before), sym (c .before .rules-hold .ensures) ∙ (c .if3 .taken))
 
 returns-4 : tie.Need-returns-4
 returns-4 c =
-    rw (mode-fine (c .before .before .before .before), drawn (c .before .before), sym (rules-fine (c .before)) ∙ (c .if3 .left))
+    rw (mode-fine (c .before .before .before .before), drawn (c .before .before), sym (c .before .rules-hold .ensures) ∙ (c .if3 .left))
 
 pub open-refusal-spec : {M : Type 1} → statement M
 open-refusal-spec =
     tie.close
-    (tie.spec mode-number-requires returns returns-2 all-hold-requires returns-3 returns-4)
+    (tie.spec mode-number-requires returns returns-2 rules-hold-requires returns-3 returns-4)

@@ -42,8 +42,9 @@ use Rattle.state.specs.declared.State.{State}
 use Rattle.state.specs.Spread.{spread}
 use Rattle.state.specs.View.{view, stateOf}
 use Rattle.state.proofs.Owned.{owned-spread, owned-table}
-use Rattle.calls.specs.Makes.{askedAt, SoundIn, Makes, noted}
-use Rattle.calls.proofs.Turning.{sound-made, blank-holds}
+use Rattle.calls.specs.Makes.{askedAt, SoundIn, IndexedIn, Makes, noted}
+use Rattle.calls.proofs.Turning.{sound-made}
+use Rattle.calls.proofs.note_index.Reads as note-index-reads
 use Rattle.calls.proofs.Makes.{first-looked, second-looked, noted-length}
 use Rattle.run.specs.Progress.{lastOf, Advanced}
 use Rattle.run.proofs.Running.{Going, Course, inside, finished, unfit, next-line, begins, lent-rest, put-back}
@@ -64,20 +65,20 @@ use Rattle.moves.proofs.sent_record.Reads as sent-record-reads
 use Rattle.writer.proofs.put.Reads as put-reads
 
 abbrev Inv-loop2 : tie.InvT-loop2
-Inv-loop2 sound reserve sheet from area head base draft values arrived confirmed table edits₀ counts index at i ended stop line named first next second e side marked j₀ edits j =
+Inv-loop2 sound opened reserve sheet from area head base draft values arrived confirmed table edits₀ counts index at i ended stop line named first next second e side marked j₀ edits j =
     (Marked side edits₀ edits j) × (j ≤ marked) × (marked ≤ 256)
 
 abbrev μ-loop2 : tie.MeasureT-loop2
-μ-loop2 sound reserve sheet from area head base draft values arrived confirmed table edits₀ counts index at i ended stop line named first next second e side marked j₀ edits j = marked - j
+μ-loop2 sound opened reserve sheet from area head base draft values arrived confirmed table edits₀ counts index at i ended stop line named first next second e side marked j₀ edits j = marked - j
 
 abbrev Inv-loop : tie.InvT-loop
-Inv-loop sound reserve sheet from area₀ head₀ base₀ draft₀ values₀ arrived₀ confirmed₀ table₀ edits₀ counts₀ index₀ at₀ i₀ ended₀ stop₀ area head base draft values arrived confirmed table edits
+Inv-loop sound opened reserve sheet from area₀ head₀ base₀ draft₀ values₀ arrived₀ confirmed₀ table₀ edits₀ counts₀ index₀ at₀ i₀ ended₀ stop₀ area head base draft values arrived confirmed table edits
     counts index at i ended stop =
     Course sound reserve sheet from area₀ (view (stateOf (headFrom head₀) base₀ draft₀ values₀ arrived₀ confirmed₀ table₀ edits₀)) area
     (stateOf (headFrom head) base draft values arrived confirmed table edits) counts index at i ended stop
 
 abbrev μ-loop : tie.MeasureT-loop
-μ-loop sound reserve sheet from area₀ head₀ base₀ draft₀ values₀ arrived₀ confirmed₀ table₀ edits₀ counts₀ index₀ at₀ i₀ ended₀ stop₀ area head base draft values arrived confirmed table edits counts
+μ-loop sound opened reserve sheet from area₀ head₀ base₀ draft₀ values₀ arrived₀ confirmed₀ table₀ edits₀ counts₀ index₀ at₀ i₀ ended₀ stop₀ area head base draft values arrived confirmed table edits counts
     index at i ended stop = length sheet - i
 
 -- ---- the places of the code, as tools/named writes them
@@ -86,22 +87,22 @@ abbrev Start-from-After-shared-slice-known : tie.After-shared-slice-known Inv-lo
 Start-from-After-shared-slice-known c = c .before
 
 abbrev After-slice-known-from-After-numbers : tie.After-numbers Inv-loop2 μ-loop2 Inv-loop μ-loop → tie.After-slice-known Inv-loop2 μ-loop2 Inv-loop μ-loop
-After-slice-known-from-After-numbers c = c .before
+After-slice-known-from-After-numbers c = c .before .before
 
 abbrev Start-from-After-numbers : tie.After-numbers Inv-loop2 μ-loop2 Inv-loop μ-loop → tie.Start Inv-loop2 μ-loop2 Inv-loop μ-loop
-Start-from-After-numbers c = c .before .before .before
+Start-from-After-numbers c = c .before .before .before .before
 
 abbrev After-numbers-from-After-last : tie.After-last Inv-loop2 μ-loop2 Inv-loop μ-loop → tie.After-numbers Inv-loop2 μ-loop2 Inv-loop μ-loop
-After-numbers-from-After-last c = c .before .before .before .before .before .before .before .before
+After-numbers-from-After-last c = c .before .before .before .before .before .before .before .before .before .before .before
 
 abbrev Start-from-After-last : tie.After-last Inv-loop2 μ-loop2 Inv-loop μ-loop → tie.Start Inv-loop2 μ-loop2 Inv-loop μ-loop
-Start-from-After-last c = c .before .before .before .before .before .before .before .before .before .before .before
+Start-from-After-last c = c .before .before .before .before .before .before .before .before .before .before .before .before .before .before .before
 
 abbrev After-numbers-from-In-loop : tie.In-loop Inv-loop2 μ-loop2 Inv-loop μ-loop → tie.After-numbers Inv-loop2 μ-loop2 Inv-loop μ-loop
-After-numbers-from-In-loop c = c .before .before .before .before .before .before .before .before .before .before
+After-numbers-from-In-loop c = c .before .before .before .before .before .before .before .before .before .before .before .before .before
 
 abbrev Start-from-In-loop : tie.In-loop Inv-loop2 μ-loop2 Inv-loop μ-loop → tie.Start Inv-loop2 μ-loop2 Inv-loop μ-loop
-Start-from-In-loop c = c .before .before .before .before .before .before .before .before .before .before .before .before .before
+Start-from-In-loop c = c .before .before .before .before .before .before .before .before .before .before .before .before .before .before .before .before .before
 
 abbrev In-loop-from-After-read-line : tie.After-read-line Inv-loop2 μ-loop2 Inv-loop μ-loop → tie.In-loop Inv-loop2 μ-loop2 Inv-loop μ-loop
 In-loop-from-After-read-line c = c .before .before
@@ -110,10 +111,10 @@ abbrev At-loop-from-After-read-line : tie.After-read-line Inv-loop2 μ-loop2 Inv
 At-loop-from-After-read-line c = c .before .before .before
 
 abbrev After-numbers-from-After-read-line : tie.After-read-line Inv-loop2 μ-loop2 Inv-loop μ-loop → tie.After-numbers Inv-loop2 μ-loop2 Inv-loop μ-loop
-After-numbers-from-After-read-line c = c .before .before .before .before .before .before .before .before .before .before .before .before
+After-numbers-from-After-read-line c = c .before .before .before .before .before .before .before .before .before .before .before .before .before .before .before
 
 abbrev After-shared-slice-known-from-After-read-line : tie.After-read-line Inv-loop2 μ-loop2 Inv-loop μ-loop → tie.After-shared-slice-known Inv-loop2 μ-loop2 Inv-loop μ-loop
-After-shared-slice-known-from-After-read-line c = c .before .before .before .before .before .before .before .before .before .before .before .before .before .before
+After-shared-slice-known-from-After-read-line c = c .before .before .before .before .before .before .before .before .before .before .before .before .before .before .before .before .before .before
 
 abbrev After-loop-from-After-reached : tie.After-reached Inv-loop2 μ-loop2 Inv-loop μ-loop → tie.After-loop Inv-loop2 μ-loop2 Inv-loop μ-loop
 After-loop-from-After-reached c = c .before .before .before .before
@@ -122,10 +123,10 @@ abbrev At-loop-from-After-reached : tie.After-reached Inv-loop2 μ-loop2 Inv-loo
 At-loop-from-After-reached c = c .before .before .before .before .before
 
 abbrev After-numbers-from-After-reached : tie.After-reached Inv-loop2 μ-loop2 Inv-loop μ-loop → tie.After-numbers Inv-loop2 μ-loop2 Inv-loop μ-loop
-After-numbers-from-After-reached c = c .before .before .before .before .before .before .before .before .before .before .before .before .before .before
+After-numbers-from-After-reached c = c .before .before .before .before .before .before .before .before .before .before .before .before .before .before .before .before .before
 
 abbrev After-numbers-from-After-from-numbers : tie.After-from-numbers Inv-loop2 μ-loop2 Inv-loop μ-loop → tie.After-numbers Inv-loop2 μ-loop2 Inv-loop μ-loop
-After-numbers-from-After-from-numbers c = c .before .before .before .before .before .before .before .before .before .before .before .before .before .before
+After-numbers-from-After-from-numbers c = c .before .before .before .before .before .before .before .before .before .before .before .before .before .before .before .before .before
 
 abbrev After-read-line-from-After-first-look : tie.After-first-look Inv-loop2 μ-loop2 Inv-loop μ-loop → tie.After-read-line Inv-loop2 μ-loop2 Inv-loop μ-loop
 After-read-line-from-After-first-look c = c .before .before .before
@@ -184,11 +185,11 @@ In-loop-from-After-draft2 c = c .before .before .before .before .before .before 
 abbrev After-read-line-from-After-arrived2 : tie.After-arrived2 Inv-loop2 μ-loop2 Inv-loop μ-loop → tie.After-read-line Inv-loop2 μ-loop2 Inv-loop μ-loop
 After-read-line-from-After-arrived2 c = c .before .before .before .before .before .before .before .before .before .before .before .before .before .before
 
-abbrev After-from-numbers-from-After-table2 : tie.After-table2 Inv-loop2 μ-loop2 Inv-loop μ-loop → tie.After-from-numbers Inv-loop2 μ-loop2 Inv-loop μ-loop
-After-from-numbers-from-After-table2 c = c .before .before .before .before .before .before .before .before .before .before .before .before .before .before
+abbrev After-from-numbers-from-After-table3 : tie.After-table3 Inv-loop2 μ-loop2 Inv-loop μ-loop → tie.After-from-numbers Inv-loop2 μ-loop2 Inv-loop μ-loop
+After-from-numbers-from-After-table3 c = c .before .before .before .before .before .before .before .before .before .before .before .before .before .before
 
-abbrev After-first-look-from-After-index : tie.After-index Inv-loop2 μ-loop2 Inv-loop μ-loop → tie.After-first-look Inv-loop2 μ-loop2 Inv-loop μ-loop
-After-first-look-from-After-index c = c .before .before .before .before .before .before .before .before .before .before .before .before .before .before
+abbrev After-first-look-from-After-index2 : tie.After-index2 Inv-loop2 μ-loop2 Inv-loop μ-loop → tie.After-first-look Inv-loop2 μ-loop2 Inv-loop μ-loop
+After-first-look-from-After-index2 c = c .before .before .before .before .before .before .before .before .before .before .before .before .before .before
 
 abbrev After-slot-from-After-counts : tie.After-counts Inv-loop2 μ-loop2 Inv-loop μ-loop → tie.After-slot Inv-loop2 μ-loop2 Inv-loop μ-loop
 After-slot-from-After-counts c = c .before .before .before .before .before .before .before .before .before .before .before .before .before .before
@@ -247,14 +248,14 @@ After-make-from-After-put c = c .before .before .before .before .before .before 
 abbrev After-arrived2-from-After-put : tie.After-put Inv-loop2 μ-loop2 Inv-loop μ-loop → tie.After-arrived2 Inv-loop2 μ-loop2 Inv-loop μ-loop
 After-arrived2-from-After-put c = c .before .before .before .before .before .before .before .before .before .before .before .before .before .before
 
-abbrev After-table2-from-After-slice-known2 : tie.After-slice-known2 Inv-loop2 μ-loop2 Inv-loop μ-loop → tie.After-table2 Inv-loop2 μ-loop2 Inv-loop μ-loop
-After-table2-from-After-slice-known2 c = c .before .before .before .before .before .before .before .before .before .before .before .before .before .before
+abbrev After-table3-from-After-slice-known2 : tie.After-slice-known2 Inv-loop2 μ-loop2 Inv-loop μ-loop → tie.After-table3 Inv-loop2 μ-loop2 Inv-loop μ-loop
+After-table3-from-After-slice-known2 c = c .before .before .before .before .before .before .before .before .before .before .before .before .before .before
 
 abbrev After-put-from-After-struct-known : tie.After-struct-known Inv-loop2 μ-loop2 Inv-loop μ-loop → tie.After-put Inv-loop2 μ-loop2 Inv-loop μ-loop
 After-put-from-After-struct-known c = c .before .before .before
 
-abbrev After-index-from-After-struct-known : tie.After-struct-known Inv-loop2 μ-loop2 Inv-loop μ-loop → tie.After-index Inv-loop2 μ-loop2 Inv-loop μ-loop
-After-index-from-After-struct-known c = c .before .before .before .before .before .before .before .before .before .before .before .before .before .before
+abbrev After-index2-from-After-struct-known : tie.After-struct-known Inv-loop2 μ-loop2 Inv-loop μ-loop → tie.After-index2 Inv-loop2 μ-loop2 Inv-loop μ-loop
+After-index2-from-After-struct-known c = c .before .before .before .before .before .before .before .before .before .before .before .before .before .before
 
 abbrev After-put-from-After-last2 : tie.After-last2 Inv-loop2 μ-loop2 Inv-loop μ-loop → tie.After-put Inv-loop2 μ-loop2 Inv-loop μ-loop
 After-put-from-After-last2 c = c .before .before .before .before
@@ -289,11 +290,11 @@ After-numbers-from-After-arrived2 c = After-numbers-from-After-read-line (After-
 abbrev Start-from-After-arrived2 : tie.After-arrived2 Inv-loop2 μ-loop2 Inv-loop μ-loop → tie.Start Inv-loop2 μ-loop2 Inv-loop μ-loop
 Start-from-After-arrived2 c = Start-from-After-read-line (After-read-line-from-After-arrived2 c)
 
-abbrev After-slice-known-from-After-table2 : tie.After-table2 Inv-loop2 μ-loop2 Inv-loop μ-loop → tie.After-slice-known Inv-loop2 μ-loop2 Inv-loop μ-loop
-After-slice-known-from-After-table2 c = After-slice-known-from-After-from-numbers (After-from-numbers-from-After-table2 c)
+abbrev After-slice-known-from-After-table3 : tie.After-table3 Inv-loop2 μ-loop2 Inv-loop μ-loop → tie.After-slice-known Inv-loop2 μ-loop2 Inv-loop μ-loop
+After-slice-known-from-After-table3 c = After-slice-known-from-After-from-numbers (After-from-numbers-from-After-table3 c)
 
-abbrev After-read-line-from-After-index : tie.After-index Inv-loop2 μ-loop2 Inv-loop μ-loop → tie.After-read-line Inv-loop2 μ-loop2 Inv-loop μ-loop
-After-read-line-from-After-index c = After-read-line-from-After-first-look (After-first-look-from-After-index c)
+abbrev After-read-line-from-After-index2 : tie.After-index2 Inv-loop2 μ-loop2 Inv-loop μ-loop → tie.After-read-line Inv-loop2 μ-loop2 Inv-loop μ-loop
+After-read-line-from-After-index2 c = After-read-line-from-After-first-look (After-first-look-from-After-index2 c)
 
 abbrev After-read-line-from-After-counts : tie.After-counts Inv-loop2 μ-loop2 Inv-loop μ-loop → tie.After-read-line Inv-loop2 μ-loop2 Inv-loop μ-loop
 After-read-line-from-After-counts c = After-read-line-from-After-slot (After-slot-from-After-counts c)
@@ -362,10 +363,10 @@ abbrev Start-from-After-put : tie.After-put Inv-loop2 μ-loop2 Inv-loop μ-loop 
 Start-from-After-put c = Start-from-After-arrived2 (After-arrived2-from-After-put c)
 
 abbrev After-slice-known-from-After-slice-known2 : tie.After-slice-known2 Inv-loop2 μ-loop2 Inv-loop μ-loop → tie.After-slice-known Inv-loop2 μ-loop2 Inv-loop μ-loop
-After-slice-known-from-After-slice-known2 c = After-slice-known-from-After-table2 (After-table2-from-After-slice-known2 c)
+After-slice-known-from-After-slice-known2 c = After-slice-known-from-After-table3 (After-table3-from-After-slice-known2 c)
 
 abbrev After-read-line-from-After-struct-known : tie.After-struct-known Inv-loop2 μ-loop2 Inv-loop μ-loop → tie.After-read-line Inv-loop2 μ-loop2 Inv-loop μ-loop
-After-read-line-from-After-struct-known c = After-read-line-from-After-index (After-index-from-After-struct-known c)
+After-read-line-from-After-struct-known c = After-read-line-from-After-index2 (After-index2-from-After-struct-known c)
 
 abbrev After-read-line-from-After-last2 : tie.After-last2 Inv-loop2 μ-loop2 Inv-loop μ-loop → tie.After-read-line Inv-loop2 μ-loop2 Inv-loop μ-loop
 After-read-line-from-After-last2 c = After-read-line-from-After-counts (After-counts-from-After-last2 c)
@@ -625,6 +626,9 @@ same-now c = cases (eqb (c .put .result) 0) (λ e. ap length (area-same c (eqb-t
 numbers-requires : tie.Need-numbers-requires Inv-loop2 μ-loop2 Inv-loop μ-loop
 numbers-requires c κs = search needs
 
+note-index-requires : tie.Need-note-index-requires Inv-loop2 μ-loop2 Inv-loop μ-loop
+note-index-requires c κs = search needs
+
 last-requires : tie.Need-last-requires Inv-loop2 μ-loop2 Inv-loop μ-loop
 last-requires c κs = search needs
 
@@ -634,13 +638,15 @@ loop-holds c =
     let p = s .args .p in
     record {
       same = refl;
-      indexed = λ e drawn. absurd (subst (λ b. T (not b)) (ap (λ q. is blank (modeOf (q .head .mode))) (started-is ((After-numbers-from-After-last c))) ∙ s .pre .1 e) drawn);
+      indexed = λ e. subst (λ q. IndexedIn (spread q) (c .before .note-index .last .0)) (sym (started-is ((After-numbers-from-After-last c)))) (cases (s .args .opened)
+          (λ o drawn. (c .before .note-index .ensures .0) o)
+          (λ o drawn. absurd (subst (λ b. T (not b)) (s .pre .2 e o) drawn)));
       last = (c .last .ensures) ∙ (let z : length (s .args .area .now) ≡ length (s .args .area .now) - 0 = omega arith in ap (λ n. lastOf (length (s .args .sheet .now)) false n (s .args .reserve)) z);
       over = λ e. absurd (is-yes e);
       under = λ e. subst (λ q. SoundIn (s .args .sound) (spread q) × Going (s .args .reserve) (s .args .sheet .now) (s .args .from) (s .args .area .now) (view q) (s .args .area .now) q
           (s .args .t) 0 (s .args .from))
           (sym (started-is ((After-numbers-from-After-last c)))) (
-            λ y. blank-holds (spread p) (eqb-true _ 0 (s .pre .1 y)),
+            s .pre .1,
             begins (s .args .reserve) (s .args .sheet .now) (s .args .from) (s .args .area .now) p (s .args .t) (owned-spread p (s .good .0))
                 (owned-table p (s .good .0)) (s .pre .0),
           );
@@ -861,6 +867,7 @@ go-spec =
     Inv-loop
     μ-loop
     numbers-requires
+    note-index-requires
     last-requires
     loop-holds
     sub-read-line
