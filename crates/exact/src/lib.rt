@@ -56,21 +56,21 @@ pub fn in_range(v: i32) -> bool
 }
 
 // A number put below 0.
-pub fn below(z: i32) -> i32
-    ensures { λ r. ⌜ r ≡ negsuc (natural z) ⌝ }
+pub fn below(n: i32) -> i32
+    ensures { λ r. ⌜ r ≡ negsuc (natural n) ⌝ }
 {
-    if z < 0 {
+    if n < 0 {
         return -1;
     }
-    -1 - z
+    -1 - n
 }
 
 // What a number below 0 stands for; 0 for any other.
-pub fn behind(z: i32) -> u32
-    ensures { λ r. ⌜ r ≡ beyond z ⌝ }
+pub fn behind(v: i32) -> u32
+    ensures { λ r. ⌜ r ≡ beyond v ⌝ }
 {
-    if z < 0 {
-        return (-1 - z) as u32;
+    if v < 0 {
+        return (-1 - v) as u32;
     }
     0
 }

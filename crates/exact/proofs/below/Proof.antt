@@ -9,16 +9,16 @@ use Rattle.exact.proofs.below.Reads as reads
 use Rattle.exact.proofs.below.Lts as lts
 
 returns : tie.Need-returns
-returns c = ap negsuc (sym (natural-below (c .before .args .z) (flag _ (c .before .fits .z) (c .if1 .taken))))
+returns c = ap negsuc (sym (natural-below (c .before .args .n) (flag _ (c .before .fits .n) (c .if1 .taken))))
 
 sub-result : tie.Need-sub-result
 sub-result c =
-    rw (toZ-ofZ (c .before .fits .z)) (below-fits (c .before .args .z) (flag _ (c .before .fits .z) (c .if1 .left)) (c .before .fits .z))
+    rw (toZ-ofZ (c .before .fits .n)) (below-fits (c .before .args .n) (flag _ (c .before .fits .n) (c .if1 .left)) (c .before .fits .n))
 
 returns-2 : tie.Need-returns-2
 returns-2 c =
-    let e = flag _ (c .before .fits .z) (c .if1 .left) in
-    rw (toZ-ofZ (c .before .fits .z)) (toZ-ofZ (below-fits (c .before .args .z) e (c .before .fits .z)) ∙ below-is (c .before .args .z) e)
+    let e = flag _ (c .before .fits .n) (c .if1 .left) in
+    rw (toZ-ofZ (c .before .fits .n)) (toZ-ofZ (below-fits (c .before .args .n) e (c .before .fits .n)) ∙ below-is (c .before .args .n) e)
 
 pub below-spec : {M : Type 1} → statement M
 below-spec = tie.close (tie.spec returns sub-result returns-2)
