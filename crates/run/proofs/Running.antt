@@ -25,28 +25,28 @@ use Rattle.protocol.proofs.Laws.{cases}
 use Rattle.run.specs.Progress.{Ran, behindRan, ran, Advanced, lastOf}
 
 -- a run that goes on: the answers written so far, and what is still to come of the whole run
-pub record Going (reserve : ℕ) (sheet : List ℕ) (from : ℕ) (lent : List ℕ) (start : Plan) (area : List ℕ) (p : State) (t : List ℕ) (at i : ℕ) : Type 0 where
+pub record Going (on : Bool) (reserve : ℕ) (sheet : List ℕ) (from : ℕ) (lent : List ℕ) (start : Plan) (area : List ℕ) (p : State) (t : List ℕ) (at i : ℕ) : Type 0 where
   pub sized : Sized (spread p)
   pub long : length (p .table) ≡ 256
   pub tallied : Tallied t (view p)
   pub same : length area ≡ length lent
   pub most : at ≤ length lent
   pub rest : drop at area ≡ drop at lent
-  pub course : ran reserve (length lent) start (lines (drop from sheet)) ≡ behindRan (take at area) (ran reserve (length lent - at) (view p) (lines (drop i sheet)))
+  pub course : ran on reserve (length lent) start (lines (drop from sheet)) ≡ behindRan (take at area) (ran on reserve (length lent - at) (view p) (lines (drop i sheet)))
 
 behind-two : (xs ys : List ℕ) (r : Ran) → behindRan xs (behindRan ys r) ≡ behindRan (xs ++ ys) r
 behind-two xs ys r = ap (λ bs. record { bytes = bs; rest = r .rest; plan = r .plan; ended = r .ended }) (sym (append-assoc xs ys (r .bytes)))
 
 -- ---- the end
 
-module _ (reserve : ℕ) (sheet : List ℕ) (from : ℕ) (lent : List ℕ) (start : Plan) (area : List ℕ) (p : State) (t : List ℕ) (at i : ℕ) (g : Going reserve sheet from lent start area p t at i) where
+module _ (on : Bool) (reserve : ℕ) (sheet : List ℕ) (from : ℕ) (lent : List ℕ) (start : Plan) (area : List ℕ) (p : State) (t : List ℕ) (at i : ℕ) (g : Going on reserve sheet from lent start area p t at i) where
   -- a run of which the rest is known, and writes nothing more
-  ends : (q : State) (next : ℕ) (e : Bool) → ran reserve (length lent - at) (view p) (lines (drop i sheet)) ≡ record { bytes = []; rest = lines (drop next sheet); plan = view q; ended = e }
-      → Advanced reserve sheet from start lent (view q) next at e area
+  ends : (q : State) (next : ℕ) (e : Bool) → ran on reserve (length lent - at) (view p) (lines (drop i sheet)) ≡ record { bytes = []; rest = lines (drop next sheet); plan = view q; ended = e }
+      → Advanced on reserve sheet from start lent (view q) next at e area
   ends q next e h =
-      let c : ran reserve (length lent) start (lines (drop from sheet)) ≡ behindRan (take at area) (record { bytes = []; rest = lines (drop next sheet); plan = view q; ended = e }) = g .course
+      let c : ran on reserve (length lent) start (lines (drop from sheet)) ≡ behindRan (take at area) (record { bytes = []; rest = lines (drop next sheet); plan = view q; ended = e }) = g .course
       ∙ ap (behindRan (take at area)) h in
-      let front : ran reserve (length lent) start (lines (drop from sheet)) .bytes ≡ take at area = ap (λ r. r .bytes) c ∙ append-nil (take at area) in
+      let front : ran on reserve (length lent) start (lines (drop from sheet)) .bytes ≡ take at area = ap (λ r. r .bytes) c ∙ append-nil (take at area) in
       let n : length (take at area) ≡ at = (let l = length-take at area in let s = g .same in let m = g .most in omega arith) in
       record {
         plan = sym (ap (λ r. r .plan) c);
@@ -56,7 +56,7 @@ module _ (reserve : ℕ) (sheet : List ℕ) (from : ℕ) (lent : List ℕ) (star
         buffer = sym (ap (λ bs. inFront bs lent) front ∙ ap (λ k. take at area ++ drop k lent) n ∙ ap (λ xs. take at area ++ xs) (sym (g .rest)) ∙ take-append-drop at area);
       }
 
-  pub over : length sheet ≤ i → Advanced reserve sheet from start lent (view p) i at false area
+  pub over : length sheet ≤ i → Advanced on reserve sheet from start lent (view p) i at false area
   unfolding ran
   over h = ends p i false (rw (lines-over sheet i h))
 
@@ -70,7 +70,7 @@ module _ (reserve : ℕ) (sheet : List ℕ) (from : ℕ) (lent : List ℕ) (star
   cut : i < length sheet → lines (drop i sheet) ≡ line ∷ lines (drop (end + 1) sheet)
   cut h = lines-at sheet i end refl h
 
-  pub paused : i < length sheet → length lent - at < reserve → Advanced reserve sheet from start lent (view p) i at false area
+  pub paused : i < length sheet → length lent - at < reserve → Advanced on reserve sheet from start lent (view p) i at false area
   unfolding ran
   paused h r = ends p i false (rw (cut h) (rw (lt-ltb (length lent - at) reserve r)))
 
@@ -80,19 +80,29 @@ module _ (reserve : ℕ) (sheet : List ℕ) (from : ℕ) (lent : List ℕ) (star
     room : length (drop at area) ≡ length lent - at
     room = length-drop at area ∙ ap (λ n. n - at) (g .same)
 
-    goes-on : leb (length bytes) (length lent - at) ≡ true → ran reserve (length lent - at) (view p) (lines (drop i sheet)) ≡ behindRan bytes
-        (ran reserve (length lent - at - length bytes) (view q) (lines (drop (end + 1) sheet)))
+    goes-on : leb (length bytes) (length lent - at) ≡ true → ran on reserve (length lent - at) (view p) (lines (drop i sheet)) ≡ behindRan bytes
+        (ran on reserve (length lent - at - length bytes) (view q) (lines (drop (end + 1) sheet)))
     unfolding ran
     goes-on f = rw (cut h) (rw (le-ltb (length lent - at) reserve r, ← b, f, ← v))
 
-    pub unfit : leb (length bytes) (length (drop at area)) ≡ false → Advanced reserve sheet from start lent (view q) (end + 1) at true area
+    pub unfit : on ≡ false → leb (length bytes) (length (drop at area)) ≡ false → Advanced on reserve sheet from start lent (view q) (end + 1) at true area
     unfolding ran
-    unfit f =
+    unfit o f =
         let n : leb (length bytes) (length lent - at) ≡ false = ap (leb (length bytes)) (sym room) ∙ f in
-        ends q (end + 1) true (rw (cut h) (rw (le-ltb (length lent - at) reserve r, ← b, n, ← v)))
+        ends q (end + 1) true (rw (cut h) (rw (le-ltb (length lent - at) reserve r, ← b, n, o, ← v)))
+
+    -- or is dropped, where the run is to go on
+    pub dropped : on ≡ true → leb (length bytes) (length (drop at area)) ≡ false → Sized (spread q) → length (q .table) ≡ 256 → Tallied t′ (view q)
+        → Going on reserve sheet from lent start area q t′ at (end + 1)
+    unfolding ran
+    dropped o f z b′ k =
+        let n : leb (length bytes) (length lent - at) ≡ false = ap (leb (length bytes)) (sym room) ∙ f in
+        let goes : ran on reserve (length lent - at) (view p) (lines (drop i sheet)) ≡ ran on reserve (length lent - at) (view q) (lines (drop (end + 1) sheet)) =
+        rw (cut h) (rw (le-ltb (length lent - at) reserve r, ← b, n, o, ← v)) in
+        record { sized = z; long = b′; tallied = k; same = g .same; most = g .most; rest = g .rest; course = g .course ∙ ap (behindRan (take at area)) goes }
 
     pub next-line : leb (length bytes) (length (drop at area)) ≡ true → Sized (spread q) → length (q .table) ≡ 256 → Tallied t′ (view q)
-        → Going reserve sheet from lent start (take at area ++ inFront bytes (drop at area)) q t′ (at + length bytes) (end + 1)
+        → Going on reserve sheet from lent start (take at area ++ inFront bytes (drop at area)) q t′ (at + length bytes) (end + 1)
     next-line f z b k =
         let w = leb-true (length bytes) (length (drop at area)) f in
         let n : length (take at area) ≡ at = (let x = length-take at area in let s = g .same in let m = g .most in omega arith) in
@@ -112,25 +122,25 @@ module _ (reserve : ℕ) (sheet : List ℕ) (from : ℕ) (lent : List ℕ) (star
           rest = ap (drop (at + length bytes)) two ∙ drop-at (take at area ++ bytes) (drop (length bytes) (drop at area)) (at + length bytes) long ∙ ap (drop (length bytes)) (g .rest)
               ∙ drop-drop (length bytes) at lent;
           course = g .course
-              ∙ ap (behindRan (take at area)) (goes-on (ap (leb (length bytes)) (sym room) ∙ f) ∙ ap (λ j. behindRan bytes (ran reserve j (view q) (lines (drop (end + 1) sheet)))) e)
-              ∙ behind-two (take at area) bytes (ran reserve (length lent - (at + length bytes)) (view q) (lines (drop (end + 1) sheet)))
-              ∙ ap (λ xs. behindRan xs (ran reserve (length lent - (at + length bytes)) (view q) (lines (drop (end + 1) sheet))))
+              ∙ ap (behindRan (take at area)) (goes-on (ap (leb (length bytes)) (sym room) ∙ f) ∙ ap (λ j. behindRan bytes (ran on reserve j (view q) (lines (drop (end + 1) sheet)))) e)
+              ∙ behind-two (take at area) bytes (ran on reserve (length lent - (at + length bytes)) (view q) (lines (drop (end + 1) sheet)))
+              ∙ ap (λ xs. behindRan xs (ran on reserve (length lent - (at + length bytes)) (view q) (lines (drop (end + 1) sheet))))
               (sym (ap (take (at + length bytes)) two ∙ take-at (take at area ++ bytes) (drop (length bytes) (drop at area)) (at + length bytes) long));
         }
 
 -- ---- the loop's invariant
 
 -- The run is over, as an answer did not fit, or goes on; `stop` says whether there is another line. Where the rules are known to hold, the index is theirs.
-pub record Course (sound : Bool) (reserve : ℕ) (sheet : List ℕ) (from : ℕ) (lent : List ℕ) (start : Plan) (area : List ℕ) (p : State) (t : List ℕ) (index : List ℤ) (at i : ℕ) (ended : Bool)
+pub record Course (sound on : Bool) (reserve : ℕ) (sheet : List ℕ) (from : ℕ) (lent : List ℕ) (start : Plan) (area : List ℕ) (p : State) (t : List ℕ) (index : List ℤ) (at i : ℕ) (ended : Bool)
     (stop : ℕ) : Type 0 where
   pub indexed : sound ≡ true → IndexedIn (spread p) index
   pub same : length area ≡ length lent
   pub last : stop ≡ lastOf (length sheet) ended (length area - at) reserve
-  pub over : ended ≡ true → Advanced reserve sheet from start lent (view p) i at true area
-  pub under : ended ≡ false → SoundIn sound (spread p) × Going reserve sheet from lent start area p t at i
+  pub over : ended ≡ true → Advanced on reserve sheet from start lent (view p) i at true area
+  pub under : ended ≡ false → SoundIn sound (spread p) × Going on reserve sheet from lent start area p t at i
 
-module _ {sound : Bool} {reserve : ℕ} {sheet : List ℕ} {from : ℕ} {lent : List ℕ} {start : Plan} {area : List ℕ} {p : State} {t : List ℕ} {index : List ℤ} {at i : ℕ} {ended : Bool} {stop : ℕ}
-    (k : Course sound reserve sheet from lent start area p t index at i ended stop) where
+module _ {sound : Bool} {on : Bool} {reserve : ℕ} {sheet : List ℕ} {from : ℕ} {lent : List ℕ} {start : Plan} {area : List ℕ} {p : State} {t : List ℕ} {index : List ℤ} {at i : ℕ} {ended : Bool} {stop : ℕ}
+    (k : Course sound on reserve sheet from lent start area p t index at i ended stop) where
   -- a line is begun
   pub inside : i < stop → (ended ≡ false) × (i < length sheet) × (reserve ≤ length area - at)
   inside h =
@@ -139,19 +149,19 @@ module _ {sound : Bool} {reserve : ℕ} {sheet : List ℕ} {from : ℕ} {lent : 
       (λ f. (e, (let z : stop ≡ length sheet = k .last ∙ rw (e, f) in omega (arith, z, h)), ltb-false _ _ f)))
 
   -- none is
-  pub finished : stop ≤ i → Advanced reserve sheet from start lent (view p) i at ended area
+  pub finished : stop ≤ i → Advanced on reserve sheet from start lent (view p) i at ended area
   finished h =
       cases ended (λ e. rw e (k .over e))
       (λ e. let g = k .under e .1 in cases (ltb (length area - at) reserve)
-      (λ f. rw e (cases (ltb i (length sheet)) (λ l. paused _ _ _ _ _ _ _ _ _ _ g (ltb-true _ _ l) (let b = ltb-true (length area - at) reserve f in let q = g .same in omega (arith, b, q)))
-      (λ l. over _ _ _ _ _ _ _ _ _ _ g (ltb-false _ _ l))))
-      (λ f. rw e (over _ _ _ _ _ _ _ _ _ _ g (let z : stop ≡ length sheet = k .last ∙ rw (e, f) in omega (arith, z, h)))))
+      (λ f. rw e (cases (ltb i (length sheet)) (λ l. paused _ _ _ _ _ _ _ _ _ _ _ g (ltb-true _ _ l) (let b = ltb-true (length area - at) reserve f in let q = g .same in omega (arith, b, q)))
+      (λ l. over _ _ _ _ _ _ _ _ _ _ _ g (ltb-false _ _ l))))
+      (λ f. rw e (over _ _ _ _ _ _ _ _ _ _ _ g (let z : stop ≡ length sheet = k .last ∙ rw (e, f) in omega (arith, z, h)))))
 
 -- ---- the beginning
 
-pub begins : (reserve : ℕ) (sheet : List ℕ) (from : ℕ) (lent : List ℕ) (p : State) (t : List ℕ) → Sized (spread p) → length (p .table) ≡ 256 → Tallied t (view p) → Going reserve sheet from lent
+pub begins : (on : Bool) (reserve : ℕ) (sheet : List ℕ) (from : ℕ) (lent : List ℕ) (p : State) (t : List ℕ) → Sized (spread p) → length (p .table) ≡ 256 → Tallied t (view p) → Going on reserve sheet from lent
     (view p) lent p t 0 from
-begins reserve sheet from lent p t z b k = record {
+begins on reserve sheet from lent p t z b k = record {
   sized = z;
   long = b;
   tallied = k;
@@ -159,7 +169,7 @@ begins reserve sheet from lent p t z b k = record {
   most = omega arith;
   rest = refl;
   course =
-      (let e : length lent ≡ length lent - 0 = omega arith in ap (λ n. ran reserve n (view p) (lines (drop from sheet))) e);
+      (let e : length lent ≡ length lent - 0 = omega arith in ap (λ n. ran on reserve n (view p) (lines (drop from sheet))) e);
 }
 
 -- ---- an area of which the rest was lent

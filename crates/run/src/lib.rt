@@ -9,7 +9,7 @@ ghost use Rattle.state.specs.Spread.{spread};
 ghost use Rattle.state.specs.View.{view};
 ghost use Rattle.calls.specs.Makes.{SoundIn};
 ghost use Rattle.run.specs.Sound.{soundIn};
-ghost use Rattle.run.specs.Progress.{lastOf, Advanced};
+ghost use Rattle.run.specs.Progress.{lastOf, endsAt, Advanced};
 use counts::Tallies;
 use heads::Head;
 use records::Test;
@@ -35,6 +35,16 @@ fn last(len: usize, ended: bool, room: usize, reserve: usize) -> usize
         return 0;
     }
     len
+}
+
+// An answer that did not fit ends the run, unless it is to go on.
+fn ends(on: bool, n: usize) -> bool
+    ensures { λ t. ⌜ t ≡ endsAt on n ⌝ }
+{
+    if on {
+        return false;
+    }
+    n == 0
 }
 
 fn reached(state: State, next: usize, written: usize, ended: bool) -> Progress
@@ -69,13 +79,14 @@ fn go(
     t: Tallies,
     sound: bool,
     opened: bool,
+    on: bool,
     reserve: usize,
     sheet: &[u8],
     from: usize,
     area: &mut [u8],
 ) -> Progress
     requires { ⌜ Tallied t (view p) × SoundIn sound (spread p) × (sound ≡ true → opened ≡ false → is blank (modeOf (p .head .mode)) ≡ true) ⌝ }
-    ensures { λ r. ⌜ Advanced reserve (now (sheet .entry)) from (view p) (now (area .entry)) (view (r .state)) (r .next) (r .written) (r .ended) (now (area .exit)) ⌝ }
+    ensures { λ r. ⌜ Advanced on reserve (now (sheet .entry)) from (view p) (now (area .entry)) (view (r .state)) (r .next) (r .written) (r .ended) (now (area .exit)) ⌝ }
 {
     let h = p.head;
     let mut head = heads::numbers(h);
@@ -138,7 +149,7 @@ fn go(
         let answer = e.answer;
         let vs = &values[..];
         let n = writer::put(answer, &vs[first..first + width], &mut area[at..]);
-        ended = n == 0;
+        ended = ends(on, n);
         at += n;
         i = i + line.end + 1;
         stop = last(sheet.len(), ended, area.len() - at, reserve);
@@ -149,9 +160,10 @@ fn go(
 }
 
 // Goes on from a line of the sheet, as long as `reserve` bytes of the area are free and each answer fits. The rules of a plan that is handed in
-// blank are tested when it is opened, those of a whole one at once; of another nothing is known.
-pub fn advance(p: State, reserve: usize, sheet: &[u8], from: usize, area: &mut [u8]) -> Progress
-    ensures { λ r. ⌜ Advanced reserve (now (sheet .entry)) from (view p) (now (area .entry)) (view (r .state)) (r .next) (r .written) (r .ended) (now (area .exit)) ⌝ }
+// blank are tested when it is opened, those of a whole one at once; of another nothing is known. Where it is to go on (`on`), an answer that does not fit is
+// dropped, and does not end the run: an owner that wants only the plan lends no room.
+pub fn advance(p: State, on: bool, reserve: usize, sheet: &[u8], from: usize, area: &mut [u8]) -> Progress
+    ensures { λ r. ⌜ Advanced on reserve (now (sheet .entry)) from (view p) (now (area .entry)) (view (r .state)) (r .next) (r .written) (r .ended) (now (area .exit)) ⌝ }
 {
     let h = p.head;
     let mode = h.mode;
@@ -159,5 +171,5 @@ pub fn advance(p: State, reserve: usize, sheet: &[u8], from: usize, area: &mut [
     let sound = is_sound(h, &p.table, &p.values);
     let edits = p.edits;
     let counts = query::tallies(edits, h, &p.arrived, &p.confirmed);
-    go(p, counts, sound, opened, reserve, sheet, from, area)
+    go(p, counts, sound, opened, on, reserve, sheet, from, area)
 }

@@ -47,8 +47,8 @@ use Rattle.calls.proofs.Turning.{sound-made}
 use Rattle.calls.proofs.note_index.Reads as note-index-reads
 use Rattle.calls.proofs.Makes.{first-looked, second-looked, noted-length}
 use Rattle.run.specs.Progress.{lastOf, Advanced}
-use Rattle.run.proofs.Running.{Going, Course, inside, finished, unfit, next-line, begins, lent-rest, put-back}
-use Rattle.run.proofs.Putting.{text-some, fitted-put, unfitted-put, lent-row}
+use Rattle.run.proofs.Running.{Going, Course, inside, finished, unfit, dropped, next-line, begins, lent-rest, put-back}
+use Rattle.run.proofs.Putting.{text-some, fitted-put, unfitted-put, ends-yes, ends-no, lent-row}
 use Rattle.run.proofs.go.Statement.{statement}
 use Rattle.run.proofs.go.Tie as tie
 use Rattle.run.proofs.go.Reads as reads
@@ -62,23 +62,24 @@ use Rattle.reader.proofs.read_line.Reads as read-line-reads
 use Rattle.records.proofs.satisfies.Reads as satisfies-reads
 use Rattle.run.proofs.last.Reads as last-reads
 use Rattle.moves.proofs.sent_record.Reads as sent-record-reads
+use Rattle.run.proofs.ends.Reads as ends-reads
 use Rattle.writer.proofs.put.Reads as put-reads
 
 abbrev Inv-loop2 : tie.InvT-loop2
-Inv-loop2 sound opened reserve sheet from area head base draft values arrived confirmed table edits₀ counts index at i ended stop line named first next second e side marked j₀ edits j =
+Inv-loop2 sound opened on reserve sheet from area head base draft values arrived confirmed table edits₀ counts index at i ended stop line named first next second e side marked j₀ edits j =
     (Marked side edits₀ edits j) × (j ≤ marked) × (marked ≤ 256)
 
 abbrev μ-loop2 : tie.MeasureT-loop2
-μ-loop2 sound opened reserve sheet from area head base draft values arrived confirmed table edits₀ counts index at i ended stop line named first next second e side marked j₀ edits j = marked - j
+μ-loop2 sound opened on reserve sheet from area head base draft values arrived confirmed table edits₀ counts index at i ended stop line named first next second e side marked j₀ edits j = marked - j
 
 abbrev Inv-loop : tie.InvT-loop
-Inv-loop sound opened reserve sheet from area₀ head₀ base₀ draft₀ values₀ arrived₀ confirmed₀ table₀ edits₀ counts₀ index₀ at₀ i₀ ended₀ stop₀ area head base draft values arrived confirmed table edits
+Inv-loop sound opened on reserve sheet from area₀ head₀ base₀ draft₀ values₀ arrived₀ confirmed₀ table₀ edits₀ counts₀ index₀ at₀ i₀ ended₀ stop₀ area head base draft values arrived confirmed table edits
     counts index at i ended stop =
-    Course sound reserve sheet from area₀ (view (stateOf (headFrom head₀) base₀ draft₀ values₀ arrived₀ confirmed₀ table₀ edits₀)) area
+    Course sound on reserve sheet from area₀ (view (stateOf (headFrom head₀) base₀ draft₀ values₀ arrived₀ confirmed₀ table₀ edits₀)) area
     (stateOf (headFrom head) base draft values arrived confirmed table edits) counts index at i ended stop
 
 abbrev μ-loop : tie.MeasureT-loop
-μ-loop sound opened reserve sheet from area₀ head₀ base₀ draft₀ values₀ arrived₀ confirmed₀ table₀ edits₀ counts₀ index₀ at₀ i₀ ended₀ stop₀ area head base draft values arrived confirmed table edits counts
+μ-loop sound opened on reserve sheet from area₀ head₀ base₀ draft₀ values₀ arrived₀ confirmed₀ table₀ edits₀ counts₀ index₀ at₀ i₀ ended₀ stop₀ area head base draft values arrived confirmed table edits counts
     index at i ended stop = length sheet - i
 
 -- ---- the places of the code, as tools/named writes them
@@ -252,22 +253,22 @@ abbrev After-table3-from-After-slice-known2 : tie.After-slice-known2 Inv-loop2 �
 After-table3-from-After-slice-known2 c = c .before .before .before .before .before .before .before .before .before .before .before .before .before .before
 
 abbrev After-put-from-After-struct-known : tie.After-struct-known Inv-loop2 μ-loop2 Inv-loop μ-loop → tie.After-put Inv-loop2 μ-loop2 Inv-loop μ-loop
-After-put-from-After-struct-known c = c .before .before .before
+After-put-from-After-struct-known c = c .before .before .before .before
 
 abbrev After-index2-from-After-struct-known : tie.After-struct-known Inv-loop2 μ-loop2 Inv-loop μ-loop → tie.After-index2 Inv-loop2 μ-loop2 Inv-loop μ-loop
-After-index2-from-After-struct-known c = c .before .before .before .before .before .before .before .before .before .before .before .before .before .before
+After-index2-from-After-struct-known c = c .before .before .before .before .before .before .before .before .before .before .before .before .before .before .before
 
 abbrev After-put-from-After-last2 : tie.After-last2 Inv-loop2 μ-loop2 Inv-loop μ-loop → tie.After-put Inv-loop2 μ-loop2 Inv-loop μ-loop
-After-put-from-After-last2 c = c .before .before .before .before
+After-put-from-After-last2 c = c .before .before .before .before .before
 
 abbrev After-loop2-from-After-last2 : tie.After-last2 Inv-loop2 μ-loop2 Inv-loop μ-loop → tie.After-loop2 Inv-loop2 μ-loop2 Inv-loop μ-loop
-After-loop2-from-After-last2 c = c .before .before .before .before .before .before .before .before
+After-loop2-from-After-last2 c = c .before .before .before .before .before .before .before .before .before
 
 abbrev After-make-from-After-last2 : tie.After-last2 Inv-loop2 μ-loop2 Inv-loop μ-loop → tie.After-make Inv-loop2 μ-loop2 Inv-loop μ-loop
-After-make-from-After-last2 c = c .before .before .before .before .before .before .before .before .before .before .before .before .before
+After-make-from-After-last2 c = c .before .before .before .before .before .before .before .before .before .before .before .before .before .before
 
 abbrev After-counts-from-After-last2 : tie.After-last2 Inv-loop2 μ-loop2 Inv-loop μ-loop → tie.After-counts Inv-loop2 μ-loop2 Inv-loop μ-loop
-After-counts-from-After-last2 c = c .before .before .before .before .before .before .before .before .before .before .before .before .before .before
+After-counts-from-After-last2 c = c .before .before .before .before .before .before .before .before .before .before .before .before .before .before .before
 
 abbrev Start-from-After-read-line : tie.After-read-line Inv-loop2 μ-loop2 Inv-loop μ-loop → tie.Start Inv-loop2 μ-loop2 Inv-loop μ-loop
 Start-from-After-read-line c = Start-from-After-shared-slice-known (After-shared-slice-known-from-After-read-line c)
@@ -422,7 +423,7 @@ sheet-fits : (c : tie.After-shared-slice-known Inv-loop2 μ-loop2 Inv-loop μ-lo
 sheet-fits c = omega arith
 
 -- a line is begun: the run goes on, and the sheet and the area have room for it
-on-line : (c : tie.In-loop Inv-loop2 μ-loop2 Inv-loop μ-loop) → SoundIn ((Start-from-In-loop c) .args .sound) (spread (state-at (c .before))) × Going ((Start-from-In-loop c) .args .reserve)
+on-line : (c : tie.In-loop Inv-loop2 μ-loop2 Inv-loop μ-loop) → SoundIn ((Start-from-In-loop c) .args .sound) (spread (state-at (c .before))) × Going ((Start-from-In-loop c) .args .on) ((Start-from-In-loop c) .args .reserve)
     ((Start-from-In-loop c) .args .sheet .now) ((Start-from-In-loop c) .args .from) ((Start-from-In-loop c) .args .area .now) (view (started ((After-numbers-from-In-loop c))))
     (c .before .loop .area) (state-at (c .before)) (c .before .loop .counts) (c .before .loop .at) (c .before .loop .i)
 on-line c = (c .before .loop .inv .under) ((inside (c .before .loop .inv) (c .loop-test .taken)) .0)
@@ -592,32 +593,44 @@ area-same c e = put-back ((At-loop-from-After-put c) .loop .at) ((At-loop-from-A
 
 -- ---- the run after it
 
-moved : {reserve : ℕ} {sheet : List ℕ} {from : ℕ} {lent : List ℕ} {start : Plan} {area area′ : List ℕ} {p : State} {t : List ℕ} {at at′ i i′ : ℕ} → area ≡ area′ → at ≡ at′ → i ≡ i′
-    → Going reserve sheet from lent start area′ p t at′ i′ → Going reserve sheet from lent start area p t at i
+moved : {on : Bool} {reserve : ℕ} {sheet : List ℕ} {from : ℕ} {lent : List ℕ} {start : Plan} {area area′ : List ℕ} {p : State} {t : List ℕ} {at at′ i i′ : ℕ} → area ≡ area′ → at ≡ at′ → i ≡ i′
+    → Going on reserve sheet from lent start area′ p t at′ i′ → Going on reserve sheet from lent start area p t at i
 moved e g h k = rw (e, g, h) k
 
-ended-at : {reserve : ℕ} {sheet : List ℕ} {from : ℕ} {lent : List ℕ} {start q : Plan} {area area′ : List ℕ} {n n′ at k : ℕ} → area ≡ area′ → n ≡ n′ → k ≡ 0
-    → Advanced reserve sheet from start lent q n′ at true area′ → Advanced reserve sheet from start lent q n (at + k) true area
+ended-at : {on : Bool} {reserve : ℕ} {sheet : List ℕ} {from : ℕ} {lent : List ℕ} {start q : Plan} {area area′ : List ℕ} {n n′ at k : ℕ} → area ≡ area′ → n ≡ n′ → k ≡ 0
+    → Advanced on reserve sheet from start lent q n′ at true area′ → Advanced on reserve sheet from start lent q n (at + k) true area
 ended-at {at = at} {k = k} e h z a = let w : at + k ≡ at = omega (arith, z) in rw (e, h, w) a
 
 going-on : (c : tie.After-put Inv-loop2 μ-loop2 Inv-loop μ-loop) → ((c .put .result) ≡ 0 → ⊥)
-    → Going ((Start-from-After-put c) .args .reserve) ((Start-from-After-put c) .args .sheet .now) ((Start-from-After-put c) .args .from) ((Start-from-After-put c) .args .area .now)
+    → Going ((Start-from-After-put c) .args .on) ((Start-from-After-put c) .args .reserve) ((Start-from-After-put c) .args .sheet .now) ((Start-from-After-put c) .args .from) ((Start-from-After-put c) .args .area .now)
     (view (started ((After-numbers-from-After-put c)))) (area-now c) (state-next ((After-loop2-from-After-put c))) (counts-next ((After-loop2-from-After-put c)))
     (((At-loop-from-After-put c) .loop .at) + (c .put .result)) (((At-loop-from-After-put c) .loop .i) + ((After-read-line-from-After-put c) .read-line .result .end) + 1)
 going-on c h =
     let j = made ((After-loop2-from-After-put c)) in
     moved (area-after c h) (ap (λ n. ((At-loop-from-After-put c) .loop .at) + n) (count-is c h)) (ap (λ n. n + 1) (end-is ((After-read-line-from-After-put c))))
-    (next-line _ _ _ _ _ _ _ _ _ _ ((on-line ((In-loop-from-After-put c))) .1) (begun ((In-loop-from-After-put c))) (enough c) (state-next ((After-loop2-from-After-put c)))
+    (next-line _ _ _ _ _ _ _ _ _ _ _ ((on-line ((In-loop-from-After-put c))) .1) (begun ((In-loop-from-After-put c))) (enough c) (state-next ((After-loop2-from-After-put c)))
     (counts-next ((After-loop2-from-After-put c))) (told c) (told-is c) (left-is c) (fits-now c h) (j .sized) (j .long) (j .tallied ((on-line ((In-loop-from-After-put c))) .1 .tallied)))
 
-ending : (c : tie.After-put Inv-loop2 μ-loop2 Inv-loop μ-loop) → (c .put .result) ≡ 0
-    → Advanced ((Start-from-After-put c) .args .reserve) ((Start-from-After-put c) .args .sheet .now) ((Start-from-After-put c) .args .from) (view (started ((After-numbers-from-After-put c))))
+ending : (c : tie.After-put Inv-loop2 μ-loop2 Inv-loop μ-loop) → ((Start-from-After-put c) .args .on) ≡ false → (c .put .result) ≡ 0
+    → Advanced ((Start-from-After-put c) .args .on) ((Start-from-After-put c) .args .reserve) ((Start-from-After-put c) .args .sheet .now) ((Start-from-After-put c) .args .from) (view (started ((After-numbers-from-After-put c))))
     ((Start-from-After-put c) .args .area .now) (view (state-next ((After-loop2-from-After-put c))))
     (((At-loop-from-After-put c) .loop .i) + ((After-read-line-from-After-put c) .read-line .result .end) + 1) (((At-loop-from-After-put c) .loop .at) + (c .put .result)) true (area-now c)
-ending c e =
+ending c o e =
     ended-at (area-same c e) (ap (λ n. n + 1) (end-is ((After-read-line-from-After-put c)))) e
-    (unfit _ _ _ _ _ _ _ _ _ _ ((on-line ((In-loop-from-After-put c))) .1) (begun ((In-loop-from-After-put c))) (enough c) (state-next ((After-loop2-from-After-put c)))
-    (counts-next ((After-loop2-from-After-put c))) (told c) (told-is c) (left-is c) (unfit-now c e))
+    (unfit _ _ _ _ _ _ _ _ _ _ _ ((on-line ((In-loop-from-After-put c))) .1) (begun ((In-loop-from-After-put c))) (enough c) (state-next ((After-loop2-from-After-put c)))
+    (counts-next ((After-loop2-from-After-put c))) (told c) (told-is c) (left-is c) o (unfit-now c e))
+
+-- an answer that does not fit is dropped, where the run is to go on
+skipping : (c : tie.After-put Inv-loop2 μ-loop2 Inv-loop μ-loop) → ((Start-from-After-put c) .args .on) ≡ true → (c .put .result) ≡ 0
+    → Going ((Start-from-After-put c) .args .on) ((Start-from-After-put c) .args .reserve) ((Start-from-After-put c) .args .sheet .now) ((Start-from-After-put c) .args .from)
+    ((Start-from-After-put c) .args .area .now) (view (started ((After-numbers-from-After-put c)))) (area-now c) (state-next ((After-loop2-from-After-put c)))
+    (counts-next ((After-loop2-from-After-put c))) (((At-loop-from-After-put c) .loop .at) + (c .put .result))
+    (((At-loop-from-After-put c) .loop .i) + ((After-read-line-from-After-put c) .read-line .result .end) + 1)
+skipping c o e =
+    let j = made ((After-loop2-from-After-put c)) in
+    moved (area-same c e) (omega (arith, e)) (ap (λ n. n + 1) (end-is ((After-read-line-from-After-put c))))
+    (dropped _ _ _ _ _ _ _ _ _ _ _ ((on-line ((In-loop-from-After-put c))) .1) (begun ((In-loop-from-After-put c))) (enough c) (state-next ((After-loop2-from-After-put c)))
+    (counts-next ((After-loop2-from-After-put c))) (told c) (told-is c) (left-is c) o (unfit-now c e) (j .sized) (j .long) (j .tallied ((on-line ((In-loop-from-After-put c))) .1 .tallied)))
 
 same-now : (c : tie.After-put Inv-loop2 μ-loop2 Inv-loop μ-loop) → length (area-now c) ≡ length ((Start-from-After-put c) .args .area .now)
 same-now c = cases (eqb (c .put .result) 0) (λ e. ap length (area-same c (eqb-true (c .put .result) 0 e)) ∙ (on-line ((In-loop-from-After-put c))) .1 .same)
@@ -643,11 +656,11 @@ loop-holds c =
           (λ o drawn. absurd (subst (λ b. T (not b)) (s .pre .2 e o) drawn)));
       last = (c .last .ensures) ∙ (let z : length (s .args .area .now) ≡ length (s .args .area .now) - 0 = omega arith in ap (λ n. lastOf (length (s .args .sheet .now)) false n (s .args .reserve)) z);
       over = λ e. absurd (is-yes e);
-      under = λ e. subst (λ q. SoundIn (s .args .sound) (spread q) × Going (s .args .reserve) (s .args .sheet .now) (s .args .from) (s .args .area .now) (view q) (s .args .area .now) q
+      under = λ e. subst (λ q. SoundIn (s .args .sound) (spread q) × Going (s .args .on) (s .args .reserve) (s .args .sheet .now) (s .args .from) (s .args .area .now) (view q) (s .args .area .now) q
           (s .args .t) 0 (s .args .from))
           (sym (started-is ((After-numbers-from-After-last c)))) (
             s .pre .1,
-            begins (s .args .reserve) (s .args .sheet .now) (s .args .from) (s .args .area .now) p (s .args .t) (owned-spread p (s .good .0))
+            begins (s .args .on) (s .args .reserve) (s .args .sheet .now) (s .args .from) (s .args .area .now) p (s .args .t) (owned-spread p (s .good .0))
                 (owned-table p (s .good .0)) (s .pre .0),
           );
     }
@@ -794,9 +807,12 @@ part-put-end-2 c = le-self _
 put-requires : tie.Need-put-requires Inv-loop2 μ-loop2 Inv-loop μ-loop
 put-requires c κs = search needs
 
+ends-requires : tie.Need-ends-requires Inv-loop2 μ-loop2 Inv-loop μ-loop
+ends-requires c κs = search needs
+
 add-at : tie.Need-add-at Inv-loop2 μ-loop2 Inv-loop μ-loop
 add-at c =
-    fits-le (at-most (c .before .before)) (lent-fits ((After-slice-known-from-After-slice-known2 c)))
+    fits-le (at-most (c .before .before .before)) (lent-fits ((After-slice-known-from-After-slice-known2 (c .before))))
 
 add-i : tie.Need-add-i Inv-loop2 μ-loop2 Inv-loop μ-loop
 add-i c =
@@ -822,13 +838,13 @@ loop-again c =
       same = same-now ((After-put-from-After-last2 c));
       indexed = λ e. made ((After-loop2-from-After-last2 c)) .indexed ((At-loop-from-After-last2 c) .loop .inv .indexed e);
       last = (c .last2 .ensures);
-      over = λ e. ending ((After-put-from-After-last2 c)) (eqb-true _ 0 e);
+      over = λ e. let x = ends-yes _ _ (sym (c .before .before .ends .ensures) ∙ e) in ending ((After-put-from-After-last2 c)) (x .0) (x .1);
       under = λ e. (
         let j = made ((After-loop2-from-After-last2 c)) in sound-made {l = lineIn ((After-read-line-from-After-last2 c) .read-line .result)}
             {p = spread (state-at ((At-loop-from-After-last2 c)))} {q = spread (state-next ((After-loop2-from-After-last2 c)))} {a = ((After-make-from-After-last2 c) .make .result .answer)}
             {vs = row ((state-next ((After-loop2-from-After-last2 c))) .values) ((After-make-from-After-last2 c) .make .result .from) ((After-make-from-After-last2 c) .make .result .width)}
             (record { answer = j .answer; plan = j .plan }) ((on-line ((In-loop-from-After-last2 c))) .0),
-        going-on ((After-put-from-After-last2 c)) (eqb-false _ 0 e),
+        ends-no _ _ (sym (c .before .before .ends .ensures) ∙ e) (λ o z. skipping ((After-put-from-After-last2 c)) o z) (λ n. going-on ((After-put-from-After-last2 c)) n),
       );
     }
 
@@ -851,11 +867,11 @@ returns c =
     let state : (c .before .of .result) ≡ q = (c .before .of .ensures) ∙ ap (λ h. stateOf h (q .base) (q .draft) (q .values) (q .arrived) (q .confirmed) (q .table) (q .edits))
     (c .before .before .from-numbers2 .ensures) in
     let done = finished ((At-loop-from-After-reached c) .loop .inv) ((After-loop-from-After-reached c) .loop-test .left) in
-    subst (λ r. Advanced (a .reserve) (a .sheet .now) (a .from) (view (a .p)) (a .area .now) (view (r .state)) (r .next) (r .written) (r .ended) ((At-loop-from-After-reached c) .loop .area))
+    subst (λ r. Advanced (a .on) (a .reserve) (a .sheet .now) (a .from) (view (a .p)) (a .area .now) (view (r .state)) (r .next) (r .written) (r .ended) ((At-loop-from-After-reached c) .loop .area))
     (sym (c .reached .ensures))
-    (subst (λ x. Advanced (a .reserve) (a .sheet .now) (a .from) (view (a .p)) (a .area .now) (view x) ((At-loop-from-After-reached c) .loop .i) ((At-loop-from-After-reached c) .loop .at)
+    (subst (λ x. Advanced (a .on) (a .reserve) (a .sheet .now) (a .from) (view (a .p)) (a .area .now) (view x) ((At-loop-from-After-reached c) .loop .i) ((At-loop-from-After-reached c) .loop .at)
     ((At-loop-from-After-reached c) .loop .ended) ((At-loop-from-After-reached c) .loop .area)) (sym state)
-    (subst (λ x. Advanced (a .reserve) (a .sheet .now) (a .from) (view x) (a .area .now) (view q) ((At-loop-from-After-reached c) .loop .i) ((At-loop-from-After-reached c) .loop .at)
+    (subst (λ x. Advanced (a .on) (a .reserve) (a .sheet .now) (a .from) (view x) (a .area .now) (view q) ((At-loop-from-After-reached c) .loop .i) ((At-loop-from-After-reached c) .loop .at)
     ((At-loop-from-After-reached c) .loop .ended) ((At-loop-from-After-reached c) .loop .area)) (started-is ((After-numbers-from-After-reached c))) done))
 
 pub go-spec : {M : Type 1} → statement M
@@ -908,6 +924,7 @@ go-spec =
     part-put-start-2
     part-put-end-2
     put-requires
+    ends-requires
     add-at
     add-i
     add-i-2
