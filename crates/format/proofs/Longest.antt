@@ -331,7 +331,7 @@ no-most k h =
 
 -- ---- the laws: every line keeps a plan narrow, and no answer on a narrow plan is longer
 
-narrow-step : (c : Call) (p : Plan) → Narrow (p .content) → Narrow (step c p .plan .content)
+pub narrow-step : (c : Call) (p : Plan) → Narrow (p .content) → Narrow (step c p .plan .content)
 unfolding step
 narrow-step c p g = by (first (checks c p)) (λ t. passed (checks c p) t)
   where

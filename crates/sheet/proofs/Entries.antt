@@ -3,34 +3,37 @@ use Prim.Native.Nat.{ℕ, zero, suc, _+_, _*_, _-_, _<_, _≤_}
 use native.Mathlib.Omega.{arith}
 use mathlib.Core.Path.{_≡_, refl, sym, ap, ap₂, subst, _∙_}
 use mathlib.Core.Bool.{Bool, true, false, cond}
-use mathlib.Core.List.{List, [], _∷_}
-use borrow.Author.Tests.{le-ltb, lt-ltb}
-use lib.Dec.{eqb, leb, ltb}
+use mathlib.Core.List.{List, [], _∷_, _++_, append-nil}
+use lib.Seq.{take-all}
+use borrow.Author.Tests.{le-ltb, lt-ltb, lt-leb}
+use lib.Dec.{T, eqb, leb, ltb}
 use lib.IntN.{ℤ, pos}
-use lib.ListN.{length, take, drop, length-append, drop-of-length-le}
-use Rattle.protocol.specs.Lists.{bit}
+use lib.ListN.{length, take, drop, length-append, length-take, length-drop, drop-of-length-le}
+use Rattle.protocol.specs.Lists.{bit, oneTo}
 use Rattle.protocol.specs.Plan.{Plan}
 use Rattle.protocol.specs.Calls as model
-use Rattle.protocol.specs.Calls.{Verdict, fine, refused, first, no, ok, Stepped, start}
-use Rattle.protocol.proofs.Laws.{cases}
+use Rattle.protocol.specs.Calls.{Call, Verdict, fine, refused, first, no, ok, Stepped, following, end, start}
+use Rattle.protocol.proofs.Laws.{cases, is-yes, range}
 use Rattle.format.specs.Lines.{lineFeed, lines, grow}
-use Rattle.format.specs.Sheets.{text, lineStep, answerLines, leaves, tooLong, fitted, Screened, screen}
+use Rattle.format.specs.Sheets.{text, lineStep, answerLines, leaves, fitted, inFront, replies, Screened, screen}
 use Rattle.format.specs.Longest.{longestAnswer}
-use Rattle.format.proofs.Longest.{Narrow, narrow-line, longest}
+use Rattle.format.proofs.Longest.{Narrow, short, narrow-step, narrow-line, longest}
 use Rattle.file.specs.Saved.{saved, save, saveInto, saveBy, saveChecks, filledBy}
-use Rattle.file.specs.Loaded.{load}
+use Rattle.file.specs.Loaded.{nextLimit, nextNumber, readChecks, drawing, firstRefusal, loadVerdict, loadBy, load}
+use Rattle.file.proofs.Drawn.{both-fine}
+use Rattle.file.proofs.Rising.{number-in}
 use Rattle.state.specs.declared.State.{State}
+use Rattle.state.specs.View.{view}
 use Rattle.state.specs.declared.Answer.{Answer}
 use Rattle.state.specs.declared.Answer.the-variants.{Refused, Given}
 use Rattle.state.specs.Meets.{firstOf, answerOf}
-use Rattle.state.specs.declared.Answered.{Answered}
-use Rattle.state.specs.View.{view, blankState}
-use Rattle.load.specs.Loading.{MeetsLoad}
-use Rattle.sheet.specs.declared.Piece.{Piece}
+use Rattle.state.specs.Spread.{isAccepted}
+use Rattle.run.specs.Progress.{Ran, ran, Advanced}
+use Rattle.run.proofs.Putting.{text-some}
 use Rattle.sheet.specs.Runs.{handedBack}
-use Rattle.sheet.specs.Pieces.{Pieced}
-use Rattle.sheet.specs.Numbers.{entryNumber}
-use Rattle.sheet.specs.Entries.{turned-down, giving, onLoaded, planOf, savedBy, saveFrom}
+use Rattle.sheet.specs.Served.{begunAs, entryNumber, scaledAs, longAs, servedOn}
+use Rattle.sheet.proofs.Runs.{written-is, written-most, screened-is}
+use Rattle.sheet.specs.Entries.{onLoaded, planOf, savedBy, saveFrom}
 
 -- ---- how much a run can write
 
@@ -70,23 +73,51 @@ number-small room p sheet g h written e ended n k =
     bit-few true = omega arith
     bit-few false = omega arith
 
--- ---- the plan of a sheet, by pieces
+-- ---- the plan that an entry begins on is narrow
 
-leaves-parts : (n : ℕ) (p : Plan) (ls : List (List ℕ)) → leaves (leaves p (take n ls)) (drop n ls) ≡ leaves p ls
-leaves-parts zero p ls = refl
-leaves-parts (suc n) p [] = refl
-leaves-parts (suc n) p (l ∷ ls) = leaves-parts n (lineStep l p .plan) ls
+narrow-end : (cs : List Call) (p : Plan) → Narrow (p .content) → Narrow (end cs p .content)
+narrow-end [] p g = g
+narrow-end (c ∷ cs) p g = narrow-end cs (following p c) (narrow-step c p g)
 
--- what is left to play after a piece leads to the same plan
-pub played : (sheet : List ℕ) (from : ℕ) (p : State) (lent : List ℕ) (r : Piece) (after : List ℕ) → length sheet ≤ 65536 → Pieced sheet from p lent r after
-    → leaves (view (r .state)) (lines (drop (r .next) sheet)) ≡ leaves (view p) (lines (drop from sheet))
-played sheet from p lent r after h k =
-    let e = le-ltb 65536 (length sheet) h in
-    ap₂ leaves (k .plan e) (k .rest e) ∙ leaves-parts (length (k .told)) (view p) (lines (drop from sheet))
+narrow-load : (f : List ℕ) (p : Plan) → Narrow (p .content) → Narrow (load f p .plan .content)
+unfolding load
+narrow-load f p g = by (loadVerdict f p) (λ e. number-in f p (both-fine (first (readChecks f p)) (firstRefusal (drawing f) p) e .0))
+  where
+    by : (v : Verdict) → (v ≡ fine → T (oneTo nextLimit (nextNumber f))) → Narrow (loadBy v f p .plan .content)
+    by fine k =
+        let n = narrow-end (drawing f) p g in
+        let r = range nextLimit (nextNumber f) (k refl) in
+        record {
+          rules = n .rules;
+          next = short (pos (nextNumber f)) (omega (arith, r .1));
+          base = n .base;
+          draft = n .draft;
+          sides = n .sides;
+          values = n .values;
+          kept = n .kept;
+          places = n .places;
+        }
+    by (refused k) e = g
 
-pub played-all : (sheet : List ℕ) (i : ℕ) (p : Plan) → length sheet ≤ i → p ≡ leaves p (lines (drop i sheet))
-unfolding lines
-played-all sheet i p h = rw (drop-of-length-le sheet {i = i} h)
+narrow-start : Narrow (start .content)
+narrow-start = record { rules = omega arith; next = short (pos 1) (omega arith); base = tt; draft = tt; sides = omega arith; values = tt; kept = omega arith; places = tt }
+
+pub narrow-begun : (loads : Bool) (file : List ℕ) (p : State) → view p ≡ begunAs loads file .plan → Narrow (view p .content)
+narrow-begun loads file p e = subst (λ (q : Plan). Narrow (q .content)) (sym e) (by loads)
+  where
+    by : (b : Bool) → Narrow (begunAs b file .plan .content)
+    by true = narrow-load file start narrow-start
+    by false = narrow-start
+
+-- ---- the plan of a sheet, played with no room for its answers
+
+pub played : (p : Plan) (ls : List (List ℕ)) → ran true 0 0 p ls ≡ record { bytes = []; rest = []; plan = leaves p ls; ended = false }
+unfolding ran
+played p [] = refl
+played p (l ∷ ls) =
+    let t = text (lineStep l p .answer) in
+    let some = text-some t (lineStep l p .answer) refl in
+    rw (le-ltb 0 0 (omega arith), lt-leb (length t) 0 some) (played (lineStep l p .plan) ls)
 
 -- ---- saving
 
@@ -124,26 +155,85 @@ saved-number p q sheet buffer a after n h e f g k =
         let len : u ≡ length (saved q) = given-first count u v w (length (saved q)) (x ∙ z) in
         subst (λ z. handedBack n after ≡ savedBy z q buffer) x (ap₂ handedBack (y ∙ ap (λ m. 256 * m) len) g)
 
-pub too-long : (p : Plan) (sheet buffer : List ℕ) → 65536 < length sheet → handedBack 52 buffer ≡ saveFrom p sheet buffer
-unfolding saveFrom
-too-long p sheet buffer h = rw (lt-ltb 65536 (length sheet) h)
+-- ---- the run of an entry, in front of the buffer
 
--- ---- on a loaded plan
+pub room-most : (saves : Bool) (n len : ℕ) → n ≡ cond saves 0 len → n ≤ len
+room-most true n len e = omega (arith, e)
+room-most false n len e = omega (arith, e)
 
-module _ (file buffer : List ℕ) (p : State) (r : Answered) (m : MeetsLoad file p r) (blank : p ≡ blankState) (g : Plan → Screened) where
-  from-start : onLoaded (load file (view p)) buffer g ≡ onLoaded (load file start) buffer g
-  from-start = ap (λ (x : State). onLoaded (load file (view x)) buffer g) blank
+-- the buffer is as long as it was
+pub back-length : (front : List ℕ) (room : ℕ) (area : List ℕ) → room ≤ length area → length front ≡ length (take room area) → length (front ++ drop room area) ≡ length area
+back-length front room area h e = let a = length-append front (drop room area) in let t = length-take room area in let d = length-drop room area in omega (arith, a, t, d, e)
 
+module _ (saves : Bool) (sheet area : List ℕ) (p : Plan) (room : ℕ) (room-is : room ≡ cond saves 0 (length area)) (q : Plan) (next written : ℕ) (ended : Bool) (front : List ℕ)
+    (h : Advanced saves 0 sheet 0 p (take room area) q next written ended front) where
+  -- one that answers has the whole of it
+  module _ (e : saves ≡ false) where
+    all-room : room ≡ length area
+    all-room = room-is ∙ ap (λ b. cond b 0 (length area)) e
+
+    lent-all : take room area ≡ area
+    lent-all = ap (λ n. take n area) all-room ∙ take-all (length area) area (omega arith)
+
+    answered : Advanced false 0 sheet 0 p area q next written ended front
+    answered = subst (λ xs. Advanced false 0 sheet 0 p xs q next written ended front) lent-all (subst (λ b. Advanced b 0 sheet 0 p (take room area) q next written ended front) e h)
+
+    pub run-written : written ≤ length area
+    run-written = written-most p sheet area front q next written ended answered
+
+    pub run-small : Narrow (p .content) → length sheet ≤ 65536 → (n : ℕ) → n ≡ 2 * written + bit ended → n < 4294967296
+    run-small g l n k = number-small (length area) p sheet g l written (written-is p sheet area front q next written ended answered) ended n k
+
+    pub run-served : (loads : Bool) → length sheet ≤ 65536 → (n : ℕ) → n ≡ 2 * written + bit ended → (m : ℕ) → m ≡ cond loads (256 * n) n
+        → handedBack m (front ++ drop room area) ≡ servedOn loads saves sheet area p
+    run-served loads l n k m j =
+        let s = screened-is p sheet area front q next written ended answered n k (le-ltb 65536 (length sheet) l) in
+        let none : drop room area ≡ [] = drop-of-length-le area {i = room} (omega (arith, all-room)) in
+        let b : front ++ drop room area ≡ front = ap (λ xs. front ++ xs) none ∙ append-nil front in
+        rw e (ap₂ handedBack j b ∙ ap (scaledAs loads) s)
+
+  -- one that saves has none
+  module _ (e : saves ≡ true) where
+    no-room : room ≡ 0
+    no-room = room-is ∙ ap (λ b. cond b 0 (length area)) e
+
+    played-on : Advanced true 0 sheet 0 p [] q next written ended front
+    played-on = subst (λ n. Advanced true 0 sheet 0 p (take n area) q next written ended front) no-room
+        (subst (λ b. Advanced b 0 sheet 0 p (take room area) q next written ended front) e h)
+
+    plan-is : q ≡ planOf p sheet
+    plan-is = played-on .plan ∙ ap (λ (r : Ran). r .plan) (played p (lines sheet))
+
+    untouched : front ++ drop room area ≡ area
+    untouched =
+        let none : front ≡ [] = played-on .buffer ∙ ap (λ (r : Ran). inFront (r .bytes) []) (played p (lines sheet)) in
+        ap₂ (λ xs n. xs ++ drop n area) none no-room
+
+    pub save-served : (loads : Bool) → length sheet ≤ 65536 → (a : Answer) (after : List ℕ) → answerOf a ≡ save (length (front ++ drop room area)) q .answer
+        → after ≡ saveInto q (front ++ drop room area) → (n : ℕ) → n ≡ entryNumber a → handedBack n after ≡ servedOn loads saves sheet area p
+    save-served loads l a after x y n k =
+        rw e (saved-number p q sheet area a after n l plan-is (x ∙ ap (λ xs. save (length xs) q .answer) untouched) (y ∙ ap (saveInto q) untouched) k)
+
+-- a sheet that is too long
+pub long-served : (loads saves : Bool) (sheet area : List ℕ) (p : Plan) → 65536 < length sheet → longAs loads saves area ≡ servedOn loads saves sheet area p
+unfolding screen replies saveFrom
+long-served loads saves sheet area p h = let t = lt-ltb 65536 (length sheet) h in rw t
+
+-- ---- on the plan that an entry begins on
+
+module _ (l : Stepped) (buffer : List ℕ) (g : Plan → Screened) (a : Answer) (a-is : answerOf a ≡ l .answer) where
   -- a file that is refused
-  pub load-refused : (k j : ℕ) → r .answer ≡ Refused k j → handedBack k buffer ≡ onLoaded (load file start) buffer g
-  load-refused k j e = told (load file (view p)) (sym (m .answer) ∙ ap answerOf e) ∙ from-start
+  pub turned : isAccepted a ≡ false → (n : ℕ) → n ≡ entryNumber a → handedBack n buffer ≡ onLoaded l buffer g
+  turned r n e = by a a-is r e
     where
-      told : (l : Stepped) → l .answer ≡ no k → handedBack k buffer ≡ onLoaded l buffer g
-      told l e = subst (λ x. handedBack k buffer ≡ onLoaded (record { answer = x; plan = l .plan }) buffer g) (sym e) refl
+      by : (a : Answer) → answerOf a ≡ l .answer → isAccepted a ≡ false → n ≡ entryNumber a → handedBack n buffer ≡ onLoaded l buffer g
+      by (Refused k j) x r e = ap (λ m. handedBack m buffer) e ∙ subst (λ y. handedBack k buffer ≡ onLoaded (record { answer = y; plan = l .plan }) buffer g) x refl
+      by (Given n u v w) x r e = absurd (subst T r tt)
 
-  -- a file that loads
-  pub load-accepted : (n a b c : ℕ) → r .answer ≡ Given n a b c → (s : Screened) → s ≡ g (view (r .state)) → s ≡ onLoaded (load file start) buffer g
-  load-accepted n a b c e s k = k ∙ ap g (m .plan) ∙ taken (load file (view p)) (sym (m .answer) ∙ ap answerOf e) ∙ from-start
+  -- one that loads, or none
+  pub taken : isAccepted a ≡ true → (q : Plan) → q ≡ l .plan → (s : Screened) → s ≡ g q → s ≡ onLoaded l buffer g
+  taken r q e s k = k ∙ ap g e ∙ by a a-is r
     where
-      taken : (l : Stepped) → l .answer ≡ ok (firstOf n a b c) → g (l .plan) ≡ onLoaded l buffer g
-      taken l e = subst (λ x. g (l .plan) ≡ onLoaded (record { answer = x; plan = l .plan }) buffer g) (sym e) refl
+      by : (a : Answer) → answerOf a ≡ l .answer → isAccepted a ≡ true → g (l .plan) ≡ onLoaded l buffer g
+      by (Refused k j) x r = absurd (is-yes r)
+      by (Given n u v w) x r = subst (λ y. g (l .plan) ≡ onLoaded (record { answer = y; plan = l .plan }) buffer g) x refl

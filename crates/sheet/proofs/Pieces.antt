@@ -28,7 +28,7 @@ use Rattle.state.specs.Spread.{spread, sideOf}
 use Rattle.state.specs.View.{view}
 use Rattle.state.proofs.View.{sides-most}
 use Rattle.state.proofs.Owned.{Ranged}
-use Rattle.run.specs.Progress.{Ran, ran, Advanced}
+use Rattle.run.specs.Progress.{Ran, behindRan, ran, Advanced}
 use Rattle.sheet.specs.Runs.{handedBack}
 use Rattle.sheet.specs.declared.Piece.{Piece}
 use Rattle.sheet.specs.Pieces.{flat, due, Pieced, Pieces, over, piece}
@@ -77,19 +77,35 @@ record Shared (room : ℕ) (p : Plan) (ls : List (List ℕ)) (r : Ran) : Type 0 
 unbegun : (room : ℕ) (p : Plan) (ls : List (List ℕ)) → room < longestAnswer → Shared room p ls (record { bytes = []; rest = ls; plan = p; ended = false })
 unbegun room p ls h = record { told = []; parts = refl; plan = refl; left = refl; bytes = refl; room-for = omega arith; fewer = omega arith; further = λ a b. absurd (omega arith) }
 
-shared : (room : ℕ) (p : Plan) (ls : List (List ℕ)) → Narrow (p .content) → Shared room p ls (ran longestAnswer room p ls)
-unfolding ran answerLines
-shared room p [] g = record { told = []; parts = refl; plan = refl; left = refl; bytes = refl; room-for = omega arith; fewer = omega arith; further = λ a b. absurd (omega arith) }
+-- what a run does with the next line
+ran-unbegun : (reserve room : ℕ) (p : Plan) (l : List ℕ) (ls : List (List ℕ)) → ltb room reserve ≡ true
+    → ran false reserve room p (l ∷ ls) ≡ record { bytes = []; rest = l ∷ ls; plan = p; ended = false }
+unfolding ran
+ran-unbegun reserve room p l ls h = rw h
+
+ran-fits : (reserve room : ℕ) (p : Plan) (l : List ℕ) (ls : List (List ℕ)) → ltb room reserve ≡ false → leb (length (text (lineStep l p .answer))) room ≡ true
+    → ran false reserve room p (l ∷ ls) ≡ behindRan (text (lineStep l p .answer)) (ran false reserve (room - length (text (lineStep l p .answer))) (lineStep l p .plan) ls)
+unfolding ran
+ran-fits reserve room p l ls h e = rw (h, e)
+
+ran-none : (reserve room : ℕ) (p : Plan) → ran false reserve room p [] ≡ record { bytes = []; rest = []; plan = p; ended = false }
+unfolding ran
+ran-none reserve room p = refl
+
+shared : (room : ℕ) (p : Plan) (ls : List (List ℕ)) → Narrow (p .content) → Shared room p ls (ran false longestAnswer room p ls)
+unfolding answerLines
+shared room p [] g = subst (Shared room p []) (sym (ran-none longestAnswer room p))
+    (record { told = []; parts = refl; plan = refl; left = refl; bytes = refl; room-for = omega arith; fewer = omega arith; further = λ a b. absurd (omega arith) })
 shared room p (l ∷ ls) g =
     let t = text (lineStep l p .answer) in
     cases (ltb room longestAnswer)
-    (λ h. rw h (unbegun room p (l ∷ ls) (ltb-true room longestAnswer h)))
+    (λ h. subst (Shared room p (l ∷ ls)) (sym (ran-unbegun longestAnswer room p l ls h)) (unbegun room p (l ∷ ls) (ltb-true room longestAnswer h)))
     (λ h.
     let k = longest l p g in
     let m = ltb-false room longestAnswer h in
     let r = shared (room - length t) (lineStep l p .plan) ls (narrow-line l p g) in
     let e = length-append t (flat (r .told)) in
-    rw (h, le-leb (length t) room (omega arith)) (record {
+    subst (Shared room p (l ∷ ls)) (sym (ran-fits longestAnswer room p l ls h (le-leb (length t) room (omega arith)))) (record {
       told = t ∷ r .told;
       parts = ap {B = List (List ℕ)} (λ ts. t ∷ ts) (r .parts);
       plan = r .plan;
@@ -135,7 +151,7 @@ moved sheet from next h = cases (ltb from next)
 
 module _ (sheet : List ℕ) (from : ℕ) (p : State) (lent : List ℕ) where
   -- of a sheet that is not too long
-  pub piece-run : Ranged p → (q : State) (next written : ℕ) (ended : Bool) (after : List ℕ) → length sheet ≤ 65536 → Advanced longestAnswer sheet from (view p) lent (view q) next written ended after
+  pub piece-run : Ranged p → (q : State) (next written : ℕ) (ended : Bool) (after : List ℕ) → length sheet ≤ 65536 → Advanced false longestAnswer sheet from (view p) lent (view q) next written ended after
       → Pieced sheet from p lent (record { state = q; next = next; written = written }) after
   piece-run g q next written ended after fits h =
       let s = shared (length lent) (view p) (lines (drop from sheet)) (narrow-view p g) in

@@ -22,7 +22,7 @@ use Rattle.sheet.specs.Runs.{handedBack}
 abbrev wholeOf : Ran → Fitted
 wholeOf r = record { bytes = r .bytes; ended = r .ended }
 
-ran-fitted : (room : ℕ) (p : Plan) (ls : List (List ℕ)) → wholeOf (ran 0 room p ls) ≡ fitted room (answerLines p ls)
+ran-fitted : (room : ℕ) (p : Plan) (ls : List (List ℕ)) → wholeOf (ran false 0 room p ls) ≡ fitted room (answerLines p ls)
 unfolding ran fitted answerLines
 ran-fitted room p [] = refl
 ran-fitted room p (l ∷ ls) =
@@ -40,11 +40,11 @@ fitted-most room (t ∷ ts) =
     (λ e. rw e (let a = length-append t (fitted (room - length t) ts .bytes) in let h = leb-true (length t) room e in omega arith))
     (λ e. rw e (omega arith))
 
-module _ (p : Plan) (sheet area after : List ℕ) (q : Plan) (next written : ℕ) (ended : Bool) (h : Advanced 0 sheet 0 p area q next written ended after) where
+module _ (p : Plan) (sheet area after : List ℕ) (q : Plan) (next written : ℕ) (ended : Bool) (h : Advanced false 0 sheet 0 p area q next written ended after) where
   abbrev whole : Fitted
   whole = fitted (length area) (answerLines p (lines sheet))
 
-  ran-whole : wholeOf (ran 0 (length area) p (lines (drop 0 sheet))) ≡ whole
+  ran-whole : wholeOf (ran false 0 (length area) p (lines (drop 0 sheet))) ≡ whole
   ran-whole = ran-fitted (length area) p (lines sheet)
 
   pub written-is : written ≡ length (whole .bytes)

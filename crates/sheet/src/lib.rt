@@ -6,12 +6,15 @@ ghost use lib.ListN.{length};
 ghost use Rattle.protocol.specs.Lists.{bit};
 ghost use Rattle.protocol.specs.Calls.{no, start};
 ghost use Rattle.format.specs.Sheets.{screen, text, fitted, screened};
+ghost use mathlib.Core.Bool.{cond};
+ghost use Rattle.state.specs.Meets.{answerOf};
 ghost use Rattle.state.specs.View.{view};
 ghost use Rattle.sheet.specs.Runs.{handedBack};
-ghost use Rattle.sheet.specs.Entries.{loadEntry, planOf, saveFrom, saveEntry, saveOnEntry};
-ghost use Rattle.sheet.specs.Numbers.{entryNumber};
+ghost use Rattle.sheet.specs.Entries.{loadEntry, saveEntry, saveOnEntry};
+ghost use Rattle.sheet.specs.Served.{begunAs, entryNumber, longAs, served};
 ghost use Rattle.sheet.specs.Pieces.{Pieced};
 use state::Answer;
+use state::Answered;
 use state::State;
 
 // The most bytes that a sheet has.
@@ -19,9 +22,6 @@ const LIMIT: usize = 65536;
 
 // Room for the longest answer line (format/specs/Longest): a line is begun only where this much is free.
 const RESERVE: usize = 387;
-
-// How many bytes of answers are dropped at once where only the plan that a sheet leaves is wanted.
-const ANSWERS: usize = 4096;
 
 // A piece of a run: the plan that it leaves, the place of the line that comes next, and how many bytes it wrote.
 pub struct Piece {
@@ -58,58 +58,21 @@ fn refuse_sheet(area: &mut [u8]) -> u64
     handed(6, false)
 }
 
-// The whole run, on a plan. The number is small: a line has one answer.
-fn run_from(p: State, sheet: &[u8], area: &mut [u8]) -> u64
-    ensures { λ r. ⌜ (handedBack r (now (area .exit)) ≡ screen (view p) (now (sheet .entry)) (now (area .entry))) × (r < 4294967296) ⌝ }
-{
-    if LIMIT < sheet.len() {
-        return refuse_sheet(area);
-    }
-    let r = run::advance(p, 0, sheet, 0, area);
-    handed(r.written, r.ended)
-}
+// ---- the entries
 
-// The whole run, from a blank plan.
-pub fn run(sheet: &[u8], area: &mut [u8]) -> u64
-    ensures { λ r. ⌜ handedBack r (now (area .exit)) ≡ screen start (now (sheet .entry)) (now (area .entry)) ⌝ }
+// The plan that an entry begins on, the blank one or that of a file, and what loading answered.
+fn begun(loads: bool, file: &[u8]) -> Answered
+    ensures { λ r. ⌜ (answerOf (r .answer) ≡ begunAs loads (now (file .entry)) .answer) × (view (r .state) ≡ begunAs loads (now (file .entry)) .plan) ⌝ }
 {
     let p = state::blank();
-    run_from(p, sheet, area)
-}
-
-// ---- saved plans (02, S-1)
-
-// A sheet run on the plan of a file.
-pub fn run_on(file: &[u8], sheet: &[u8], area: &mut [u8]) -> u64
-    ensures { λ r. ⌜ handedBack r (now (area .exit)) ≡ loadEntry (now (file .entry)) (now (sheet .entry)) (now (area .entry)) ⌝ }
-{
-    let p = state::blank();
-    let r = load::load(p, file);
-    let answer = r.answer;
-    match answer {
-        Answer::Refused(k, _) => k as u64,
-        Answer::Given(_, _, _, _) => 256 * run_from(r.state, sheet, area),
+    if loads {
+        return load::load(p, file);
     }
+    let answer = Answer::Given(0, 0, 0, 0);
+    Answered { state: p, answer }
 }
 
-// The plan that a sheet's lines leave. Their answers go into a buffer that is written over again and again.
-fn play(p: State, sheet: &[u8]) -> State
-    requires { ⌜ length (now sheet) ≤ 65536 ⌝ }
-    ensures { λ r. ⌜ view r ≡ planOf (view p) (now (sheet .entry)) ⌝ }
-{
-    let mut state = p;
-    let mut answers = [0u8; ANSWERS];
-    let mut i: usize = 0;
-    while i < sheet.len() {
-        let r = next_piece(state, sheet, i, &mut answers);
-        let next = r.state;
-        state = next;
-        i = r.next;
-    }
-    state
-}
-
-// The number of an entry that saves, from what saving answers.
+// The number of an entry, from what loading or saving answered.
 fn entry_number(answer: Answer) -> u64
     ensures { λ r. ⌜ r ≡ entryNumber answer ⌝ }
 {
@@ -119,35 +82,84 @@ fn entry_number(answer: Answer) -> u64
     }
 }
 
-// The plan of a sheet, saved.
-fn save_from(p: State, sheet: &[u8], area: &mut [u8]) -> u64
-    ensures { λ r. ⌜ handedBack r (now (area .exit)) ≡ saveFrom (view p) (now (sheet .entry)) (now (area .entry)) ⌝ }
+// The number of a run, as the entry gives it.
+fn scaled(loads: bool, n: u64) -> u64
+    requires { ⌜ n < 4294967296 ⌝ }
+    ensures { λ r. ⌜ r ≡ cond loads (256 * n) n ⌝ }
 {
-    if LIMIT < sheet.len() {
-        return 52;
+    if loads {
+        return 256 * n;
     }
-    let q = play(p, sheet);
-    entry_number(save::save(q, area))
+    n
 }
 
+// A sheet that is too long.
+fn refuse_long(loads: bool, saves: bool, area: &mut [u8]) -> u64
+    ensures { λ r. ⌜ handedBack r (now (area .exit)) ≡ longAs loads saves (now (area .entry)) ⌝ }
+{
+    if saves {
+        return 52;
+    }
+    scaled(loads, refuse_sheet(area))
+}
+
+// An entry that saves lends its run no room.
+fn room_for(saves: bool, len: usize) -> usize
+    ensures { λ r. ⌜ r ≡ cond saves 0 len ⌝ }
+{
+    if saves {
+        return 0;
+    }
+    len
+}
+
+// All entries: on a blank plan or that of a file, a sheet is run and answered, or its answers are dropped and the plan that it leaves is saved. One function for
+// all, so that the run is compiled into it, and no plan is copied on the way.
+fn serve(loads: bool, saves: bool, file: &[u8], sheet: &[u8], area: &mut [u8]) -> u64
+    ensures { λ r. ⌜ handedBack r (now (area .exit)) ≡ served loads saves (now (file .entry)) (now (sheet .entry)) (now (area .entry)) ⌝ }
+{
+    let b = begun(loads, file);
+    let answer = b.answer;
+    if !state::accepted(answer) {
+        return entry_number(answer);
+    }
+    if LIMIT < sheet.len() {
+        return refuse_long(loads, saves, area);
+    }
+    let room = room_for(saves, area.len());
+    let r = run::advance(b.state, saves, 0, sheet, 0, &mut area[..room]);
+    if saves {
+        return entry_number(save::save(r.state, area));
+    }
+    scaled(loads, handed(r.written, r.ended))
+}
+
+// The whole run, from a blank plan.
+pub fn run(sheet: &[u8], area: &mut [u8]) -> u64
+    ensures { λ r. ⌜ handedBack r (now (area .exit)) ≡ screen start (now (sheet .entry)) (now (area .entry)) ⌝ }
+{
+    serve(false, false, sheet, sheet, area)
+}
+
+// A sheet run on the plan of a file (02, S-1).
+pub fn run_on(file: &[u8], sheet: &[u8], area: &mut [u8]) -> u64
+    ensures { λ r. ⌜ handedBack r (now (area .exit)) ≡ loadEntry (now (file .entry)) (now (sheet .entry)) (now (area .entry)) ⌝ }
+{
+    serve(true, false, file, sheet, area)
+}
+
+// The plan of a sheet, saved.
 pub fn save(sheet: &[u8], area: &mut [u8]) -> u64
     ensures { λ r. ⌜ handedBack r (now (area .exit)) ≡ saveEntry (now (sheet .entry)) (now (area .entry)) ⌝ }
 {
-    let p = state::blank();
-    save_from(p, sheet, area)
+    serve(false, true, sheet, sheet, area)
 }
 
 // The same on the plan of a file.
 pub fn save_on(file: &[u8], sheet: &[u8], area: &mut [u8]) -> u64
     ensures { λ r. ⌜ handedBack r (now (area .exit)) ≡ saveOnEntry (now (file .entry)) (now (sheet .entry)) (now (area .entry)) ⌝ }
 {
-    let p = state::blank();
-    let r = load::load(p, file);
-    let answer = r.answer;
-    match answer {
-        Answer::Refused(k, _) => k as u64,
-        Answer::Given(_, _, _, _) => save_from(r.state, sheet, area),
-    }
+    serve(true, true, file, sheet, area)
 }
 
 // ---- piece by piece
@@ -187,7 +199,7 @@ pub fn next_piece(p: State, sheet: &[u8], from: usize, area: &mut [u8]) -> Piece
     if LIMIT < sheet.len() {
         return refuse_piece(p, sheet, from, area);
     }
-    let r = run::advance(p, RESERVE, sheet, from, area);
+    let r = run::advance(p, false, RESERVE, sheet, from, area);
     let state = r.state;
     Piece {
         state,

@@ -1,5 +1,5 @@
 use mathlib.Core.Path.{sym, ap}
-use Rattle.sheet.specs.Numbers.{entryNumber}
+use Rattle.sheet.specs.Served.{entryNumber}
 use borrow.Author.Needs.{needs}
 use Rattle.sheet.proofs.entry_number.Statement.{statement}
 use Rattle.sheet.proofs.entry_number.Tie as tie
