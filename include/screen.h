@@ -1,8 +1,8 @@
-/* The drawing screen's entry to Molzaken: runs a sheet of lines and puts the answers into a buffer.
+/* The drawing screen's entries to Molzaken: run a sheet of lines and put the answers into a buffer; save the plan of a sheet, load it again.
  *
- * Link with libscreen.a (`rt staticlib screen` writes it to target/staticlib). The call keeps no memory, reads and writes nothing but
- * the two buffers, and may be made from several threads at once. It needs less than 80 KB of stack
- * (a host with that limit ran; one with 60 KB did not).
+ * Link with libscreen.a (`rt staticlib screen` writes it to target/staticlib). A call keeps no memory, reads and writes nothing but
+ * the buffers that it is lent, and may be made from several threads at once. It needs less than 80 KB of stack
+ * (a host with a limit of 60 KB ran, one with 40 KB did not).
  */
 #ifndef MOLZAKEN_SCREEN_H
 #define MOLZAKEN_SCREEN_H
