@@ -162,7 +162,14 @@ fn go(
 // Goes on from a line of the sheet, as long as `reserve` bytes of the area are free and each answer fits. The rules of a plan that is handed in
 // blank are tested when it is opened, those of a whole one at once; of another nothing is known. Where it is to go on (`on`), an answer that does not fit is
 // dropped, and does not end the run: an owner that wants only the plan lends no room.
-pub fn advance(p: State, on: bool, reserve: usize, sheet: &[u8], from: usize, area: &mut [u8]) -> Progress
+pub fn advance(
+    p: State,
+    on: bool,
+    reserve: usize,
+    sheet: &[u8],
+    from: usize,
+    area: &mut [u8],
+) -> Progress
     ensures { λ r. ⌜ Advanced on reserve (now (sheet .entry)) from (view p) (now (area .entry)) (view (r .state)) (r .next) (r .written) (r .ended) (now (area .exit)) ⌝ }
 {
     let h = p.head;
