@@ -2,7 +2,7 @@
 use Prim.Native.Nat.{ℕ, _+_}
 use mathlib.Core.Path.{_≡_, refl, sym, ap, ap₂, subst, _∙_}
 use mathlib.Core.Logic.{_⊎_, inl, inr}
-use mathlib.Core.Bool.{Bool, true, not, _&&_, _||_}
+use mathlib.Core.Bool.{Bool, true, not, _&&_, _||_, and-false}
 use mathlib.Core.List.{List, [], _∷_, _++_, append-assoc}
 use native.Mathlib.Omega.{arith}
 use lib.Dec.{T, T-not, not-T}
@@ -11,7 +11,7 @@ use Rattle.protocol.specs.Lists.{bit, all, snoc}
 use Rattle.protocol.specs.Plan.{Mode, blank, whole, split, joining, closing, is, active, Plan}
 use Rattle.protocol.specs.Calls.{Call, install, Verdict, fine, refused, Answer, no, ok, leftIn, step}
 use Rattle.protocol.specs.History.{History}
-use Rattle.protocol.proofs.Laws.{on, both, which, and-in, and-false, yes-is}
+use Rattle.protocol.proofs.Laws.{on, both, which, and-in, yes-is}
 use Rattle.guarantee.specs.Runs.{closes, edits, isOk, accepts, quiet, closings}
 use Rattle.guarantee.specs.Guarantee.{Stuck}
 use Rattle.guarantee.proofs.Guaranteed.{which-closing, if-taken, stays-put, able-with, one-on, shut, not-editing}

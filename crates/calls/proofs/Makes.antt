@@ -2,9 +2,9 @@
 use Prim.Native.Nat.{ℕ, _+_, _<_, _≤_, min}
 use native.Mathlib.Omega.{arith}
 use mathlib.Core.Path.{_≡_, refl, sym, ap, _∙_, subst}
-use mathlib.Core.Bool.{Bool, true, false, not, cond, _&&_}
+use mathlib.Core.Bool.{Bool, true, false, not, cond, _&&_, and-false}
 use mathlib.Core.List.{List, []}
-use mathlib.Core.Option.{Option, none, some}
+use mathlib.Core.Option.{none, some}
 use lib.Dec.{T, eqb}
 use borrow.Author.Tests.{eqb-true}
 use lib.IntN.{ℤ, pos}
@@ -65,7 +65,7 @@ use Rattle.state.specs.Spread.{spread}
 use Rattle.state.specs.View.{view, stateOf}
 use Rattle.calls.specs.declared.Effect.{Effect}
 use Rattle.calls.specs.declared.Look.{Look}
-use Rattle.calls.specs.Makes.{asked, looksAt, askedAt, firstLook, secondLook, IndexedIn, Known, Makes, noted, Making, isMove, isDraw, plain, stored}
+use Rattle.calls.specs.Makes.{looksAt, askedAt, firstLook, secondLook, IndexedIn, Known, Makes, noted, Making, isMove, isDraw, plain, stored}
 use Rattle.calls.proofs.Turning.{line-edit, line-replay, line-send, line-moves, line-draws, Made, meets-made, edit-rules, move-rules, drawn-before, drawn-blank, indexed-still, edit-held, replay-held, tallied-made, settled-few, edit-counts, send-counts, move-counts, draw-counts}
 
 -- ---- a refusal leaves the state as it was
@@ -90,10 +90,6 @@ refused-same (Given count l m n) e x = absurd (is-yes (sym e))
 and-true : (b : Bool) → (b && true) ≡ b
 and-true true = refl
 and-true false = refl
-
-and-false : (b : Bool) → (b && false) ≡ false
-and-false true = refl
-and-false false = refl
 
 -- a move of the join is no edit
 move-counted : (op : ℕ) → isMove op ≡ true → eqb op 5 ≡ false

@@ -1,23 +1,23 @@
 -- A call made on a state: the call of a line, the rules and the counts after it. Assumes nothing.
-use Prim.Native.Nat.{ℕ, zero, suc, _+_, _-_, _<_, _≤_, min}
+use Prim.Native.Nat.{ℕ, _-_, _<_, _≤_, min}
 use native.Mathlib.Omega.{arith}
 use mathlib.Core.Path.{_≡_, refl, sym, ap, _∙_, subst}
-use mathlib.Core.Bool.{Bool, true, false, not, cond, _&&_, _||_}
+use mathlib.Core.Bool.{Bool, true, false, not, cond, _&&_}
 use mathlib.Core.List.{List, []}
 use mathlib.Core.Option.{Option, none, some}
 use borrow.Author.Tests.{eqb-true, eqb-false, ne-eqb, lt-ltb, ltb-true, ltb-false}
-use lib.Dec.{T, eqb, ltb, leb}
+use lib.Dec.{T, eqb, ltb}
 use lib.IntN.{ℤ, pos}
-use lib.ListN.{length, getD, set, length-set}
-use Rattle.protocol.specs.Lists.{bit, natural, oneTo, count}
+use lib.ListN.{length, getD}
+use Rattle.protocol.specs.Lists.{natural, oneTo, count}
 use Rattle.protocol.specs.Plan.{Mode, modeNumber, is, blank, whole, split, joining, closing, holds, isSettled, absentSide, sideAt}
 use Rattle.protocol.specs.Calls as model
-use Rattle.protocol.specs.Calls.{Call, measure, rule, open-plan, split-side, edit, send, replay, Verdict, fine, refused, first, belongs, firstValues, withBase, onKept, checks, further, after, step, stepBy, no, ok}
-use Rattle.protocol.proofs.Laws.{cases, Pass, passed, both, or-left, or-right, is-yes, is-no, yes-is, range, all-nth}
+use Rattle.protocol.specs.Calls.{Call, measure, rule, open-plan, edit, send, replay, Verdict, fine, refused, first, belongs, firstValues, withBase, onKept, checks, further, after, step, stepBy, no, ok}
+use Rattle.protocol.proofs.Laws.{cases, Pass, passed, both, is-yes, is-no, yes-is, range, all-nth}
 use Rattle.guarantee.specs.Holding.{Holding}
 use Rattle.guarantee.proofs.Kept.{settled-count}
 use Rattle.guarantee.proofs.Holding.{holding-step}
-use Rattle.format.specs.Sheets.{stepOf, text}
+use Rattle.format.specs.Sheets.{stepOf}
 use Rattle.rows.specs.Rows.{row}
 use Rattle.rows.proofs.Spans.{length-span}
 use Rattle.state.specs.declared.State.{State}
@@ -28,11 +28,9 @@ use Rattle.state.specs.Spread.{SpreadAnswered}
 use Rattle.state.specs.Spread.{planOf, rulesOf}
 use Rattle.state.specs.Spread.{namedIn}
 use Rattle.heads.specs.Heads.{modeOf, sidesIn, indexOf, offsetOf, measuresIn, keptIn, endIn}
-use Rattle.records.specs.declared.EditRecord.{EditRecord}
-use Rattle.records.specs.Records.{keptOf, keptAt, noRecord, testOf}
+use Rattle.records.specs.Records.{keptOf, keptAt, noRecord}
 use Rattle.state.specs.Meets.{answerOf, refusal}
 use Rattle.state.specs.Spread.{MeetsSpread}
-use Rattle.state.specs.Sizes.{Sized}
 use Rattle.state.proofs.View.{sides-length, sides-most, side-at}
 use Rattle.edit.specs.declared.Ruling.{Ruling}
 use Rattle.edit.specs.declared.Ruling.the-variants.{Refused as Denied, Granted}

@@ -11,9 +11,9 @@ use lib.ListN.{length, getD, set, length-set, length-map}
 use Rattle.protocol.specs.Lists.{bit, isNone, oneTo, countTo, natural, count, snoc}
 use Rattle.protocol.specs.Plan.{Edit, Kept, Fate, unsent, waiting, accepted, revoked, fateIs, Mode, blank, whole, split, joining, closing, is, Content, Plan, isUnsent, isWaiting, isSettled, active, made, absentSide, sideAt, lookup, unsentOf, pending, sidesThat, keptLimit}
 use Rattle.protocol.specs.Calls.{Call, measure, rule, open-plan, split-side, edit, join, send, replay, stop, confirm, install, show, fate-of, left, checks, further, apart, editOf, onValues, hasArrived, hasConfirmed, reset, after, markSent, settled, update, replayable, nextPlace, leftOf}
-use Rattle.protocol.proofs.Laws.{cases, both, yes-is, is-yes, which, range, Pass, is-no, count-to-same, count-to-less, count-to-full, count-map, count-snoc, length-modify, nth-same, nth-other}
+use Rattle.protocol.proofs.Laws.{cases, both, yes-is, is-yes, which, range, Pass, is-no, count-to-same, count-to-less, count-to-full, count-map, count-snoc, length-modify, nth-same, nth-other, count-most}
 use Rattle.guarantee.proofs.Kept.{open-sent, unsent-sent, unsent-other, settled-count}
-use Rattle.guarantee.proofs.Left.{unarrived, sum, count-most, sum-most, sendTo, send-sum, unsent-settled, waiting-settled, open-settled, settled-settled, replayTo, replay-sum, stop-sum, confirmTo, arrived-confirmed, confirm-sum, newKept, editTo, arrived-edited, edit-sum, joinTo, side-joined, join-sum}
+use Rattle.guarantee.proofs.Left.{unarrived, sum, sum-most, sendTo, send-sum, unsent-settled, waiting-settled, open-settled, settled-settled, replayTo, replay-sum, stop-sum, confirmTo, arrived-confirmed, confirm-sum, newKept, editTo, arrived-edited, edit-sum, joinTo, side-joined, join-sum}
 use Rattle.guarantee.proofs.Holding.{only, plan}
 use Rattle.rows.proofs.Spans.{getD-set, getD-other, getD-blank}
 use Rattle.heads.specs.Heads.{modeOf, sidesIn, indexOf, unsetIn}

@@ -1,4 +1,5 @@
 -- Laws of signed numbers: sizes, ranges, and what a test on a local's bits says of the number. Assumes nothing.
+use Rattle.protocol.proofs.Laws.{yes-is}
 use Prim.Native.Nat.{ℕ, zero, suc, _+_, _*_, _/_, _-_, _<_, _≤_}
 use native.Mathlib.Nat.{mul-le-mul, mul-le-mul-left, mul-le-mul-right, div-le-self, div-zero}
 use native.Mathlib.Omega.{arith}
@@ -9,7 +10,7 @@ use lib.IntN.{ℤ, pos, negsuc, negℤ, natAbs, sucℤ, subℕ, _+ℤ_, _*ℤ_}
 use lib.Signed.{mag, leZ, ltZ, nonNeg, quotZ, ltZ-yes, leZ-yes, <ℤ-≤ℤ-trans}
 use borrow.Author.Tests.{ltb-true, ltb-false, leb-true, le-leb, lt-leb, ne-eqb}
 use mir.Syntax.{Width, w32, w64}
-use mir.Val.{SFits, toZ, ofZ, bits}
+use mir.Val.{SFits, toZ, ofZ}
 use mir.Facts.{toZ-ofZ, sfits-widen}
 use Rattle.protocol.specs.Lists.{within, natural, isZero}
 
@@ -88,11 +89,7 @@ flag y p e = rw (toZ-ofZ p) at e
 
 -- below a is below what is at least a
 pub lt-up : (x a b : ℤ) → T (leZ a b) → ltZ x a ≡ true → ltZ x b ≡ true
-lt-up x a b h e = yes (ltZ x b) (<ℤ-≤ℤ-trans (ltZ-yes {a = x} {b = a} (subst T (sym e) tt)) (leZ-yes {a = a} {b = b} h) .lt)
-  where
-    yes : (t : Bool) → T t → t ≡ true
-    yes true h = refl
-    yes false h = absurd h
+lt-up x a b h e = yes-is (ltZ x b) (<ℤ-≤ℤ-trans (ltZ-yes {a = x} {b = a} (subst T (sym e) tt)) (leZ-yes {a = a} {b = b} h) .lt)
 
 lt-suc : (a b : ℤ) → ltZ a (sucℤ b) ≡ leZ a b
 lt-suc (pos a) (pos b) = leb·suc-suc a b

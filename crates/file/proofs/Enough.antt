@@ -8,21 +8,13 @@ use borrow.Author.Tests.{ne-eqb, leb-false}
 use lib.Dec.{T, eqb, leb, eqb→eq, nltb→le}
 use lib.ListN.{length, length-append}
 use Rattle.protocol.specs.Lists.{bit, isNone, oneTo, countTo, count, all, any}
-use Rattle.protocol.proofs.Laws.{cases, is-yes, no-is, not-not, bit-no, both, and-in, neither, or-left, in-range, range, same-no, same-yes, count-to-less, count-to-zero, count-to-none}
+use Rattle.protocol.proofs.Laws.{cases, is-yes, no-is, not-not, bit-no, both, and-in, neither, or-left, in-range, range, same-no, same-yes, count-to-less, count-to-zero, count-to-none, count-to-most}
 use Rattle.file.specs.Bytes.{twoAt}
 use Rattle.file.specs.Loaded.{firstSlot, slotIn, slots, nextIn, chain, measureChain, ruleChain, met, elem, repeats, leavesFile, meetsTwice, missesSlot}
 use Rattle.file.specs.Promises.{ChainsEnd, ForEveryChain}
 use Rattle.file.proofs.Sums.{all-append}
 
 -- ---- different numbers of 1 .. n are at most n
-
-count-to-most : (f : ℕ → Bool) (n : ℕ) → countTo f n ≤ n
-count-to-most f zero = omega arith
-count-to-most f (suc n) = let ih = count-to-most f n in let b = bit-most (f (suc n)) in omega arith
-  where
-    bit-most : (b : Bool) → bit b ≤ 1
-    bit-most true = omega arith
-    bit-most false = omega arith
 
 -- those that pass and those that do not
 pub count-to-not : (g : ℕ → Bool) (n : ℕ) → countTo g n + countTo (λ s. not (g s)) n ≡ n

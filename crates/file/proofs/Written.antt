@@ -6,8 +6,8 @@ use mathlib.Core.List.{List, [], _∷_}
 use native.Mathlib.Omega.{arith}
 use borrow.Author.Tests.{ltb-false}
 use lib.Dec.{T, eqb, ltb, ltb→lt, eqb→eq}
-use lib.ListN.{length, getD, drop, drop-of-length-le}
-use lib.Seq.{drop-cons, getD-drop}
+use lib.ListN.{length, getD, drop}
+use lib.Seq.{getD-drop}
 use Rattle.protocol.specs.Lists.{isNone, neg, all}
 use Rattle.protocol.proofs.Laws.{cases, both, no-is}
 use Rattle.file.specs.Bytes.{wordSize, byteAt, twoBytes, fourBytes, complement, twoAt, fourAt, signed, signedAt, mark, kindBits, firmBit, highBits, measureKind, ruleKind}
@@ -15,7 +15,7 @@ use Rattle.file.specs.Saved.{slotZero, measureSlot, ruleSlot}
 use Rattle.file.specs.Loaded.{nextIn, markIn, valueIn, zeroFrom, clearMeasure, clearRule}
 use Rattle.file.specs.Promises.{isByte, ruleFrom}
 use Rattle.file.proofs.Words.{mark-parts, mark-firm}
-use Rattle.file.proofs.Cells.{cells, cells-of}
+use Rattle.file.proofs.Cells.{cells-of}
 use Rattle.file.proofs.Drawn.{firm-bit}
 
 -- ---- words

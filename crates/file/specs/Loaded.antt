@@ -126,10 +126,14 @@ module _ (f : List ℕ) where
 abbrev pub untouched : Plan → Bool
 untouched p = is blank (p .mode) && isNone (length (firstValues (p .content))) && isNone (length (p .content .rules))
 
-unfoldable pub readChecks : List ℕ → Plan → List Check
-readChecks f p =
-    (31 unless untouched p) ∷ (44 unless sized f) ∷ (45 unless balanced f)
+-- those of the file, in their order
+abbrev pub fileChecks : List ℕ → List Check
+fileChecks f =
+    (44 unless sized f) ∷ (45 unless balanced f)
     ∷ (46 when leavesFile f) ∷ (46 when meetsTwice f) ∷ (46 unless wellMarked f) ∷ (46 when missesSlot f) ∷ (46 unless clear f) ∷ (46 unless numbered f) ∷ []
+
+unfoldable pub readChecks : List ℕ → Plan → List Check
+readChecks f p = (31 unless untouched p) ∷ fileChecks f
 
 -- the refusals that are loading's own, beside the agreed list of the calls
 abbrev pub fileRefusals : List ℕ

@@ -1,7 +1,7 @@
 -- Scaffolding: a chain followed as a loop follows it, with the slots seen so far: what the tests of 46 come to (proofs/Walks). Assumes nothing.
 use Prim.Native.Nat.{ℕ, zero, suc}
 use mathlib.Core.Bool.{Bool, not, cond, _&&_}
-use mathlib.Core.List.{List, [], _∷_}
+use mathlib.Core.List.{List, _∷_}
 use lib.Dec.{T, eqb, ltb}
 use Rattle.protocol.specs.Lists.{isNone}
 use Rattle.file.specs.Bytes.{measureKind, ruleKind, kindBits}

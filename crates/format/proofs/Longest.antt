@@ -1,27 +1,27 @@
 -- No answer is longer than `longestAnswer`, on any plan whose numbers have at most 32 bits and whose lists keep to their limits; and every call keeps a plan so.
 -- Assumes nothing.
-use Prim.Native.Nat.{ℕ, zero, suc, _+_, _*_, _<_, _≤_}
+use Prim.Native.Nat.{ℕ, zero, suc, _*_, _<_, _≤_}
 use native.Mathlib.Omega.{arith}
-use mathlib.Core.Path.{_≡_, refl, ap, subst}
-use mathlib.Core.Bool.{Bool, true, false, not, cond, _&&_}
-use mathlib.Core.List.{List, [], _∷_, _++_, map}
+use mathlib.Core.Path.{_≡_, refl, ap}
+use mathlib.Core.Bool.{Bool, true, false, not, _&&_}
+use mathlib.Core.List.{List, [], _∷_}
 use mathlib.Core.Option.{Option, none, some}
 use lib.Dec.{T, eqb, leb, ltb, leb→le, ltb→lt, le→leb, eqb→eq, nltb→le, nleb→lt}
 use lib.IntN.{ℤ, pos, negsuc}
 use lib.ListN.{length, length-append, length-map}
-use lib.Signed.{mag, leZ}
-use Rattle.protocol.specs.Lists.{bit, countTo, natural, neg, within, count, all, any, snoc, nth, modify}
+use lib.Signed.{mag}
+use Rattle.protocol.specs.Lists.{bit, natural, within, all, any, snoc, nth}
 use Rattle.protocol.specs.Plan as plan
-use Rattle.protocol.specs.Plan.{measureLimit, valueLimit, ruleLimit, sideLimit, keptLimit, numberLimit, Kept, Side, Mode, Content, Plan, whole, is, inRange, isSettled, isOpen, applied, made, fits, effective, value, absentSide, sideAt, lookup, fateNumber, sidesThat}
-use Rattle.protocol.specs.Calls.{Call, measure, rule, open-plan, split-side, edit, join, send, replay, stop, confirm, install, show, fate-of, left, Verdict, fine, refused, first, checks, further, changeOf, editOf, ruleOf, apart, firstValues, reset, onValues, hasArrived, hasConfirmed, freshSide, markSent, settled, outcome, update, nextPlace, replayable, after, gives, leftIn, leftOf, fateIn, isRefusal, refusals, Answer, no, ok, Stepped, stepBy, step}
-use Rattle.protocol.proofs.Laws.{cases, yes-is, is-yes, both, and-in, Fine, Pass, passed, length-snoc, length-modify, all-snoc, all-map, all-modify, all-kept}
+use Rattle.protocol.specs.Plan.{measureLimit, valueLimit, ruleLimit, sideLimit, keptLimit, numberLimit, Kept, Side, Mode, Content, Plan, whole, is, inRange, isSettled, isOpen, applied, made, fits, effective, value, absentSide, sideAt, lookup, fateNumber}
+use Rattle.protocol.specs.Calls.{Call, measure, rule, open-plan, split-side, edit, join, send, replay, stop, confirm, install, show, fate-of, left, Verdict, fine, refused, first, checks, further, changeOf, editOf, ruleOf, apart, firstValues, reset, onValues, hasArrived, hasConfirmed, freshSide, markSent, outcome, update, nextPlace, replayable, after, gives, leftIn, leftOf, fateIn, refusals, no, ok, stepBy, step}
+use Rattle.protocol.proofs.Laws.{cases, yes-is, is-yes, both, and-in, Fine, Pass, passed, length-snoc, length-modify, all-snoc, all-map, all-modify, all-kept, count-to-most, count-most}
 use Rattle.protocol.proofs.Refusals.{AnswerAgreed, answer-agreed}
 use Rattle.format.specs.Numbers.{digits, written}
 use Rattle.format.specs.Lines.{lineCall}
 use Rattle.format.specs.Sheets.{spaced, text, stepOf, lineStep}
 use Rattle.format.specs.Longest.{numberWidth, longestAnswer}
 use Rattle.format.proofs.Digits.{length-most}
-use Rattle.format.proofs.Texts.{written-pos, written-below, spaced-more, text-no, text-ok, text-done}
+use Rattle.format.proofs.Texts.{written-pos, written-below, text-no, text-ok, text-done}
 
 -- ---- numbers
 
@@ -73,14 +73,6 @@ module _ {A : Type 0} where
   nth-all p d [] (suc n) t h = t
   nth-all p d (x ∷ xs) (suc zero) t h = both (p x) (all p xs) h .0
   nth-all p d (x ∷ xs) (suc (suc n)) t h = nth-all p d xs (suc n) t (both (p x) (all p xs) h .1)
-
-  count-most : (p : A → Bool) (xs : List A) → count p xs ≤ length xs
-  count-most p [] = omega arith
-  count-most p (x ∷ xs) = let i = count-most p xs in cases (p x) (λ e. rw e (omega arith)) (λ e. rw e (omega arith))
-
-count-to-most : (f : ℕ → Bool) (n : ℕ) → countTo f n ≤ n
-count-to-most f zero = omega arith
-count-to-most f (suc n) = let i = count-to-most f n in cases (f (suc n)) (λ e. rw e (omega arith)) (λ e. rw e (omega arith))
 
 length-update : (n : ℕ) (f : Kept → Kept) (ks : List Kept) → length (update n f ks) ≡ length ks
 length-update n f [] = refl

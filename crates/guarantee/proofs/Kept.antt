@@ -2,7 +2,7 @@
 use Prim.Native.Nat.{ℕ, suc, _+_, _<_, _≤_}
 use mathlib.Core.Path.{_≡_, refl, sym, ap, ap₂, _∙_}
 use mathlib.Core.Logic.{_⊎_, inl, inr, _≢_}
-use mathlib.Core.Bool.{Bool, true, false, not, cond, _&&_, _||_}
+use mathlib.Core.Bool.{Bool, true, false, not, cond, _&&_, _||_, and-false}
 use mathlib.Core.List.{List, [], _∷_, map}
 use native.Mathlib.Omega.{arith}
 use borrow.Author.Tests.{eq-eqb, ne-eqb, eqb-true, eqb-false}
@@ -13,7 +13,7 @@ use Rattle.protocol.specs.Lists.{bit, oneTo, count, all, snoc}
 use Rattle.protocol.specs.Plan.{Edit, Fate, unsent, waiting, accepted, revoked, fateNumber, fateIs, Kept, isUnsent, isWaiting, isOpen, isSettled, absentEdit, lookup, unsentOf}
 use Rattle.protocol.specs.Calls.{markSent, settled, update, fateIn}
 use Rattle.protocol.specs.History.{Entry, Settling, times, settledAs, listed, editIn}
-use Rattle.protocol.proofs.Laws.{on, decide, cases, bit-yes, bit-no, bit-zero, yes-is, is-yes, both, and-in, or-left, or-right, and-false, range, count-map}
+use Rattle.protocol.proofs.Laws.{on, decide, cases, bit-yes, bit-no, bit-zero, yes-is, is-yes, both, and-in, or-left, or-right, range, count-map}
 
 abbrev pub editsOf : List Kept → List Edit
 editsOf ks = map (λ k. k .edit) ks

@@ -1,9 +1,9 @@
 -- How the number left moves with each call, in any plan, whatever its history. Assumes nothing.
-use Prim.Native.Nat.{ℕ, zero, suc, _+_, _<_, _≤_}
+use Prim.Native.Nat.{ℕ, suc, _+_, _<_, _≤_}
 use mathlib.Core.Path.{_≡_, refl, sym, ap, _∙_}
 use mathlib.Core.Logic.{_≢_}
 use mathlib.Core.Bool.{Bool, true, false, not, cond, _&&_}
-use mathlib.Core.List.{List, [], _∷_, map}
+use mathlib.Core.List.{List, map}
 use native.Mathlib.Omega.{arith}
 use borrow.Author.Tests.{eq-eqb, ne-eqb, eqb-true, eqb-false}
 use lib.ListN.{length}
@@ -11,7 +11,7 @@ use lib.Dec.{T, eqb, lt→ltb}
 use Rattle.protocol.specs.Lists.{bit, oneTo, countTo, count, snoc, modify}
 use Rattle.protocol.specs.Plan.{Edit, unsent, isUnsent, isWaiting, isOpen, isSettled, Kept, Mode, joining, closing, is, Content, made, absentSide, sideAt, lookup, unsentOf, pending}
 use Rattle.protocol.specs.Calls.{withNext, withDraft, onSides, onKept, reset, onValues, hasArrived, hasConfirmed, markSent, replayable, settled, update, nextPlace}
-use Rattle.protocol.proofs.Laws.{cases, yes-is, is-no, or-right, range, count-to-same, count-to-less, count-to-full, count-map, count-snoc, nth-same, nth-other, nth-map, nth-field}
+use Rattle.protocol.proofs.Laws.{cases, yes-is, is-no, or-right, range, count-to-same, count-to-less, count-to-full, count-map, count-snoc, nth-same, nth-other, nth-map, nth-field, count-to-most, count-most, bit-most}
 use Rattle.guarantee.proofs.Kept.{count-settle, open-sent, unsent-sent, unsent-other, waiting-open, waiting-sent}
 
 abbrev pub unarrived : Content → ℕ → Bool
@@ -25,18 +25,6 @@ abbrev pub sum : Mode → Content → ℕ → ℕ
 sum m d n = countTo (pending d) n + count isOpen (d .kept) + countTo (unconfirmed d) n + bit (is joining m) + 1
 
 -- ---- how much it can be
-
-bit-most : (b : Bool) → bit b ≤ 1
-bit-most true = omega arith
-bit-most false = omega arith
-
-count-to-most : (f : ℕ → Bool) (n : ℕ) → countTo f n ≤ n
-count-to-most f zero = omega arith
-count-to-most f (suc n) = let r = count-to-most f n in let b = bit-most (f (suc n)) in omega arith
-
-pub count-most : {A : Type 0} (p : A → Bool) (xs : List A) → count p xs ≤ length xs
-count-most p [] = omega arith
-count-most p (x ∷ xs) = let r = count-most p xs in let b = bit-most (p x) in omega arith
 
 pub sum-most : (m : Mode) (d : Content) (n : ℕ) → sum m d n ≤ n + n + length (d .kept) + 2
 sum-most m d n =

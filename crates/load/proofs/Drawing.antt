@@ -1,13 +1,14 @@
 -- A file drawn by the program, slot by slot, is drawn by the definition's calls. Assumes nothing.
-use Prim.Native.Nat.{ℕ, zero, suc, _+_, _-_, _%_, _/_, _<_, _≤_}
+use Rattle.load.proofs.Reading.{zero-words}
+use Prim.Native.Nat.{ℕ, zero, suc, _+_, _-_, _%_, _/_, _<_}
 use native.Mathlib.Omega.{arith}
 use mathlib.Core.Path.{_≡_, refl, sym, ap, ap₂, subst, _∙_}
 use mathlib.Core.Bool.{Bool, false, cond, _&&_, and-false}
 use mathlib.Core.Logic.{_≢_}
 use mathlib.Core.List.{List, [], _∷_, _++_, map, append-nil, append-assoc}
-use borrow.Author.Tests.{ltb-true, ltb-false, lt-ltb, eq-eqb, ne-eqb}
+use borrow.Author.Tests.{ltb-true, ltb-false, eq-eqb, ne-eqb}
 use lib.Dec.{T, eqb, ltb, eqb→eq}
-use lib.IntN.{ℤ, pos}
+use lib.IntN.{ℤ}
 use lib.ListN.{length}
 use Rattle.protocol.specs.Lists.{isNone}
 use Rattle.protocol.specs.Plan.{Plan}
@@ -25,7 +26,7 @@ use Rattle.state.specs.declared.State.{State}
 use Rattle.state.specs.declared.Answer.{Answer}
 use Rattle.state.specs.declared.Answer.the-variants.{Refused, Given}
 use Rattle.state.specs.Meets.{answerOf}
-use Rattle.state.specs.Spread.{spread, MeetsSpread}
+use Rattle.state.specs.Spread.{spread}
 use Rattle.state.specs.Sizes.{Sized}
 use Rattle.state.specs.View.{view, stateOf}
 use Rattle.draw.specs.Draw.{drawCall, Drawn}
@@ -220,8 +221,8 @@ same-call e d base draft arrived confirmed edits z l = same-calls (ap {B = List 
 -- ---- the file
 
 module _ (f : List ℕ) (some : 0 < slots f) (w : Slot) (w-is : w ≡ wordsIn f 0) (p : 0 < slots f → Parted (slotIn f 0)) where
-  zero-is : w ≡ wordsOf (firstSlot f)
-  zero-is = w-is ∙ rw (lt-ltb 0 (slots f) some)
+  abbrev zero-is : w ≡ wordsOf (firstSlot f)
+  zero-is = zero-words f some w w-is
 
   module _ (a : ℕ) (a-is : a ≡ w .first % 65_536) (b : ℕ) (b-is : b ≡ w .first / 65_536) where
     measures-is : chainCalls 1 f a ≡ map (λ k. measure (valueIn (slotIn f k))) (measureChain f)

@@ -1,33 +1,29 @@
 -- Loading, from what the program read and drew. Assumes nothing.
-use Prim.Native.Nat.{ℕ, zero, suc, _-_, _<_, min}
+use Prim.Native.Nat.{ℕ, zero, suc, _<_, min}
 use native.Mathlib.Omega.{arith}
-use mathlib.Core.Path.{_≡_, refl, sym, ap, ap₂, subst, _∙_}
-use mathlib.Core.Bool.{Bool, true, false, cond, _&&_}
+use mathlib.Core.Path.{_≡_, refl, sym, ap, subst, _∙_}
+use mathlib.Core.Bool.{Bool}
 use mathlib.Core.Logic.{_≢_}
 use mathlib.Core.List.{List, [], _∷_, _++_, map, append-assoc}
-use borrow.Author.Tests.{lt-ltb, eq-eqb, ne-eqb}
-use lib.Dec.{T, eqb, ltb, eqb→eq}
+use borrow.Author.Tests.{eq-eqb, ne-eqb}
+use lib.Dec.{T}
 use lib.IntN.{ℤ}
-use lib.ListN.{length, getD}
-use Rattle.protocol.specs.Lists.{isNone, all}
-use Rattle.protocol.specs.Plan.{Plan, whole, modeNumber}
-use Rattle.protocol.specs.Calls.{Call, measure, open-plan, Verdict, fine, refused, first, checks, after, firstValues, step, following, end}
-use Rattle.protocol.proofs.Laws.{is-yes}
-use Rattle.file.specs.Loaded.{slotIn, slots, nextNumber, firstSlot, sized, untouched, readChecks, drawing, orElse, firstRefusal, loadVerdict, renumbered, loadBy, load, measureChain, ruleChain, valueIn, ruleIn}
+use lib.ListN.{length}
+use Rattle.protocol.specs.Lists.{isNone}
+use Rattle.protocol.specs.Plan.{Plan, whole}
+use Rattle.protocol.specs.Calls.{Call, measure, open-plan, Verdict, fine, refused, first, checks, after, firstValues, step, end}
+use Rattle.file.specs.Loaded.{slotIn, nextNumber, sized, untouched, readChecks, drawing, orElse, firstRefusal, loadVerdict, renumbered, loadBy, load, measureChain, ruleChain, valueIn, ruleIn}
 use Rattle.file.proofs.Drawn.{both-fine}
-use Rattle.rows.specs.Rows.{span}
 use Rattle.rows.proofs.Spans.{length-span}
 use Rattle.heads.specs.declared.Head.{Head}
-use Rattle.heads.specs.Heads.{modeOf, single, endIn, keptIn, measuresIn}
+use Rattle.heads.specs.Heads.{modeOf, endIn, keptIn, measuresIn}
 use Rattle.records.specs.declared.EditRecord.{EditRecord}
-use Rattle.records.specs.Records.{keptOf, logOf}
+use Rattle.records.specs.Records.{logOf}
 use Rattle.slots.specs.declared.Slot.{Slot}
-use Rattle.slots.specs.Words.{wordsOf, wordsIn}
+use Rattle.slots.specs.Words.{wordsIn}
 use Rattle.state.specs.declared.State.{State}
-use Rattle.state.specs.declared.Answered.{Answered}
-use Rattle.state.specs.Meets.{answerOf, refusal, done, refusalOf}
+use Rattle.state.specs.Meets.{refusal, done, refusalOf}
 use Rattle.state.specs.Spread.{spread}
-use Rattle.state.specs.Sizes.{Sized}
 use Rattle.state.specs.View.{view, stateOf}
 use Rattle.state.proofs.View.{plan-same, first-row, row-length}
 use Rattle.state.proofs.Meets.{verdict-refused, verdict-fine, fine-pass}

@@ -1,21 +1,22 @@
 -- The tests of a file, as the program makes them. Assumes nothing.
-use Prim.Native.Nat.{ℕ, zero, suc, _+_, _-_, _*_, _/_, _%_, _<_, _≤_}
+use Prim.Native.Nat.{ℕ, zero, suc, _-_, _*_, _/_, _%_, _<_, _≤_}
 use native.Mathlib.Omega.{arith}
 use mathlib.Core.Path.{_≡_, refl, sym, ap, subst, _∙_}
-use mathlib.Core.Bool.{Bool, true, false, not, cond, _&&_}
+use mathlib.Core.Bool.{Bool, true, false, not, _&&_}
 use mathlib.Core.Logic.{_≢_}
 use mathlib.Core.List.{List, [], _∷_}
 use borrow.Author.Tests.{lt-ltb, le-ltb, lt-leb, le-leb, eq-eqb, ne-eqb, ltb-true, ltb-false}
 use lib.Dec.{T, eqb, leb, ltb, eqb→eq, leb→le}
+use lib.Seq.{take-all}
 use lib.ListN.{length, getD, take, replicate}
-use Rattle.protocol.specs.Lists.{isNone, oneTo}
+use Rattle.protocol.specs.Lists.{isNone}
 use Rattle.protocol.specs.Plan.{modeNumber}
 use Rattle.protocol.specs.Calls.{Check, _unless_, _when_, first}
 use Rattle.protocol.proofs.Laws.{cases, is-yes, yes-is, no-is, both, same-no}
-use Rattle.file.specs.Bytes.{twoAt, fourAt, total, wordSize, measureKind, ruleKind}
+use Rattle.file.specs.Bytes.{twoAt, total, wordSize, measureKind, ruleKind}
 use Rattle.file.specs.Loaded.{slotIn, slots, firstSlot, zeroFrom, measureChain, ruleChain, nextNumber, nextLimit, sized, balanced, leavesFile, meetsTwice, wellMarked, missesSlot, clear, numbered}
 use Rattle.file.specs.Walked.{Walked, stopped, ended, walk, asMeasure, asRule, Sound46}
-use Rattle.file.proofs.Walks.{onto, walk-ended, Walks, sound-walks, walks-sound}
+use Rattle.file.proofs.Walks.{onto, walk-ended, sound-walks, walks-sound}
 use Rattle.slots.specs.declared.Slot.{Slot}
 use Rattle.slots.specs.Words.{wordsOf, wordsIn, Parted}
 use Rattle.slots.proofs.Parts.{next-part, second-part, count-part, zero-14, slot-whole}
@@ -211,11 +212,7 @@ unfolding balanced
 balanced-is f t n e =
     let s = sized-parts f t in
     let l : 16 * slots f ≡ length f = let g = s .0 in omega arith in
-    ap isNone (e ∙ ap (λ m. total (take m f) % wordSize) l ∙ ap (λ bs. total bs % wordSize) (take-all f))
-  where
-    take-all : (bs : List ℕ) → take (length bs) bs ≡ bs
-    take-all [] = refl
-    take-all (b ∷ bs) = ap {B = List ℕ} (λ cs. b ∷ cs) (take-all bs)
+    ap isNone (e ∙ ap (λ m. total (take m f) % wordSize) l ∙ ap (λ bs. total bs % wordSize) (take-all (length f) f (omega arith)))
 
 -- each refusal, where the checks before it pass
 module _ (f : List ℕ) (h : Head) where

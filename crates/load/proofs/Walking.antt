@@ -1,14 +1,13 @@
 -- A chain followed by the program is the definition's walk. Assumes nothing.
-use Prim.Native.Nat.{ℕ, zero, suc, _+_, _-_, _/_, _%_, _<_, _≤_}
+use Prim.Native.Nat.{ℕ, zero, suc, _+_, _-_, _%_, _<_, _≤_}
 use native.Mathlib.Omega.{arith}
 use mathlib.Core.Path.{_≡_, refl, sym, ap, ap₂, subst, _∙_}
-use mathlib.Core.Bool.{Bool, true, false, not, cond, _&&_, _||_}
+use mathlib.Core.Bool.{Bool, true, false, cond}
 use mathlib.Core.Logic.{_≢_}
-use mathlib.Core.List.{List, [], _∷_}
+use mathlib.Core.List.{List, _∷_}
 use borrow.Author.Tests.{lt-ltb, le-ltb, eq-eqb, ne-eqb}
-use lib.Dec.{eqb, ltb, eqb→eq}
+use lib.Dec.{eqb, eqb→eq}
 use lib.ListN.{length, getD, set, length-set}
-use Rattle.protocol.specs.Lists.{isNone}
 use Rattle.protocol.proofs.Laws.{cases, is-yes}
 use Rattle.rows.proofs.Spans.{getD-set, getD-other}
 use Rattle.file.specs.Bytes.{measureKind}
@@ -106,7 +105,8 @@ module _ (f : List ℕ) (kind start met : ℕ) where
               (λ q. rw q (getD-other seen k j true false (λ z. absurd (is-yes (sym q ∙ eq-eqb j k z))) ∙ m))
 
 -- a chain that ended
-pub walks-ended : (f : List ℕ) (kind start met : ℕ) (seen₀ seen : List Bool) (k i : ℕ) → Walks f kind start met seen₀ seen k i → k ≡ 0 → (r : ℕ) → r ≡ met + i + 1 → Walking f kind start met seen₀ r seen
+pub walks-ended : (f : List ℕ) (kind start met : ℕ) (seen₀ seen : List Bool) (k i : ℕ) → Walks f kind start met seen₀ seen k i → k ≡ 0 → (r : ℕ) → r ≡ met + i + 1 → Walking f kind
+    start met seen₀ r seen
 walks-ended f kind start met seen₀ seen k i w z r e ks m c =
     let s = w .1 ks m c in
     let over : walk f (asKind kind) (slots f - i) k (s .slots-met) ≡ ended (s .slots-met) = ap (λ n. walk f (asKind kind) (slots f - i) n (s .slots-met)) z ∙ none-left (slots f - i) (s .slots-met) in

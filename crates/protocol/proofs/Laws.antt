@@ -37,10 +37,6 @@ is-yes e = rw e tt
 pub is-no : {b : Bool} → b ≡ false → T (not b)
 is-no e = rw e tt
 
-pub and-false : (a : Bool) → (a && false) ≡ false
-and-false true = refl
-and-false false = refl
-
 pub or-right : (a b : Bool) → T b → T (a || b)
 or-right true b t = tt
 or-right false b t = t
@@ -251,3 +247,17 @@ module _ {A : Type 0} where
   all-one p d [] e h = tt
   all-one p d (x ∷ []) e h = and-in (p x) true h tt
   all-one p d (x ∷ y ∷ xs) e h = absurd (omega arith)
+
+-- ---- how much a count can be
+
+pub bit-most : (b : Bool) → bit b ≤ 1
+bit-most true = omega arith
+bit-most false = omega arith
+
+pub count-to-most : (f : ℕ → Bool) (n : ℕ) → countTo f n ≤ n
+count-to-most f zero = omega arith
+count-to-most f (suc n) = let r = count-to-most f n in let b = bit-most (f (suc n)) in omega arith
+
+pub count-most : {A : Type 0} (p : A → Bool) (xs : List A) → count p xs ≤ length xs
+count-most p [] = omega arith
+count-most p (x ∷ xs) = let r = count-most p xs in let b = bit-most (p x) in omega arith

@@ -1,7 +1,7 @@
 -- Laws of the index, as it is made and as it is read. Assumes nothing.
 use Prim.Native.Nat.{ℕ, _+_, _-_, _<_, _≤_}
 use native.Mathlib.Omega.{arith}
-use mathlib.Core.Bool.{Bool, true, false, not, cond, _&&_, _||_}
+use mathlib.Core.Bool.{Bool, true, false, not, cond, _&&_, _||_, and-false}
 use mathlib.Core.Path.{_≡_, refl, sym, ap, ap₂, _∙_}
 use mathlib.Core.Logic.{_≢_}
 use mathlib.Core.List.{List, [], _∷_, map}
@@ -13,7 +13,7 @@ use lib.Signed.{ltZ}
 use Rattle.exact.specs.Signs.{beyond}
 use Rattle.protocol.specs.Lists.{natural, oneTo, all, snoc}
 use Rattle.protocol.specs.Plan.{value}
-use Rattle.protocol.proofs.Laws.{cases, and-false, range, is-yes}
+use Rattle.protocol.proofs.Laws.{cases, range, is-yes}
 use Rattle.rows.specs.Rows.{span, row}
 use Rattle.rows.proofs.Spans.{span-next, span-over, all-span}
 use Rattle.rules.specs.Rules.{withValue, pairHolds, holdsAt, namesPair, namesAt, dueAt, testedIn, firmIn}

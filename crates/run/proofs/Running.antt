@@ -1,5 +1,5 @@
 -- How a run goes on from line to line, its end, and the invariant of its loop. Assumes nothing.
-use Prim.Native.Nat.{ℕ, _+_, _-_, _<_, _≤_, min}
+use Prim.Native.Nat.{ℕ, _+_, _-_, _<_, _≤_}
 use native.Mathlib.Omega.{arith}
 use mathlib.Core.Path.{_≡_, refl, sym, ap, _∙_}
 use mathlib.Core.Bool.{Bool, true, false}
@@ -39,7 +39,8 @@ behind-two xs ys r = ap (λ bs. record { bytes = bs; rest = r .rest; plan = r .p
 
 -- ---- the end
 
-module _ (on : Bool) (reserve : ℕ) (sheet : List ℕ) (from : ℕ) (lent : List ℕ) (start : Plan) (area : List ℕ) (p : State) (t : List ℕ) (at i : ℕ) (g : Going on reserve sheet from lent start area p t at i) where
+module _ (on : Bool) (reserve : ℕ) (sheet : List ℕ) (from : ℕ) (lent : List ℕ) (start : Plan) (area : List ℕ) (p : State) (t : List ℕ) (at i : ℕ)
+    (g : Going on reserve sheet from lent start area p t at i) where
   -- a run of which the rest is known, and writes nothing more
   ends : (q : State) (next : ℕ) (e : Bool) → ran on reserve (length lent - at) (view p) (lines (drop i sheet)) ≡ record { bytes = []; rest = lines (drop next sheet); plan = view q; ended = e }
       → Advanced on reserve sheet from start lent (view q) next at e area
@@ -139,7 +140,8 @@ pub record Course (sound on : Bool) (reserve : ℕ) (sheet : List ℕ) (from : �
   pub over : ended ≡ true → Advanced on reserve sheet from start lent (view p) i at true area
   pub under : ended ≡ false → SoundIn sound (spread p) × Going on reserve sheet from lent start area p t at i
 
-module _ {sound : Bool} {on : Bool} {reserve : ℕ} {sheet : List ℕ} {from : ℕ} {lent : List ℕ} {start : Plan} {area : List ℕ} {p : State} {t : List ℕ} {index : List ℤ} {at i : ℕ} {ended : Bool} {stop : ℕ}
+module _ {sound : Bool} {on : Bool} {reserve : ℕ} {sheet : List ℕ} {from : ℕ} {lent : List ℕ} {start : Plan} {area : List ℕ} {p : State} {t : List ℕ} {index : List ℤ} {at i : ℕ}
+    {ended : Bool} {stop : ℕ}
     (k : Course sound on reserve sheet from lent start area p t index at i ended stop) where
   -- a line is begun
   pub inside : i < stop → (ended ≡ false) × (i < length sheet) × (reserve ≤ length area - at)
@@ -159,7 +161,8 @@ module _ {sound : Bool} {on : Bool} {reserve : ℕ} {sheet : List ℕ} {from : �
 
 -- ---- the beginning
 
-pub begins : (on : Bool) (reserve : ℕ) (sheet : List ℕ) (from : ℕ) (lent : List ℕ) (p : State) (t : List ℕ) → Sized (spread p) → length (p .table) ≡ 256 → Tallied t (view p) → Going on reserve sheet from lent
+pub begins : (on : Bool) (reserve : ℕ) (sheet : List ℕ) (from : ℕ) (lent : List ℕ) (p : State) (t : List ℕ) → Sized (spread p) → length (p .table) ≡ 256 → Tallied t (view p) → Going on
+    reserve sheet from lent
     (view p) lent p t 0 from
 begins on reserve sheet from lent p t z b k = record {
   sized = z;

@@ -1,8 +1,8 @@
 -- A plan that was tested when it was handed in: every rule holds. Assumes nothing.
-use Prim.Native.Nat.{ℕ, min}
-use mathlib.Core.Path.{_≡_, refl, sym, ap, subst, _∙_}
-use mathlib.Core.Bool.{Bool, true, false, cond}
-use lib.Dec.{T, eqb, eqb→eq}
+use Prim.Native.Nat.{min}
+use mathlib.Core.Path.{_≡_, _∙_}
+use mathlib.Core.Bool.{true, false}
+use lib.Dec.{T, eqb→eq}
 use Rattle.protocol.specs.Plan.{blank, whole, is, modeNumber, holds}
 use Rattle.protocol.proofs.Laws.{cases, is-yes, and-in}
 use Rattle.guarantee.specs.Holding.{Holding}

@@ -6,14 +6,14 @@ use mathlib.Core.Bool.{Bool, true, false, cond}
 use mathlib.Core.List.{List, [], _∷_, _++_, append-nil}
 use lib.Seq.{take-all}
 use borrow.Author.Tests.{le-ltb, lt-ltb, lt-leb}
-use lib.Dec.{T, eqb, leb, ltb}
+use lib.Dec.{T, eqb, leb}
 use lib.IntN.{ℤ, pos}
 use lib.ListN.{length, take, drop, length-append, length-take, length-drop, drop-of-length-le}
 use Rattle.protocol.specs.Lists.{bit, oneTo}
 use Rattle.protocol.specs.Plan.{Plan}
 use Rattle.protocol.specs.Calls as model
 use Rattle.protocol.specs.Calls.{Call, Verdict, fine, refused, first, no, ok, Stepped, following, end, start}
-use Rattle.protocol.proofs.Laws.{cases, is-yes, range}
+use Rattle.protocol.proofs.Laws.{cases, is-yes, range, bit-most}
 use Rattle.format.specs.Lines.{lineFeed, lines, grow}
 use Rattle.format.specs.Sheets.{text, lineStep, answerLines, leaves, fitted, inFront, replies, Screened, screen}
 use Rattle.format.specs.Longest.{longestAnswer}
@@ -63,15 +63,11 @@ number-small room p sheet g h written e ended n k =
     let a = answers-few room p (lines sheet) g in
     let l = lines-few sheet in
     let few : written ≤ 387 * 65536 = bounded written (length (lines sheet)) (omega (arith, e, a)) (omega (arith, l, h)) in
-    let b = bit-few ended in
+    let b = bit-most ended in
     omega (arith, k, few, b)
   where
     bounded : (w m : ℕ) → w ≤ 387 * m → m ≤ 65536 → w ≤ 387 * 65536
     bounded w m x y = omega arith
-
-    bit-few : (b : Bool) → bit b ≤ 1
-    bit-few true = omega arith
-    bit-few false = omega arith
 
 -- ---- the plan that an entry begins on is narrow
 

@@ -2,7 +2,7 @@
 use Prim.Native.Nat.{ℕ, zero, suc, _+_, _-_, _<_, _≤_, min}
 use native.Mathlib.Omega.{arith}
 use mathlib.Core.Path.{_≡_, refl, sym, ap, ap₂, subst, _∙_}
-use mathlib.Core.Bool.{Bool, true, false, cond}
+use mathlib.Core.Bool.{Bool, true, false}
 use mathlib.Core.Logic.{_⊎_, inl, inr, ⊎-elim, _≢_}
 use mathlib.Core.List.{List, [], _∷_, _++_, append-assoc}
 use borrow.Author.Tests.{ltb-true, ltb-false, lt-ltb, le-ltb, le-leb, leb-true, leb-false}
@@ -30,7 +30,6 @@ use Rattle.state.proofs.View.{sides-most}
 use Rattle.state.proofs.Owned.{Ranged}
 use Rattle.run.specs.Progress.{Ran, behindRan, ran, Advanced}
 use Rattle.sheet.specs.Runs.{handedBack}
-use Rattle.sheet.specs.declared.Piece.{Piece}
 use Rattle.sheet.specs.Pieces.{flat, due, Pieced, Pieces, over, piece}
 
 -- ---- a state's plan is narrow
@@ -151,7 +150,8 @@ moved sheet from next h = cases (ltb from next)
 
 module _ (sheet : List ℕ) (from : ℕ) (p : State) (lent : List ℕ) where
   -- of a sheet that is not too long
-  pub piece-run : Ranged p → (q : State) (next written : ℕ) (ended : Bool) (after : List ℕ) → length sheet ≤ 65536 → Advanced false longestAnswer sheet from (view p) lent (view q) next written ended after
+  pub piece-run : Ranged p → (q : State) (next written : ℕ) (ended : Bool) (after : List ℕ) → length sheet ≤ 65536 → Advanced false longestAnswer sheet from (view p) lent (view q) next
+      written ended after
       → Pieced sheet from p lent (record { state = q; next = next; written = written }) after
   piece-run g q next written ended after fits h =
       let s = shared (length lent) (view p) (lines (drop from sheet)) (narrow-view p g) in

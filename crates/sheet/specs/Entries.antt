@@ -11,8 +11,8 @@ use Rattle.file.specs.Saved.{saved, save, saveInto}
 use Rattle.file.specs.Loaded.{load}
 
 -- The number is the refusal, or 256 times the value. A refusal leaves the buffer.
-abbrev pub turned-down : ℕ → List ℕ → Screened
-turned-down k buffer = record { number = k; buffer = buffer }
+abbrev pub refusedWith : ℕ → List ℕ → Screened
+refusedWith k buffer = record { number = k; buffer = buffer }
 
 abbrev pub giving : Screened → Screened
 giving s = record { number = 256 * s .number; buffer = s .buffer }
@@ -22,7 +22,7 @@ abbrev pub onLoaded : Stepped → List ℕ → (Plan → Screened) → Screened
 onLoaded l buffer f = by (l .answer)
   where
     by : Answer → Screened
-    by (no k) = turned-down k buffer
+    by (no k) = refusedWith k buffer
     by (ok xs) = f (l .plan)
 
 -- ---- a file is loaded into a blank plan, then a sheet is run on it
@@ -37,11 +37,11 @@ planOf p sheet = leaves p (lines sheet)
 
 -- the value is the count of bytes written
 abbrev pub savedBy : Answer → Plan → List ℕ → Screened
-savedBy (no k) p buffer = turned-down k buffer
+savedBy (no k) p buffer = refusedWith k buffer
 savedBy (ok xs) p buffer = giving (record { number = length (saved p); buffer = saveInto p buffer })
 
 unfoldable pub saveFrom : Plan → List ℕ → List ℕ → Screened
-saveFrom p sheet buffer = cond (tooLong sheet) (turned-down 52 buffer) (let q = planOf p sheet in savedBy (save (length buffer) q .answer) q buffer)
+saveFrom p sheet buffer = cond (tooLong sheet) (refusedWith 52 buffer) (let q = planOf p sheet in savedBy (save (length buffer) q .answer) q buffer)
 
 unfoldable pub saveEntry : List ℕ → List ℕ → Screened
 unfolding saveFrom

@@ -6,7 +6,7 @@ use mathlib.Core.List.{List, [], _∷_, _++_}
 use lib.Dec.{ltb}
 use lib.ListN.{length, take, drop}
 use Rattle.protocol.specs.Plan.{Plan}
-use Rattle.protocol.specs.Calls.{no, start}
+use Rattle.protocol.specs.Calls.{no}
 use Rattle.format.specs.Lines.{lines}
 use Rattle.format.specs.Sheets.{text, answerLines, leaves, tooLong, inFront}
 use Rattle.format.specs.Longest.{longestAnswer}

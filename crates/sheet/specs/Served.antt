@@ -9,7 +9,7 @@ use Rattle.format.specs.Sheets.{text, fitted, Screened, screened, screen}
 use Rattle.file.specs.Loaded.{load}
 use Rattle.state.specs.declared.Answer.{Answer}
 use Rattle.state.specs.declared.Answer.the-variants.{Refused, Given}
-use Rattle.sheet.specs.Entries.{turned-down, giving, onLoaded, saveFrom}
+use Rattle.sheet.specs.Entries.{refusedWith, onLoaded, saveFrom}
 
 -- the plan that an entry begins on
 abbrev pub begunAs : Bool → List ℕ → Stepped
@@ -26,7 +26,7 @@ scaledAs loads s = record { number = cond loads (256 * s .number) (s .number); b
 
 -- a sheet that is too long
 abbrev pub longAs : Bool → Bool → List ℕ → Screened
-longAs loads saves buffer = cond saves (turned-down 52 buffer) (scaledAs loads (screened (fitted (length buffer) (text (no 52) ∷ [])) buffer))
+longAs loads saves buffer = cond saves (refusedWith 52 buffer) (scaledAs loads (screened (fitted (length buffer) (text (no 52) ∷ [])) buffer))
 
 abbrev pub servedOn : Bool → Bool → List ℕ → List ℕ → Plan → Screened
 servedOn loads saves sheet buffer p = cond saves (saveFrom p sheet buffer) (scaledAs loads (screen p sheet buffer))

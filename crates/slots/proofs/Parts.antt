@@ -5,14 +5,14 @@ use mathlib.Core.Path.{_≡_, refl, sym, ap, ap₂, _∙_}
 use mathlib.Core.Bool.{Bool, true, false, not, cond, _&&_, and-true}
 use mathlib.Core.List.{List, []}
 use borrow.Author.Tests.{eq-eqb, ne-eqb}
-use lib.Dec.{T, eqb, eqb→eq}
+use lib.Dec.{eqb, eqb→eq}
 use lib.ListN.{length, getD, take, drop, length-take, length-drop, drop-of-length-le}
 use Rattle.protocol.specs.Lists.{isNone, all}
 use Rattle.protocol.proofs.Laws.{cases, is-yes}
 use Rattle.file.specs.Bytes.{byteAt, twoAt, fourAt, kindBits, firmBit, highBits, measureKind}
 use Rattle.file.specs.Loaded.{slotIn, zeroFrom, clearMeasure, clearRule, markIn, nextIn}
 use Rattle.file.specs.Walked.{asMeasure}
-use Rattle.file.proofs.Cells.{cells, cells-of}
+use Rattle.file.proofs.Cells.{cells-of}
 use Rattle.slots.specs.declared.Slot.{Slot}
 use Rattle.slots.specs.Words.{wordsOf, Parted}
 use Rattle.slots.specs.Parts.{markPart, restPart, fitsKind}

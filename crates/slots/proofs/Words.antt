@@ -2,18 +2,18 @@
 use Prim.Native.Nat.{ℕ, suc, _+_, _*_, _-_, _/_, _%_, _<_, _≤_}
 use native.Mathlib.Omega.{arith}
 use mathlib.Core.Path.{_≡_, refl, sym, ap, ap₂, subst, _∙_}
-use mathlib.Core.Bool.{Bool, true, false, cond}
+use mathlib.Core.Bool.{true, false}
 use mathlib.Core.List.{List, [], _∷_, _++_}
 use borrow.Author.Tests.{lt-ltb, le-ltb, ltb-true}
-use lib.Dec.{T, ltb}
+use lib.Dec.{T}
 use lib.IntN.{ℤ, pos, negsuc}
 use lib.ListN.{length, getD, take, set, length-set}
 use lib.Seq.{sets}
 use lib.Signed.{ltZ}
-use Rattle.protocol.specs.Lists.{natural, neg, bit}
+use Rattle.protocol.specs.Lists.{natural}
 use Rattle.exact.specs.Signs.{beyond}
 use Rattle.file.specs.Bytes.{wordSize, twoAt, fourAt, fourBytes, signed, complement, total}
-use Rattle.file.specs.Loaded.{slotIn, slots}
+use Rattle.file.specs.Loaded.{slotIn}
 use Rattle.file.proofs.Cells.{two-slot, four-slot, total-more}
 use Rattle.file.proofs.Chains.{slot-byte}
 use Rattle.slots.specs.declared.Slot.{Slot}

@@ -1,9 +1,9 @@
 -- Scaffolding: the parts of a slot, from its words; and that nothing is set in it that must be nought. Assumes nothing.
 use Prim.Native.Nat.{ℕ, _/_, _%_}
-use mathlib.Core.Bool.{Bool, true, false, not, cond, _&&_}
+use mathlib.Core.Bool.{Bool, true, not, cond, _&&_}
 use lib.Dec.{eqb}
 use Rattle.protocol.specs.Lists.{isNone}
-use Rattle.file.specs.Bytes.{measureKind, ruleKind, kindBits, firmBit, highBits}
+use Rattle.file.specs.Bytes.{measureKind, kindBits, firmBit, highBits}
 use Rattle.slots.specs.declared.Slot.{Slot}
 
 -- the mark byte

@@ -55,7 +55,8 @@ returns c =
     let to-c = toZ-ofZ (s .fits .c) in
     let to-d = toZ-ofZ (s .fits .d) in
     drawn-from (a .op) (a .a) (a .b) (a .c) (a .d) (a .values .now) (a .table .now) x (c .before .before .before .before .before .before .before .before .before .from-numbers .ensures)
-    ((c .before .before .before .before .before .decide-draw .ensures) ∙ (λ j. drawDecision (a .op) (to-a j) (to-b j) (to-c j) (to-d j) h (lowers (a .table .now)) (gaps (a .table .now)) (uppers (a .table .now)) (a .values .now)))
+    ((c .before .before .before .before .before .decide-draw .ensures) ∙
+    (λ j. drawDecision (a .op) (to-a j) (to-b j) (to-c j) (to-d j) h (lowers (a .table .now)) (gaps (a .table .now)) (uppers (a .table .now)) (a .values .now)))
     (c .before .before .before .before .before .before .before .before .capped .ensures)
     (toZ-ofZ (fits32 (x .value) ((c .before .before .before .before .struct-told .given .1 .0 .1))))
     ((c .before .note-rule .ensures) ∙ (λ j. cond ((c .before .before .is-made .ensures) j) (withRule (a .table .now) (min (h .rules) 63) (to-a j) (to-b j) (to-c j) (to-d j)) (a .table .now)))

@@ -1,5 +1,4 @@
-use mathlib.Core.Path.{_≡_, sym, ap, _∙_}
-use native.Mathlib.Omega.{arith}
+use mathlib.Core.Path.{sym, ap, _∙_}
 use lib.IntN.{pos}
 use mir.Facts.{toZ-ofZ}
 use Prim.Native.Nat.{_/_, _%_}
@@ -54,15 +53,38 @@ make-requires c κs = search needs
 refused-requires : tie.Need-refused-requires
 refused-requires c κs = search needs
 
+-- ---- the places of the code, as tools/named writes them
+
+abbrev After-flag-from-After-refused : tie.After-refused → tie.After-flag
+After-flag-from-After-refused c = c .before .before .before .before .before
+
+abbrev After-firm-of-from-After-refused : tie.After-refused → tie.After-firm-of
+After-firm-of-from-After-refused c = c .before .before .before .before .before .before
+
+abbrev After-mark-byte-from-After-refused : tie.After-refused → tie.After-mark-byte
+After-mark-byte-from-After-refused c = c .before .before .before .before .before .before .before
+
+abbrev After-value-from-After-refused : tie.After-refused → tie.After-value
+After-value-from-After-refused c = c .before .before .before .before .before .before .before .before
+
+abbrev After-high-from-After-refused : tie.After-refused → tie.After-high
+After-high-from-After-refused c = c .before .before .before .before .before .before .before .before .before
+
+abbrev After-low-from-After-refused : tie.After-refused → tie.After-low
+After-low-from-After-refused c = c .before .before .before .before .before .before .before .before .before .before
+
 returns : tie.Need-returns
 unfolding signedAt
 returns c =
     λ s w-is p.
-    let lower = toZ-ofZ (cast-lower (c .before .before .before .before .before .before .before .before .before .before)) ∙ ap pos ((c .before .before .before .before .before .before .before .before .before .before .low .ensures) ∙ ap (λ (x : Slot). x .second % 65536) w-is ∙ sym (lower-part s p)) in
-    let upper = toZ-ofZ (cast-upper (c .before .before .before .before .before .before .before .before .before)) ∙ ap pos ((c .before .before .before .before .before .before .before .before .before .high .ensures) ∙ ap (λ (x : Slot). x .second / 65536) w-is ∙ sym (upper-part s p)) in
-    let gap = toZ-ofZ (fits32 _ (c .before .before .before .before .before .before .before .before .value .ok)) ∙ (c .before .before .before .before .before .before .before .before .value .ensures) ∙ ap (λ (x : Slot). signed (x .third)) w-is in
-    let marked = (c .before .before .before .before .before .before .before .mark-byte .ensures) ∙ ap (λ (x : Slot). x .first / 65536 % 256) w-is ∙ sym (mark-part s p) in
-    let firm = toZ-ofZ (fits32 _ (c .before .before .before .before .before .flag .ok)) ∙ (c .before .before .before .before .before .flag .ensures) ∙ ap (λ b. pos (bit b)) ((c .before .before .before .before .before .before .firm-of .ensures) ∙ ap firmBit marked) in
+    let lower = toZ-ofZ (cast-lower ((After-low-from-After-refused c))) ∙ ap pos
+    (((After-low-from-After-refused c) .low .ensures) ∙ ap (λ (x : Slot). x .second % 65536) w-is ∙ sym (lower-part s p)) in
+    let upper = toZ-ofZ (cast-upper ((After-high-from-After-refused c))) ∙ ap pos
+    (((After-high-from-After-refused c) .high .ensures) ∙ ap (λ (x : Slot). x .second / 65536) w-is ∙ sym (upper-part s p)) in
+    let gap = toZ-ofZ (fits32 _ ((After-value-from-After-refused c) .value .ok)) ∙ ((After-value-from-After-refused c) .value .ensures) ∙ ap (λ (x : Slot). signed (x .third)) w-is in
+    let marked = ((After-mark-byte-from-After-refused c) .mark-byte .ensures) ∙ ap (λ (x : Slot). x .first / 65536 % 256) w-is ∙ sym (mark-part s p) in
+    let firm = toZ-ofZ (fits32 _ ((After-flag-from-After-refused c) .flag .ok)) ∙ ((After-flag-from-After-refused c) .flag .ensures) ∙ ap (λ b. pos (bit b))
+    (((After-firm-of-from-After-refused c) .firm-of .ensures) ∙ ap firmBit marked) in
     same-call (λ i. rule (lower i) (gap i) (upper i) (firm i)) (drew-from 2 _ _ _ _ (c .before .make .ensures) (c .refused .result) (c .refused .ensures))
 
 pub draw-rule-spec : {M : Type 1} → statement M

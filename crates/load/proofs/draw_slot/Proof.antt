@@ -2,8 +2,8 @@ use Prim.Native.Nat.{ℕ}
 use mathlib.Core.List.{List}
 use mathlib.Core.Path.{_≡_, sym, ap, _∙_}
 use mir.Facts.{toZ-ofZ}
-use borrow.Author.Tests.{eq-eqb, ne-eqb}
-use Rattle.protocol.specs.Calls.{Call, measure}
+use borrow.Author.Tests.{ne-eqb}
+use Rattle.protocol.specs.Calls.{measure}
 use Rattle.exact.proofs.Ints.{fits32}
 use Rattle.file.specs.Bytes.{signed, signedAt}
 use Rattle.slots.specs.declared.Slot.{Slot}

@@ -1,4 +1,4 @@
-use mathlib.Core.Path.{_≡_, sym, ap}
+use mathlib.Core.Path.{sym, ap}
 use lib.IntN.{pos}
 use Rattle.protocol.specs.Lists.{bit}
 use Rattle.load.proofs.flag.Statement.{statement}

@@ -11,12 +11,29 @@ use Rattle.slots.proofs.read.Reads as read-reads
 returns : tie.Need-returns
 returns c = unsized-part ((c .before .before .args .f .now)) (c .if1 .taken)
 
+-- ---- the places of the code, as tools/named writes them
+
+abbrev Start-from-Then2 : tie.Then2 → tie.Start
+Start-from-Then2 c = c .before .before .before
+
+abbrev Start-from-Then3 : tie.Then3 → tie.Start
+Start-from-Then3 c = c .before .before .before .before
+
+abbrev Else2-from-After-low : tie.After-low → tie.Else2
+Else2-from-After-low c = c .before .before .before
+
+abbrev Else1-from-After-low : tie.After-low → tie.Else1
+Else1-from-After-low c = c .before .before .before .before
+
+abbrev Start-from-After-low : tie.After-low → tie.Start
+Start-from-After-low c = c .before .before .before .before .before .before
+
 returns-2 : tie.Need-returns-2
-returns-2 c = unsized-empty ((c .before .before .before .args .f .now)) (c .before .if1 .left) (c .if2 .taken)
+returns-2 c = unsized-empty (((Start-from-Then2 c) .args .f .now)) (c .before .if1 .left) (c .if2 .taken)
 
 returns-3 : tie.Need-returns-3
 returns-3 c =
-    unsized-long ((c .before .before .before .before .args .f .now)) (c .before .before .if1 .left) (c .before .if2 .left) (c .if3 .taken)
+    unsized-long (((Start-from-Then3 c) .args .f .now)) (c .before .before .if1 .left) (c .before .if2 .left) (c .if3 .taken)
 
 read-requires : tie.Need-read-requires
 read-requires c κs = search needs
@@ -29,7 +46,8 @@ cast-result c = search needs
 
 returns-4 : tie.Need-returns-4
 returns-4 c =
-    sized-count ((c .before .before .before .before .before .before .args .f .now)) (c .before .before .before .before .if1 .left) (c .before .before .before .if2 .left) (omega (arith, (c .before .before .if3 .left))) _ (c .before .read .ensures .0) (c .before .read .ensures .1) _ (c .low .ensures)
+    sized-count (((Start-from-After-low c) .args .f .now)) ((Else1-from-After-low c) .if1 .left) ((Else2-from-After-low c) .if2 .left) (omega (arith, (c .before .before .if3 .left))) _
+    (c .before .read .ensures .0) (c .before .read .ensures .1) _ (c .low .ensures)
 
 pub has-size-spec : {M : Type 1} → statement M
 has-size-spec =

@@ -1,14 +1,8 @@
-use mathlib.Core.Path.{_≡_, refl, sym, ap, subst, _∙_}
+use mathlib.Core.Path.{sym, ap, subst, _∙_}
 use Rattle.heads.specs.declared.Head.{Head}
 use Rattle.heads.specs.Numbers.{headFrom}
 use Rattle.heads.proofs.Heads.{head-numbers}
-use Rattle.file.specs.Loaded.{drawing}
-use Rattle.state.specs.declared.State.{State}
-use Rattle.state.specs.declared.Answered.{Answered}
-use Rattle.state.specs.Meets.{done}
-use Rattle.state.specs.View.{stateOf}
 use Rattle.state.proofs.Owned.{owned-spread, owned-table}
-use Rattle.load.specs.Drawing.{Drew}
 use Rattle.load.specs.Reading.{renumberedHead}
 use Rattle.load.specs.Loading.{MeetsLoad}
 use Rattle.load.proofs.Drawing.{same-refusal, drawn-on}
@@ -33,26 +27,97 @@ read-refusal-requires c κs = search needs
 refusal-requires : tie.Need-refusal-requires
 refusal-requires c κs = search needs
 
+-- ---- the places of the code, as tools/named writes them
+
+abbrev Start-from-After-refusal : tie.After-refusal → tie.Start
+Start-from-After-refusal c = c .before .before .before .before .before
+
+abbrev After-numbers-from-After-head : tie.After-head → tie.After-numbers
+After-numbers-from-After-head c = c .before .before .before
+
+abbrev Else1-from-After-head : tie.After-head → tie.Else1
+Else1-from-After-head c = c .before .before .before .before
+
+abbrev After-read-refusal-from-After-head : tie.After-head → tie.After-read-refusal
+After-read-refusal-from-After-head c = c .before .before .before .before .before
+
+abbrev Start-from-After-head : tie.After-head → tie.Start
+Start-from-After-head c = c .before .before .before .before .before .before .before .before
+
+abbrev Else1-from-After-table2 : tie.After-table2 → tie.Else1
+Else1-from-After-table2 c = c .before .before .before .before .before .before
+
+abbrev After-read-refusal-from-After-table2 : tie.After-table2 → tie.After-read-refusal
+After-read-refusal-from-After-table2 c = c .before .before .before .before .before .before .before
+
+abbrev Start-from-After-table2 : tie.After-table2 → tie.Start
+Start-from-After-table2 c = c .before .before .before .before .before .before .before .before .before .before
+
+abbrev After-numbers-from-After-refusal2 : tie.After-refusal2 → tie.After-numbers
+After-numbers-from-After-refusal2 c = c .before .before .before .before .before .before .before .before
+
+abbrev Else1-from-After-refusal2 : tie.After-refusal2 → tie.Else1
+Else1-from-After-refusal2 c = c .before .before .before .before .before .before .before .before .before
+
+abbrev After-read-refusal-from-After-refusal2 : tie.After-refusal2 → tie.After-read-refusal
+After-read-refusal-from-After-refusal2 c = c .before .before .before .before .before .before .before .before .before .before
+
+abbrev Start-from-After-refusal2 : tie.After-refusal2 → tie.Start
+Start-from-After-refusal2 c = c .before .before .before .before .before .before .before .before .before .before .before .before .before
+
+abbrev After-with-next-from-After-of : tie.After-of → tie.After-with-next
+After-with-next-from-After-of c = c .before .before .before .before .before .before
+
+abbrev After-from-numbers-from-After-of : tie.After-of → tie.After-from-numbers
+After-from-numbers-from-After-of c = c .before .before .before .before .before .before .before
+
+abbrev After-read-from-After-of : tie.After-of → tie.After-read
+After-read-from-After-of c = c .before .before .before .before .before .before .before .before .before
+
+abbrev Else2-from-After-of : tie.After-of → tie.Else2
+Else2-from-After-of c = c .before .before .before .before .before .before .before .before .before .before
+
+abbrev After-draw-file-from-After-of : tie.After-of → tie.After-draw-file
+After-draw-file-from-After-of c = c .before .before .before .before .before .before .before .before .before .before .before
+
+abbrev After-head-from-After-of : tie.After-of → tie.After-head
+After-head-from-After-of c = c .before .before .before .before .before .before .before .before .before .before .before .before .before .before
+
+abbrev After-numbers-from-After-of : tie.After-of → tie.After-numbers
+After-numbers-from-After-of c = After-numbers-from-After-head (After-head-from-After-of c)
+
+abbrev Else1-from-After-of : tie.After-of → tie.Else1
+Else1-from-After-of c = Else1-from-After-head (After-head-from-After-of c)
+
+abbrev After-read-refusal-from-After-of : tie.After-of → tie.After-read-refusal
+After-read-refusal-from-After-of c = After-read-refusal-from-After-head (After-head-from-After-of c)
+
+abbrev Start-from-After-of : tie.After-of → tie.Start
+Start-from-After-of c = Start-from-After-head (After-head-from-After-of c)
+
 returns : tie.Need-returns
 returns c =
-    subst (MeetsLoad ((c .before .before .before .before .before .args .f .now)) ((c .before .before .before .before .before .args .p))) (sym (c .refusal .ensures)) (load-unread ((c .before .before .before .before .before .args .f .now)) ((c .before .before .before .before .before .args .p)) _ (c .before .before .read-refusal .ensures) (c .before .if1 .taken))
+    subst (MeetsLoad (((Start-from-After-refusal c) .args .f .now)) (((Start-from-After-refusal c) .args .p))) (sym (c .refusal .ensures))
+    (load-unread (((Start-from-After-refusal c) .args .f .now)) (((Start-from-After-refusal c) .args .p)) _ (c .before .before .read-refusal .ensures) (c .before .if1 .taken))
 
 numbers-requires : tie.Need-numbers-requires
 numbers-requires c κs = search needs
 
 draw-file-requires : tie.Need-draw-file-requires
 draw-file-requires c κs =
-    read-sized ((c .before .before .before .before .before .before .before .before .before .before .args .f .now)) ((c .before .before .before .before .before .before .before .before .before .before .args .p)) _ (c .before .before .before .before .before .before .before .read-refusal .ensures) (c .before .before .before .before .before .before .if1 .left)
+    read-sized (((Start-from-After-table2 c) .args .f .now)) (((Start-from-After-table2 c) .args .p)) _ ((After-read-refusal-from-After-table2 c) .read-refusal .ensures)
+    ((Else1-from-After-table2 c) .if1 .left)
 
 refusal-requires-2 : tie.Need-refusal-requires-2
 refusal-requires-2 c κs = search needs
 
 returns-2 : tie.Need-returns-2
 returns-2 c =
-    let f = c .before .before .before .before .before .before .before .before .before .before .before .before .before .args .f .now in
-    let p = c .before .before .before .before .before .before .before .before .before .before .before .before .before .args .p in
-    subst (MeetsLoad f p) (sym (c .refusal2 .ensures)) (load-undrawn f p _ (c .before .before .before .before .before .before .before .before .before .before .read-refusal .ensures) (c .before .before .before .before .before .before .before .before .before .if1 .left) _ _
-    (drawn-on p _ (ap headFrom (c .before .before .before .before .before .before .before .before .numbers .ensures) ∙ head-numbers (p .head)) (c .before .before .draw-file .ensures) (owned-spread p (c .before .before .before .before .before .before .before .before .before .before .before .before .before .good .0)) (owned-table p (c .before .before .before .before .before .before .before .before .before .before .before .before .before .good .0))) (c .before .if2 .taken))
+    let f = (Start-from-After-refusal2 c) .args .f .now in
+    let p = (Start-from-After-refusal2 c) .args .p in
+    subst (MeetsLoad f p) (sym (c .refusal2 .ensures)) (load-undrawn f p _ ((After-read-refusal-from-After-refusal2 c) .read-refusal .ensures) ((Else1-from-After-refusal2 c) .if1 .left) _ _
+    (drawn-on p _ (ap headFrom ((After-numbers-from-After-refusal2 c) .numbers .ensures) ∙ head-numbers (p .head)) (c .before .before .draw-file .ensures)
+    (owned-spread p ((Start-from-After-refusal2 c) .good .0)) (owned-table p ((Start-from-After-refusal2 c) .good .0))) (c .before .if2 .taken))
 
 read-requires : tie.Need-read-requires
 read-requires c κs = search needs
@@ -68,12 +133,15 @@ of-requires c κs = search needs
 
 returns-3 : tie.Need-returns-3
 returns-3 c =
-    let f = c .before .before .before .before .before .before .before .before .before .before .before .before .before .before .before .before .before .before .before .before .before .before .args .f .now in
-    let p = c .before .before .before .before .before .before .before .before .before .before .before .before .before .before .before .before .before .before .before .before .before .before .args .p in
-    let head-is = (c .before .before .before .before .before .before .with-next .ensures) ∙ ap (λ (h : Head). renumberedHead h (c .before .before .before .before .before .before .before .before .before .read .result .second)) (c .before .before .before .before .before .before .before .from-numbers .ensures) in
-    load-done f p _ (c .before .before .before .before .before .before .before .before .before .before .before .before .before .before .before .before .before .before .before .read-refusal .ensures) (c .before .before .before .before .before .before .before .before .before .before .before .before .before .before .before .before .before .before .if1 .left) _ _ (p .base) (p .draft) _ (p .arrived) (p .confirmed) _ (p .edits) (c .before .before .before .before .before .before .before .before .before .read .result) (c .of .result)
-    (same-refusal (c .before .before .before .before .before .before .before .before .before .before .if2 .left) (drawn-on p _ (ap headFrom (c .before .before .before .before .before .before .before .before .before .before .before .before .before .before .before .before .before .numbers .ensures) ∙ head-numbers (p .head)) (c .before .before .before .before .before .before .before .before .before .before .before .draw-file .ensures) (owned-spread p (c .before .before .before .before .before .before .before .before .before .before .before .before .before .before .before .before .before .before .before .before .before .before .good .0))
-    (owned-table p (c .before .before .before .before .before .before .before .before .before .before .before .before .before .before .before .before .before .before .before .before .before .before .good .0)))) (c .before .before .before .before .before .before .before .before .before .read .ensures .0) head-is (c .of .ensures)
+    let f = (Start-from-After-of c) .args .f .now in
+    let p = (Start-from-After-of c) .args .p in
+    let head-is = ((After-with-next-from-After-of c) .with-next .ensures) ∙ ap (λ (h : Head). renumberedHead h ((After-read-from-After-of c) .read .result .second))
+    ((After-from-numbers-from-After-of c) .from-numbers .ensures) in
+    load-done f p _ ((After-read-refusal-from-After-of c) .read-refusal .ensures) ((Else1-from-After-of c) .if1 .left) _ _ (p .base) (p .draft) _ (p .arrived) (p .confirmed) _
+    (p .edits) ((After-read-from-After-of c) .read .result) (c .of .result)
+    (same-refusal ((Else2-from-After-of c) .if2 .left) (drawn-on p _ (ap headFrom ((After-numbers-from-After-of c) .numbers .ensures) ∙ head-numbers (p .head))
+    ((After-draw-file-from-After-of c) .draw-file .ensures) (owned-spread p ((Start-from-After-of c) .good .0))
+    (owned-table p ((Start-from-After-of c) .good .0)))) ((After-read-from-After-of c) .read .ensures .0) head-is (c .of .ensures)
 
 pub load-spec : {M : Type 1} → statement M
 load-spec =

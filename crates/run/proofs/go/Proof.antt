@@ -73,13 +73,15 @@ abbrev μ-loop2 : tie.MeasureT-loop2
 μ-loop2 sound opened on reserve sheet from area head base draft values arrived confirmed table edits₀ counts index at i ended stop line named first next second e side marked j₀ edits j = marked - j
 
 abbrev Inv-loop : tie.InvT-loop
-Inv-loop sound opened on reserve sheet from area₀ head₀ base₀ draft₀ values₀ arrived₀ confirmed₀ table₀ edits₀ counts₀ index₀ at₀ i₀ ended₀ stop₀ area head base draft values arrived confirmed table edits
+Inv-loop sound opened on reserve sheet from area₀ head₀ base₀ draft₀ values₀ arrived₀ confirmed₀ table₀ edits₀ counts₀ index₀ at₀ i₀ ended₀ stop₀ area head base draft values arrived
+    confirmed table edits
     counts index at i ended stop =
     Course sound on reserve sheet from area₀ (view (stateOf (headFrom head₀) base₀ draft₀ values₀ arrived₀ confirmed₀ table₀ edits₀)) area
     (stateOf (headFrom head) base draft values arrived confirmed table edits) counts index at i ended stop
 
 abbrev μ-loop : tie.MeasureT-loop
-μ-loop sound opened on reserve sheet from area₀ head₀ base₀ draft₀ values₀ arrived₀ confirmed₀ table₀ edits₀ counts₀ index₀ at₀ i₀ ended₀ stop₀ area head base draft values arrived confirmed table edits counts
+μ-loop sound opened on reserve sheet from area₀ head₀ base₀ draft₀ values₀ arrived₀ confirmed₀ table₀ edits₀ counts₀ index₀ at₀ i₀ ended₀ stop₀ area head base draft values arrived
+    confirmed table edits counts
     index at i ended stop = length sheet - i
 
 -- ---- the places of the code, as tools/named writes them
@@ -423,7 +425,8 @@ sheet-fits : (c : tie.After-shared-slice-known Inv-loop2 μ-loop2 Inv-loop μ-lo
 sheet-fits c = omega arith
 
 -- a line is begun: the run goes on, and the sheet and the area have room for it
-on-line : (c : tie.In-loop Inv-loop2 μ-loop2 Inv-loop μ-loop) → SoundIn ((Start-from-In-loop c) .args .sound) (spread (state-at (c .before))) × Going ((Start-from-In-loop c) .args .on) ((Start-from-In-loop c) .args .reserve)
+on-line : (c : tie.In-loop Inv-loop2 μ-loop2 Inv-loop μ-loop) → SoundIn ((Start-from-In-loop c) .args .sound) (spread (state-at (c .before))) × Going ((Start-from-In-loop c) .args .on)
+    ((Start-from-In-loop c) .args .reserve)
     ((Start-from-In-loop c) .args .sheet .now) ((Start-from-In-loop c) .args .from) ((Start-from-In-loop c) .args .area .now) (view (started ((After-numbers-from-In-loop c))))
     (c .before .loop .area) (state-at (c .before)) (c .before .loop .counts) (c .before .loop .at) (c .before .loop .i)
 on-line c = (c .before .loop .inv .under) ((inside (c .before .loop .inv) (c .loop-test .taken)) .0)
@@ -602,7 +605,8 @@ ended-at : {on : Bool} {reserve : ℕ} {sheet : List ℕ} {from : ℕ} {lent : L
 ended-at {at = at} {k = k} e h z a = let w : at + k ≡ at = omega (arith, z) in rw (e, h, w) a
 
 going-on : (c : tie.After-put Inv-loop2 μ-loop2 Inv-loop μ-loop) → ((c .put .result) ≡ 0 → ⊥)
-    → Going ((Start-from-After-put c) .args .on) ((Start-from-After-put c) .args .reserve) ((Start-from-After-put c) .args .sheet .now) ((Start-from-After-put c) .args .from) ((Start-from-After-put c) .args .area .now)
+    → Going ((Start-from-After-put c) .args .on) ((Start-from-After-put c) .args .reserve) ((Start-from-After-put c) .args .sheet .now) ((Start-from-After-put c) .args .from)
+    ((Start-from-After-put c) .args .area .now)
     (view (started ((After-numbers-from-After-put c)))) (area-now c) (state-next ((After-loop2-from-After-put c))) (counts-next ((After-loop2-from-After-put c)))
     (((At-loop-from-After-put c) .loop .at) + (c .put .result)) (((At-loop-from-After-put c) .loop .i) + ((After-read-line-from-After-put c) .read-line .result .end) + 1)
 going-on c h =
@@ -612,7 +616,8 @@ going-on c h =
     (counts-next ((After-loop2-from-After-put c))) (told c) (told-is c) (left-is c) (fits-now c h) (j .sized) (j .long) (j .tallied ((on-line ((In-loop-from-After-put c))) .1 .tallied)))
 
 ending : (c : tie.After-put Inv-loop2 μ-loop2 Inv-loop μ-loop) → ((Start-from-After-put c) .args .on) ≡ false → (c .put .result) ≡ 0
-    → Advanced ((Start-from-After-put c) .args .on) ((Start-from-After-put c) .args .reserve) ((Start-from-After-put c) .args .sheet .now) ((Start-from-After-put c) .args .from) (view (started ((After-numbers-from-After-put c))))
+    → Advanced ((Start-from-After-put c) .args .on) ((Start-from-After-put c) .args .reserve) ((Start-from-After-put c) .args .sheet .now) ((Start-from-After-put c) .args .from)
+    (view (started ((After-numbers-from-After-put c))))
     ((Start-from-After-put c) .args .area .now) (view (state-next ((After-loop2-from-After-put c))))
     (((At-loop-from-After-put c) .loop .i) + ((After-read-line-from-After-put c) .read-line .result .end) + 1) (((At-loop-from-After-put c) .loop .at) + (c .put .result)) true (area-now c)
 ending c o e =

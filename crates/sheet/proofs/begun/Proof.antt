@@ -1,5 +1,4 @@
 use mathlib.Core.Path.{refl, _∙_, ap}
-use Rattle.protocol.specs.Calls.{start}
 use Rattle.file.specs.Loaded.{load}
 use Rattle.state.specs.View.{view}
 use borrow.Author.Needs.{needs}

@@ -1,5 +1,4 @@
 use borrow.Author.Needs.{needs}
-use Rattle.sheet.specs.Entries.{saveFrom}
 use Rattle.sheet.proofs.run.Statement.{statement}
 use Rattle.sheet.proofs.run.Tie as tie
 use Rattle.sheet.proofs.run.Reads as reads

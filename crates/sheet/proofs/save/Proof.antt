@@ -1,5 +1,5 @@
 use borrow.Author.Needs.{needs}
-use Rattle.sheet.specs.Entries.{saveFrom, saveEntry}
+use Rattle.sheet.specs.Entries.{saveEntry}
 use Rattle.sheet.proofs.save.Statement.{statement}
 use Rattle.sheet.proofs.save.Tie as tie
 use Rattle.sheet.proofs.save.Reads as reads

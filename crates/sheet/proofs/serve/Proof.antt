@@ -1,13 +1,8 @@
-use Prim.Native.Nat.{_≤_}
 use native.Mathlib.Omega.{arith}
-use mathlib.Core.Path.{_≡_, refl, sym, ap, subst, _∙_}
-use mathlib.Core.Bool.{true, false}
+use mathlib.Core.Path.{sym, _∙_}
 use borrow.Author.Tests.{not-true, not-false}
 use borrow.Author.Needs.{needs}
-use lib.ListN.{length}
 use lib.Seq.{length-take-le}
-use Rattle.state.specs.View.{view}
-use Rattle.sheet.specs.Runs.{handedBack}
 use Rattle.sheet.specs.Served.{begunAs, servedOn}
 use Rattle.sheet.proofs.Entries.{narrow-begun, room-most, back-length, turned, taken, run-written, run-small, run-served, save-served, long-served}
 use Rattle.sheet.proofs.serve.Statement.{statement}
@@ -33,10 +28,122 @@ accepted-requires c κs = search needs
 entry-number-requires : tie.Need-entry-number-requires
 entry-number-requires c κs = search needs
 
+-- ---- the places of the code, as tools/named writes them
+
+abbrev Start-from-After-shared-slice-known : tie.After-shared-slice-known → tie.Start
+Start-from-After-shared-slice-known c = c .before
+
+abbrev Start-from-After-begun : tie.After-begun → tie.Start
+Start-from-After-begun c = c .before .before .before .before
+
+abbrev After-begun-from-After-entry-number : tie.After-entry-number → tie.After-begun
+After-begun-from-After-entry-number c = c .before .before .before
+
+abbrev Start-from-After-entry-number : tie.After-entry-number → tie.Start
+Start-from-After-entry-number c = c .before .before .before .before .before .before .before
+
+abbrev Start-from-After-room-for : tie.After-room-for → tie.Start
+Start-from-After-room-for c = c .before .before .before .before .before .before .before .before
+
+abbrev Start-from-After-advance-arg : tie.After-advance-arg → tie.Start
+Start-from-After-advance-arg c = c .before .before .before .before .before .before .before .before .before
+
+abbrev Then2-from-After-slice-known2 : tie.After-slice-known2 → tie.Then2
+Then2-from-After-slice-known2 c = c .before .before .before .before
+
+abbrev Else1-from-After-slice-known2 : tie.After-slice-known2 → tie.Else1
+Else1-from-After-slice-known2 c = c .before .before .before .before .before
+
+abbrev After-accepted-from-After-slice-known2 : tie.After-slice-known2 → tie.After-accepted
+After-accepted-from-After-slice-known2 c = c .before .before .before .before .before .before
+
+abbrev After-begun-from-After-slice-known2 : tie.After-slice-known2 → tie.After-begun
+After-begun-from-After-slice-known2 c = c .before .before .before .before .before .before .before
+
+abbrev Start-from-After-slice-known2 : tie.After-slice-known2 → tie.Start
+Start-from-After-slice-known2 c = c .before .before .before .before .before .before .before .before .before .before .before
+
+abbrev After-advance-from-Else3 : tie.Else3 → tie.After-advance
+After-advance-from-Else3 c = c .before .before .before
+
+abbrev After-room-for-from-Else3 : tie.Else3 → tie.After-room-for
+After-room-for-from-Else3 c = c .before .before .before .before .before
+
+abbrev Start-from-Else3 : tie.Else3 → tie.Start
+Start-from-Else3 c = c .before .before .before .before .before .before .before .before .before .before .before .before .before
+
+abbrev After-advance-from-After-handed : tie.After-handed → tie.After-advance
+After-advance-from-After-handed c = c .before .before .before .before
+
+abbrev After-room-for-from-After-handed : tie.After-handed → tie.After-room-for
+After-room-for-from-After-handed c = c .before .before .before .before .before .before
+
+abbrev Else2-from-After-handed : tie.After-handed → tie.Else2
+Else2-from-After-handed c = c .before .before .before .before .before .before .before
+
+abbrev After-begun-from-After-handed : tie.After-handed → tie.After-begun
+After-begun-from-After-handed c = c .before .before .before .before .before .before .before .before .before .before
+
+abbrev Start-from-After-handed : tie.After-handed → tie.Start
+Start-from-After-handed c = c .before .before .before .before .before .before .before .before .before .before .before .before .before .before
+
+abbrev After-advance-from-After-scaled : tie.After-scaled → tie.After-advance
+After-advance-from-After-scaled c = c .before .before .before .before .before
+
+abbrev After-room-for-from-After-scaled : tie.After-scaled → tie.After-room-for
+After-room-for-from-After-scaled c = c .before .before .before .before .before .before .before
+
+abbrev Else2-from-After-scaled : tie.After-scaled → tie.Else2
+Else2-from-After-scaled c = c .before .before .before .before .before .before .before .before
+
+abbrev Else1-from-After-scaled : tie.After-scaled → tie.Else1
+Else1-from-After-scaled c = c .before .before .before .before .before .before .before .before .before
+
+abbrev After-accepted-from-After-scaled : tie.After-scaled → tie.After-accepted
+After-accepted-from-After-scaled c = c .before .before .before .before .before .before .before .before .before .before
+
+abbrev After-begun-from-After-scaled : tie.After-scaled → tie.After-begun
+After-begun-from-After-scaled c = c .before .before .before .before .before .before .before .before .before .before .before
+
+abbrev After-shared-slice-known-from-After-scaled : tie.After-scaled → tie.After-shared-slice-known
+After-shared-slice-known-from-After-scaled c = c .before .before .before .before .before .before .before .before .before .before .before .before .before .before
+
+abbrev After-save-from-After-entry-number2 : tie.After-entry-number2 → tie.After-save
+After-save-from-After-entry-number2 c = c .before .before .before
+
+abbrev Then3-from-After-entry-number2 : tie.After-entry-number2 → tie.Then3
+Then3-from-After-entry-number2 c = c .before .before .before .before .before
+
+abbrev After-advance-from-After-entry-number2 : tie.After-entry-number2 → tie.After-advance
+After-advance-from-After-entry-number2 c = c .before .before .before .before .before .before .before .before
+
+abbrev After-room-for-from-After-entry-number2 : tie.After-entry-number2 → tie.After-room-for
+After-room-for-from-After-entry-number2 c = c .before .before .before .before .before .before .before .before .before .before
+
+abbrev Else2-from-After-entry-number2 : tie.After-entry-number2 → tie.Else2
+Else2-from-After-entry-number2 c = c .before .before .before .before .before .before .before .before .before .before .before
+
+abbrev Else1-from-After-entry-number2 : tie.After-entry-number2 → tie.Else1
+Else1-from-After-entry-number2 c = c .before .before .before .before .before .before .before .before .before .before .before .before
+
+abbrev After-accepted-from-After-entry-number2 : tie.After-entry-number2 → tie.After-accepted
+After-accepted-from-After-entry-number2 c = c .before .before .before .before .before .before .before .before .before .before .before .before .before
+
+abbrev After-begun-from-After-entry-number2 : tie.After-entry-number2 → tie.After-begun
+After-begun-from-After-entry-number2 c = c .before .before .before .before .before .before .before .before .before .before .before .before .before .before
+
+abbrev Start-from-After-scaled : tie.After-scaled → tie.Start
+Start-from-After-scaled c = Start-from-After-shared-slice-known (After-shared-slice-known-from-After-scaled c)
+
+abbrev Start-from-After-entry-number2 : tie.After-entry-number2 → tie.Start
+Start-from-After-entry-number2 c = Start-from-After-begun (After-begun-from-After-entry-number2 c)
+
 returns : tie.Need-returns
 returns c =
-    let a = (c .before .before .before .before .before .before .before .args) in
-    turned (begunAs (a .loads) (a .file .now)) (a .area .now) (servedOn (a .loads) (a .saves) (a .sheet .now) (a .area .now)) (c .before .before .before .begun .result .answer) ((c .before .before .before .begun .ensures .0)) (sym (c .before .before .accepted .ensures) ∙ not-true _ (c .before .if1 .taken)) _
+    let a = ((Start-from-After-entry-number c) .args) in
+    turned (begunAs (a .loads) (a .file .now)) (a .area .now) (servedOn (a .loads) (a .saves) (a .sheet .now) (a .area .now))
+    ((After-begun-from-After-entry-number c) .begun .result .answer) (((After-begun-from-After-entry-number c) .begun .ensures .0))
+    (sym (c .before .before .accepted .ensures) ∙ not-true _ (c .before .if1 .taken)) _
     (c .entry-number .ensures)
 
 refuse-long-requires : tie.Need-refuse-long-requires
@@ -47,18 +154,21 @@ same-length c = search needs
 
 returns-2 : tie.Need-returns-2
 returns-2 c =
-    let a = (c .before .before .before .before .before .before .before .before .before .before .before .args) in
-    taken (begunAs (a .loads) (a .file .now)) (a .area .now) (servedOn (a .loads) (a .saves) (a .sheet .now) (a .area .now)) (c .before .before .before .before .before .before .before .begun .result .answer) ((c .before .before .before .before .before .before .before .begun .ensures .0)) (sym (c .before .before .before .before .before .before .accepted .ensures) ∙ not-false _ (c .before .before .before .before .before .if1 .left)) _
-    ((c .before .before .before .before .before .before .before .begun .ensures .1)) _ ((c .before .before .refuse-long .ensures) ∙ long-served (a .loads) (a .saves) (a .sheet .now) (a .area .now) _ (c .before .before .before .before .if2 .taken))
+    let a = ((Start-from-After-slice-known2 c) .args) in
+    taken (begunAs (a .loads) (a .file .now)) (a .area .now) (servedOn (a .loads) (a .saves) (a .sheet .now) (a .area .now))
+    ((After-begun-from-After-slice-known2 c) .begun .result .answer) (((After-begun-from-After-slice-known2 c) .begun .ensures .0))
+    (sym ((After-accepted-from-After-slice-known2 c) .accepted .ensures) ∙ not-false _ ((Else1-from-After-slice-known2 c) .if1 .left)) _
+    (((After-begun-from-After-slice-known2 c) .begun .ensures .1)) _
+    ((c .before .before .refuse-long .ensures) ∙ long-served (a .loads) (a .saves) (a .sheet .now) (a .area .now) _ ((Then2-from-After-slice-known2 c) .if2 .taken))
 
 room-for-requires : tie.Need-room-for-requires
 room-for-requires c κs = search needs
 
 slice-relend-prefix-advance : tie.Need-slice-relend-prefix-advance
-slice-relend-prefix-advance c = room-most (c .before .before .before .before .before .before .before .before .args .saves) _ _ (c .room-for .ensures)
+slice-relend-prefix-advance c = room-most ((Start-from-After-room-for c) .args .saves) _ _ (c .room-for .ensures)
 
 slice-aggregate-advance : tie.Need-slice-aggregate-advance
-slice-aggregate-advance c = sym (length-take-le _ _ (room-most (c .before .before .before .before .before .before .before .before .before .args .saves) _ _ (c .before .room-for .ensures)))
+slice-aggregate-advance c = sym (length-take-le _ _ (room-most ((Start-from-After-advance-arg c) .args .saves) _ _ (c .before .room-for .ensures)))
 
 advance-requires : tie.Need-advance-requires
 advance-requires c κs = search needs
@@ -71,40 +181,53 @@ entry-number-requires-2 c κs = search needs
 
 same-length-2 : tie.Need-same-length-2
 same-length-2 c =
-    (c .before .before .before .save .kept .1 .0)
-    ∙ back-length (c .before .before .before .before .before .before .before .before .advance .last .1 .1 .1 .1 .1 .0) (c .before .before .before .before .before .before .before .before .before .before .room-for .result) (c .before .before .before .before .before .before .before .before .before .before .before .before .before .before .before .before .before .before .args .area .now) (room-most (c .before .before .before .before .before .before .before .before .before .before .before .before .before .before .before .before .before .before .args .saves) _ _ (c .before .before .before .before .before .before .before .before .before .before .room-for .ensures)) (c .before .before .before .before .before .before .before .before .advance .kept .1 .1 .1 .1 .1 .0)
+    ((After-save-from-After-entry-number2 c) .save .kept .1 .0)
+    ∙ back-length ((After-advance-from-After-entry-number2 c) .advance .last .1 .1 .1 .1 .1 .0) ((After-room-for-from-After-entry-number2 c) .room-for .result)
+    ((Start-from-After-entry-number2 c) .args .area .now) (room-most ((Start-from-After-entry-number2 c) .args .saves) _ _
+    ((After-room-for-from-After-entry-number2 c) .room-for .ensures)) ((After-advance-from-After-entry-number2 c) .advance .kept .1 .1 .1 .1 .1 .0)
 
 returns-3 : tie.Need-returns-3
 returns-3 c =
-    let a = (c .before .before .before .before .before .before .before .before .before .before .before .before .before .before .before .before .before .before .args) in
-    let room = (c .before .before .before .before .before .before .before .before .before .before .room-for .ensures) in
-    taken (begunAs (a .loads) (a .file .now)) (a .area .now) (servedOn (a .loads) (a .saves) (a .sheet .now) (a .area .now)) (c .before .before .before .before .before .before .before .before .before .before .before .before .before .before .begun .result .answer) ((c .before .before .before .before .before .before .before .before .before .before .before .before .before .before .begun .ensures .0)) (sym (c .before .before .before .before .before .before .before .before .before .before .before .before .before .accepted .ensures) ∙ not-false _ (c .before .before .before .before .before .before .before .before .before .before .before .before .if1 .left)) _
-    ((c .before .before .before .before .before .before .before .before .before .before .before .before .before .before .begun .ensures .1)) _ (save-served (a .saves) (a .sheet .now) (a .area .now) _ _ room _ _ _ _ _ (c .before .before .before .before .before .before .before .before .advance .ensures) (c .before .before .before .before .before .if3 .taken) (a .loads) (c .before .before .before .before .before .before .before .before .before .before .before .if2 .left) (c .before .before .before .save .result) _ (c .before .before .before .save .ensures .0) (c .before .before .before .save .ensures .1) _
+    let a = ((Start-from-After-entry-number2 c) .args) in
+    let room = ((After-room-for-from-After-entry-number2 c) .room-for .ensures) in
+    taken (begunAs (a .loads) (a .file .now)) (a .area .now) (servedOn (a .loads) (a .saves) (a .sheet .now) (a .area .now))
+    ((After-begun-from-After-entry-number2 c) .begun .result .answer) (((After-begun-from-After-entry-number2 c) .begun .ensures .0))
+    (sym ((After-accepted-from-After-entry-number2 c) .accepted .ensures) ∙ not-false _ ((Else1-from-After-entry-number2 c) .if1 .left)) _
+    (((After-begun-from-After-entry-number2 c) .begun .ensures .1)) _
+    (save-served (a .saves) (a .sheet .now) (a .area .now) _ _ room _ _ _ _ _ ((After-advance-from-After-entry-number2 c) .advance .ensures)
+    ((Then3-from-After-entry-number2 c) .if3 .taken) (a .loads) ((Else2-from-After-entry-number2 c) .if2 .left) ((After-save-from-After-entry-number2 c) .save .result) _
+    ((After-save-from-After-entry-number2 c) .save .ensures .0) ((After-save-from-After-entry-number2 c) .save .ensures .1) _
     (c .entry-number2 .ensures))
 
 handed-requires : tie.Need-handed-requires
 handed-requires c κs =
-    let a = (c .before .before .before .before .before .before .before .before .before .before .before .before .before .args) in
-    let m = run-written (a .saves) (a .sheet .now) (a .area .now) _ _ (c .before .before .before .before .before .room-for .ensures) _ _ _ _ _ (c .before .before .before .advance .ensures) (c .if3 .left) in
-    let g = (c .before .before .before .before .before .before .before .before .before .before .before .before .before .good) in omega (arith, m, g)
+    let a = ((Start-from-Else3 c) .args) in
+    let m = run-written (a .saves) (a .sheet .now) (a .area .now) _ _ ((After-room-for-from-Else3 c) .room-for .ensures) _ _ _ _ _ ((After-advance-from-Else3 c) .advance .ensures) (c .if3 .left) in
+    let g = ((Start-from-Else3 c) .good) in omega (arith, m, g)
 
 scaled-requires : tie.Need-scaled-requires
 scaled-requires c κs =
-    let a = c .before .before .before .before .before .before .before .before .before .before .before .before .before .before .args in
-    let p = c .before .before .before .before .before .before .before .before .before .before .begun .result .state in
-    run-small (a .saves) (a .sheet .now) (a .area .now) _ _ (c .before .before .before .before .before .before .room-for .ensures) _ _ _ _ _ (c .before .before .before .before .advance .ensures) (c .before .if3 .left)
-    (narrow-begun (a .loads) (a .file .now) p (c .before .before .before .before .before .before .before .before .before .before .begun .ensures .1)) (c .before .before .before .before .before .before .before .if2 .left) _ (c .handed .ensures)
+    let a = (Start-from-After-handed c) .args in
+    let p = (After-begun-from-After-handed c) .begun .result .state in
+    run-small (a .saves) (a .sheet .now) (a .area .now) _ _ ((After-room-for-from-After-handed c) .room-for .ensures) _ _ _ _ _ ((After-advance-from-After-handed c) .advance .ensures)
+    (c .before .if3 .left)
+    (narrow-begun (a .loads) (a .file .now) p ((After-begun-from-After-handed c) .begun .ensures .1)) ((Else2-from-After-handed c) .if2 .left) _ (c .handed .ensures)
 
 same-length-3 : tie.Need-same-length-3
 same-length-3 c =
-    back-length (c .before .before .before .before .before .advance .last .1 .1 .1 .1 .1 .0) (c .before .before .before .before .before .before .before .room-for .result) (c .before .before .before .before .before .before .before .before .before .before .before .before .before .before .before .args .area .now) (room-most (c .before .before .before .before .before .before .before .before .before .before .before .before .before .before .before .args .saves) _ _ (c .before .before .before .before .before .before .before .room-for .ensures)) (c .before .before .before .before .before .advance .kept .1 .1 .1 .1 .1 .0)
+    back-length ((After-advance-from-After-scaled c) .advance .last .1 .1 .1 .1 .1 .0) ((After-room-for-from-After-scaled c) .room-for .result)
+    ((Start-from-After-scaled c) .args .area .now) (room-most ((Start-from-After-scaled c) .args .saves) _ _ ((After-room-for-from-After-scaled c) .room-for .ensures))
+    ((After-advance-from-After-scaled c) .advance .kept .1 .1 .1 .1 .1 .0)
 
 returns-4 : tie.Need-returns-4
 returns-4 c =
-    let a = (c .before .before .before .before .before .before .before .before .before .before .before .before .before .before .before .args) in
-    let room = (c .before .before .before .before .before .before .before .room-for .ensures) in
-    taken (begunAs (a .loads) (a .file .now)) (a .area .now) (servedOn (a .loads) (a .saves) (a .sheet .now) (a .area .now)) (c .before .before .before .before .before .before .before .before .before .before .before .begun .result .answer) ((c .before .before .before .before .before .before .before .before .before .before .before .begun .ensures .0)) (sym (c .before .before .before .before .before .before .before .before .before .before .accepted .ensures) ∙ not-false _ (c .before .before .before .before .before .before .before .before .before .if1 .left)) _
-    ((c .before .before .before .before .before .before .before .before .before .before .before .begun .ensures .1)) _ (run-served (a .saves) (a .sheet .now) (a .area .now) _ _ room _ _ _ _ _ (c .before .before .before .before .before .advance .ensures) (c .before .before .if3 .left) (a .loads) (c .before .before .before .before .before .before .before .before .if2 .left) _ (c .before .handed .ensures) _ (c .scaled .ensures))
+    let a = ((Start-from-After-scaled c) .args) in
+    let room = ((After-room-for-from-After-scaled c) .room-for .ensures) in
+    taken (begunAs (a .loads) (a .file .now)) (a .area .now) (servedOn (a .loads) (a .saves) (a .sheet .now) (a .area .now)) ((After-begun-from-After-scaled c) .begun .result .answer)
+    (((After-begun-from-After-scaled c) .begun .ensures .0)) (sym ((After-accepted-from-After-scaled c) .accepted .ensures) ∙ not-false _ ((Else1-from-After-scaled c) .if1 .left)) _
+    (((After-begun-from-After-scaled c) .begun .ensures .1)) _
+    (run-served (a .saves) (a .sheet .now) (a .area .now) _ _ room _ _ _ _ _ ((After-advance-from-After-scaled c) .advance .ensures) (c .before .before .if3 .left) (a .loads)
+    ((Else2-from-After-scaled c) .if2 .left) _ (c .before .handed .ensures) _ (c .scaled .ensures))
 
 pub serve-spec : {M : Type 1} → statement M
 serve-spec =

@@ -21,7 +21,8 @@ wrapping-add-u32-requires-4 c κs = search needs
 returns : tie.Need-returns
 returns c =
     let w = (c .before .before .before .before .args .w) in
-    sum-words ((c .before .before .before .before .args .s)) (w .first) (w .second) (w .third) (w .fourth) _ _ _ _ (c .before .before .before .wrapping-add-u32 .ensures) (c .before .before .wrapping-add-u322 .ensures) (c .before .wrapping-add-u323 .ensures) (c .wrapping-add-u324 .ensures)
+    sum-words ((c .before .before .before .before .args .s)) (w .first) (w .second) (w .third) (w .fourth) _ _ _ _ (c .before .before .before .wrapping-add-u32 .ensures)
+    (c .before .before .wrapping-add-u322 .ensures) (c .before .wrapping-add-u323 .ensures) (c .wrapping-add-u324 .ensures)
 
 pub added-spec : {M : Type 1} → statement M
 added-spec =

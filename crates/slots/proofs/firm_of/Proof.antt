@@ -1,5 +1,4 @@
 use lib.Bits.{and-mask}
-use lib.Dec.{eqb}
 use Rattle.file.specs.Bytes.{firmBit}
 use Rattle.slots.proofs.firm_of.Statement.{statement}
 use Rattle.slots.proofs.firm_of.Tie as tie

@@ -1,7 +1,5 @@
-use mathlib.Core.Path.{refl, ap}
+use mathlib.Core.Path.{refl}
 use native.Mathlib.Omega.{arith}
-use lib.Seq.{length-sets}
-use lib.ListN.{length}
 use Rattle.slots.proofs.Words.{put-in, put-none}
 use borrow.Author.Needs.{needs}
 use Rattle.slots.proofs.put.Statement.{statement}
@@ -37,10 +35,34 @@ put-word-requires-4 c κs = search needs
 same-length : tie.Need-same-length
 same-length c = search needs
 
+-- ---- the places of the code, as tools/named writes them
+
+abbrev Then1-from-After-put-word : tie.After-put-word → tie.Then1
+Then1-from-After-put-word c = c .before .before
+
+abbrev Start-from-After-put-word : tie.After-put-word → tie.Start
+Start-from-After-put-word c = c .before .before .before .before
+
+abbrev After-put-word3-from-After-slice-known5 : tie.After-slice-known5 → tie.After-put-word3
+After-put-word3-from-After-slice-known5 c = c .before .before .before .before .before .before
+
+abbrev After-put-word2-from-After-slice-known5 : tie.After-slice-known5 → tie.After-put-word2
+After-put-word2-from-After-slice-known5 c = c .before .before .before .before .before .before .before .before .before .before
+
+abbrev After-put-word-from-After-slice-known5 : tie.After-slice-known5 → tie.After-put-word
+After-put-word-from-After-slice-known5 c = c .before .before .before .before .before .before .before .before .before .before .before .before .before .before
+
+abbrev Then1-from-After-slice-known5 : tie.After-slice-known5 → tie.Then1
+Then1-from-After-slice-known5 c = Then1-from-After-put-word (After-put-word-from-After-slice-known5 c)
+
+abbrev Start-from-After-slice-known5 : tie.After-slice-known5 → tie.Start
+Start-from-After-slice-known5 c = Start-from-After-put-word (After-put-word-from-After-slice-known5 c)
+
 returns : tie.Need-returns
 returns c =
-    let s = c .before .before .before .before .before .before .before .before .before .before .before .before .before .before .before .before .before .before .args in
-    put-in (s .area .now) (s .k) _ (s .w) _ _ _ _ (c .before .before .before .before .before .before .before .before .before .before .before .before .before .before .before .before .if1 .taken) refl (c .before .before .before .before .before .before .before .before .before .before .before .before .before .before .put-word .ensures) (c .before .before .before .before .before .before .before .before .before .before .put-word2 .ensures) (c .before .before .before .before .before .before .put-word3 .ensures)
+    let s = (Start-from-After-slice-known5 c) .args in
+    put-in (s .area .now) (s .k) _ (s .w) _ _ _ _ ((Then1-from-After-slice-known5 c) .if1 .taken) refl ((After-put-word-from-After-slice-known5 c) .put-word .ensures)
+    ((After-put-word2-from-After-slice-known5 c) .put-word2 .ensures) ((After-put-word3-from-After-slice-known5 c) .put-word3 .ensures)
     (c .before .before .put-word4 .ensures)
 
 returns-2 : tie.Need-returns-2

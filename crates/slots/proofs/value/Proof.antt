@@ -1,6 +1,6 @@
 use native.Mathlib.Omega.{arith}
 use mathlib.Core.Path.{ap, _∙_}
-use lib.IntN.{pos, negsuc}
+use lib.IntN.{negsuc}
 use Rattle.exact.proofs.Ints.{fits32}
 use mir.Syntax.{w32}
 use mir.Facts.{toZ-ofZ, toZ-pos}

@@ -21,7 +21,8 @@ sub-result c = search needs
 
 returns : tie.Need-returns
 returns c =
-    ap (λ n. 4294967295 - n) ((c .behind .ensures) ∙ ap beyond (toZ-ofZ ((c .before .before .fits .v)))) ∙ complement-below ((c .before .before .args .v)) (flag _ ((c .before .before .fits .v)) ((c .before .if1 .taken)))
+    ap (λ n. 4294967295 - n) ((c .behind .ensures) ∙ ap beyond (toZ-ofZ ((c .before .before .fits .v)))) ∙ complement-below ((c .before .before .args .v))
+    (flag _ ((c .before .before .fits .v)) ((c .before .if1 .taken)))
 
 number-requires : tie.Need-number-requires
 number-requires c κs = search needs
