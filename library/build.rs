@@ -6,7 +6,7 @@ use std::path::PathBuf;
 fn main() {
     let folder = match env::var_os("SCREEN_LIB") {
         Some(folder) => PathBuf::from(folder),
-        None => PathBuf::from(env::var_os("CARGO_MANIFEST_DIR").unwrap()).join("../../target/staticlib"),
+        None => PathBuf::from(env::var_os("CARGO_MANIFEST_DIR").unwrap()).join("../target/staticlib"),
     };
     println!("cargo:rerun-if-env-changed=SCREEN_LIB");
     println!("cargo:rerun-if-changed={}", folder.join("libscreen.a").display());

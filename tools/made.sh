@@ -48,7 +48,7 @@ make_explainer() {
 
 make_desk() {
     make_library || return
-    stale "$desk" desk "$library" || return 0
+    stale "$desk" desk library "$library" || return 0
     need cargo 'Rust' || return
     echo "building $desk: some seconds" >&2
     CARGO_TARGET_DIR=target/desk cargo build --release --offline --quiet --manifest-path desk/Cargo.toml && mark "$desk"

@@ -7,6 +7,8 @@
 //!
 //! The exit status is 0 where all went well, 1 where the library refused or a file cannot be read or written, 2 after a wrong usage.
 
+#![forbid(unsafe_code)]
+
 mod entry;
 mod place;
 mod refusals;

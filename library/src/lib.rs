@@ -1,4 +1,4 @@
-//! The proved library's C entries, as safe functions.
+//! The proved library's C entries (include/screen.h), as safe functions: for desk, for the tests and for bench. All that is unsafe stands here.
 
 mod entry {
     extern "C" {
