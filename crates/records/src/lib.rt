@@ -111,19 +111,20 @@ pub fn with_fate(e: EditRecord, fate: Fate) -> EditRecord
     }
 }
 
+// No edit. Of a constant a compiler knows every byte: 256 of them are set up at once.
+pub const NO_RECORD: EditRecord = EditRecord {
+    change: Change::Set(0),
+    fate: Fate::Unsent,
+    replied: false,
+    side: 0,
+    measure: 0,
+    client: 0,
+    earlier: 0,
+    place: 0,
+};
+
 pub fn no_record() -> EditRecord
     ensures { λ r. ⌜ r ≡ noRecord ⌝ }
 {
-    let change = Change::Set(0);
-    let fate = Fate::Unsent;
-    EditRecord {
-        change,
-        fate,
-        side: 0,
-        client: 0,
-        earlier: 0,
-        measure: 0,
-        place: 0,
-        replied: false,
-    }
+    NO_RECORD
 }
