@@ -256,11 +256,3 @@ module _ (f : List ℕ) (some : 0 < slots f) (w : Slot) (w-is : w ≡ wordsIn f 
             let y = same-refusal z₂ (then-drew base draft arrived confirmed edits (x .sized) (x .long)) in
             same-calls drawing-is (drew-then (chainCalls 1 f a) (chainCalls 2 f b ++ (open-plan ∷ [])) r _ _ _ x
             (drew-then (chainCalls 2 f b) (open-plan ∷ []) r _ _ _ y (last base draft arrived confirmed edits (y .sized) (y .long))))
-
--- ---- on a state
-
-pub drawn-on : (p : State) (h : Head) → h ≡ p .head → {cs : List Call} {k : ℕ} {h′ : Head} {values′ table′ : List ℤ} → DrewFrom cs k h (p .values) (p .table) h′ values′ table′ → Sized (spread p)
-    → length (p .table) ≡ 256 → Drew cs k p (stateOf h′ (p .base) (p .draft) values′ (p .arrived) (p .confirmed) table′ (p .edits))
-drawn-on p h e {cs} {k} {h′} {values′} {table′} d z l =
-    let here = subst (λ x. DrewFrom cs k x (p .values) (p .table) h′ values′ table′) e d in
-    here (p .base) (p .draft) (p .arrived) (p .confirmed) (p .edits) z l

@@ -11,7 +11,7 @@ use lib.IntN.{ℤ}
 use lib.ListN.{length}
 use Rattle.protocol.specs.Lists.{isNone}
 use Rattle.protocol.specs.Plan.{Plan, whole}
-use Rattle.protocol.specs.Calls.{Call, measure, open-plan, Verdict, fine, refused, first, checks, after, firstValues, step, end}
+use Rattle.protocol.specs.Calls.{Call, measure, open-plan, Verdict, fine, refused, first, checks, after, firstValues, step, end, no, ok}
 use Rattle.file.specs.Loaded.{slotIn, nextNumber, sized, untouched, readChecks, drawing, orElse, firstRefusal, loadVerdict, renumbered, loadBy, load, measureChain, ruleChain, valueIn, ruleIn}
 use Rattle.file.proofs.Drawn.{both-fine}
 use Rattle.rows.proofs.Spans.{length-span}
@@ -24,11 +24,12 @@ use Rattle.slots.specs.Words.{wordsIn}
 use Rattle.state.specs.declared.State.{State}
 use Rattle.state.specs.Meets.{refusal, done, refusalOf}
 use Rattle.state.specs.Spread.{spread}
+use Rattle.state.specs.Sizes.{Sized}
 use Rattle.state.specs.View.{view, stateOf}
 use Rattle.state.proofs.View.{plan-same, first-row, row-length}
 use Rattle.state.proofs.Meets.{verdict-refused, verdict-fine, fine-pass}
 use Rattle.load.specs.Reading.{untouchedIn, headChecks, renumberedHead}
-use Rattle.load.specs.Drawing.{verdictOf, Drew}
+use Rattle.load.specs.Drawing.{verdictOf, Drew, loadAnswer, LoadedAs, LoadedFrom}
 use Rattle.load.specs.Loading.{MeetsLoad}
 use Rattle.load.proofs.Reading.{zero-words, sized-parts}
 use Rattle.load.proofs.Drawing.{first-append, end-append}
@@ -50,13 +51,17 @@ unfolding readChecks
 checks-are f p = rw (untouched-is p)
 
 module _ (f : List ℕ) (p : State) (k : ℕ) (k-is : k ≡ refusalOf (first (headChecks f (p .head)))) where
-  -- the file cannot be read
-  pub load-unread : k ≢ 0 → MeetsLoad f p (record { state = p; answer = refusal k })
+  refused-as : (j : ℕ) (q : State) → j ≢ 0 → loadVerdict f (view p) ≡ refused j → Sized (spread q) → length (q .table) ≡ 256 → LoadedAs f j p q
   unfolding load
+  refused-as j q n e z l =
+      let v : loadAnswer j ≡ no j = rw (ne-eqb j 0 n) in
+      record { answer = ap (λ x. loadBy x f (view p) .answer) e ∙ sym v; plan = λ o. absurd (n o); sized = z; long = l }
+
+  -- the file cannot be read, and nothing is drawn
+  pub load-unread : k ≢ 0 → Sized (spread p) → length (p .table) ≡ 256 → LoadedAs f k p p
   load-unread n =
       let v = checks-are f p ∙ verdict-refused (first (headChecks f (p .head))) k k-is n in
-      let e : loadVerdict f (view p) ≡ refused k = ap (λ x. orElse x (firstRefusal (drawing f) (view p))) v in
-      record { answer = sym (ap (λ x. loadBy x f (view p) .answer) e); plan = sym (ap (λ x. loadBy x f (view p) .plan) e); same = refl }
+      refused-as k p n (ap (λ x. orElse x (firstRefusal (drawing f) (view p))) v)
 
   module _ (z : k ≡ 0) where
     pub read-fine : first (headChecks f (p .head)) ≡ fine
@@ -69,12 +74,10 @@ module _ (f : List ℕ) (p : State) (k : ℕ) (k-is : k ≡ refusalOf (first (he
     decides v e = ap (λ x. orElse x (firstRefusal (drawing f) (view p))) (checks-are f p ∙ read-fine) ∙ e
 
     -- drawing it is refused
-    pub load-undrawn : (j : ℕ) (q : State) → Drew (drawing f) j p q → j ≢ 0 → MeetsLoad f p (record { state = p; answer = refusal j })
-    unfolding load
+    pub load-undrawn : (j : ℕ) (q : State) → Drew (drawing f) j p q → j ≢ 0 → LoadedAs f j p q
     load-undrawn j q d n =
         let v : verdictOf j ≡ refused j = rw (ne-eqb j 0 n) in
-        let e = decides (refused j) (d .verdict ∙ v) in
-        record { answer = sym (ap (λ x. loadBy x f (view p) .answer) e); plan = sym (ap (λ x. loadBy x f (view p) .plan) e); same = refl }
+        refused-as j q n (decides (refused j) (d .verdict ∙ v)) (d .sized) (d .long)
 
     -- ---- accepted
 
@@ -93,9 +96,9 @@ module _ (f : List ℕ) (p : State) (k : ℕ) (k-is : k ≡ refusalOf (first (he
         let a : drawing f ≡ (ms ++ rs) ++ (open-plan ∷ []) = sym (append-assoc ms rs (open-plan ∷ [])) in
         ap (λ cs. end cs (view p) .mode) a ∙ open-last (ms ++ rs) (view p) (ap (λ cs. firstRefusal cs (view p)) (sym a) ∙ e)
 
-    pub load-drawn : (h : Head) (base draft values : List ℤ) (arrived confirmed : List Bool) (table : List ℤ) (edits : List EditRecord) (w : Slot)
+    load-drawn : (h : Head) (base draft values : List ℤ) (arrived confirmed : List Bool) (table : List ℤ) (edits : List EditRecord) (w : Slot)
         → Drew (drawing f) 0 p (stateOf h base draft values arrived confirmed table edits) → w ≡ wordsIn f 0
-        → MeetsLoad f p (record { state = stateOf (renumberedHead h (w .second)) base draft values arrived confirmed table edits; answer = done })
+        → LoadedAs f 0 p (stateOf (renumberedHead h (w .second)) base draft values arrived confirmed table edits)
     unfolding load
     load-drawn h base draft values arrived confirmed table edits w d w-is =
         let q = stateOf h base draft values arrived confirmed table edits in
@@ -106,15 +109,55 @@ module _ (f : List ℕ) (p : State) (k : ℕ) (k-is : k ≡ refusalOf (first (he
         let shown : view (stateOf (renumberedHead h (w .second)) base draft values arrived confirmed table edits) ≡ renumbered (nextNumber f) (view q) =
         plan-same refl refl next-is refl refl refl (ap (λ n. logOf n (keptIn h) edits) end-is) in
         record {
-          answer = sym (ap (λ x. loadBy x f (view p) .answer) e);
-          plan = shown ∙ ap (renumbered (nextNumber f)) (d .plan refl) ∙ sym (ap (λ x. loadBy x f (view p) .plan) e);
-          same = tt;
+          answer = ap (λ x. loadBy x f (view p) .answer) e;
+          plan = λ o. shown ∙ ap (renumbered (nextNumber f)) (d .plan refl) ∙ sym (ap (λ x. loadBy x f (view p) .plan) e);
+          sized = let z = d .sized in record {
+            base = z .base;
+            draft = z .draft;
+            values = z .values;
+            arrived = z .arrived;
+            confirmed = z .confirmed;
+            lower = z .lower;
+            gap = z .gap;
+            upper = z .upper;
+            firm = z .firm;
+            edits = z .edits;
+          };
+          long = d .long;
         }
 
-    -- the state that the program makes of it
-    pub load-done : (h h₂ : Head) (base draft values : List ℤ) (arrived confirmed : List Bool) (table : List ℤ) (edits : List EditRecord) (w : Slot) (s : State)
+    -- with the head that the program makes of it
+    pub load-done : (h h₂ : Head) (base draft values : List ℤ) (arrived confirmed : List Bool) (table : List ℤ) (edits : List EditRecord) (w : Slot)
         → Drew (drawing f) 0 p (stateOf h base draft values arrived confirmed table edits) → w ≡ wordsIn f 0 → h₂ ≡ renumberedHead h (w .second)
-        → s ≡ stateOf h₂ base draft values arrived confirmed table edits → MeetsLoad f p (record { state = s; answer = done })
-    load-done h h₂ base draft values arrived confirmed table edits w s d w-is e g =
-        let same = g ∙ ap (λ (x : Head). stateOf x base draft values arrived confirmed table edits) e in
-        subst (λ (x : State). MeetsLoad f p (record { state = x; answer = done })) (sym same) (load-drawn h base draft values arrived confirmed table edits w d w-is)
+        → LoadedAs f 0 p (stateOf h₂ base draft values arrived confirmed table edits)
+    load-done h h₂ base draft values arrived confirmed table edits w d w-is e =
+        subst (λ (x : Head). LoadedAs f 0 p (stateOf x base draft values arrived confirmed table edits)) (sym e) (load-drawn h base draft values arrived confirmed table edits w d w-is)
+
+-- ---- by value
+
+-- a refused load leaves the plan
+refused-keeps : (v : Verdict) (f : List ℕ) (p : Plan) (k : ℕ) → loadBy v f p .answer ≡ no k → loadBy v f p .plan ≡ p
+refused-keeps fine f p k e = let z : ok [] ≡ no k = e in absurd (let y : _≡_ {A = ℕ} 0 1 = cc in omega arith)
+refused-keeps (refused j) f p k e = refl
+
+-- loaded into the state's own numbers
+module _ (f : List ℕ) (p : State) {k : ℕ} {h h′ : Head} {values table : List ℤ} (d : LoadedFrom f k h (p .values) (p .table) h′ values table) (e : h ≡ p .head) (z : Sized (spread p))
+    (l : length (p .table) ≡ 256) where
+  loaded : LoadedAs f k p (stateOf h′ (p .base) (p .draft) values (p .arrived) (p .confirmed) table (p .edits))
+  loaded =
+      let here = subst (λ x. LoadedFrom f k x (p .values) (p .table) h′ values table) e d in
+      here (p .base) (p .draft) (p .arrived) (p .confirmed) (p .edits) z l
+
+  pub meets-refused : k ≢ 0 → MeetsLoad f p (record { state = p; answer = refusal k })
+  unfolding load
+  meets-refused n =
+      let v : loadAnswer k ≡ no k = rw (ne-eqb k 0 n) in
+      let a = loaded .answer ∙ v in
+      record { answer = sym a; plan = sym (refused-keeps (loadVerdict f (view p)) f (view p) k a); same = refl }
+
+  -- the state that the program puts together
+  pub meets-loaded : k ≡ 0 → (g : Head) (s : State) → g ≡ h′ → s ≡ stateOf g (p .base) (p .draft) values (p .arrived) (p .confirmed) table (p .edits)
+      → MeetsLoad f p (record { state = s; answer = done })
+  meets-loaded o g s same-head s-is =
+      let same = s-is ∙ ap (λ (x : Head). stateOf x (p .base) (p .draft) values (p .arrived) (p .confirmed) table (p .edits)) same-head in
+      record { answer = sym (loaded .answer ∙ ap loadAnswer o); plan = ap view same ∙ loaded .plan o; same = tt }

@@ -1,15 +1,16 @@
--- Scaffolding: a file drawn by the program, slot by slot. Assumes nothing.
+-- Scaffolding: a file drawn by the program, slot by slot, and loaded. Assumes nothing.
 use Prim.Native.Nat.{ℕ}
 use mathlib.Core.Path.{_≡_}
 use mathlib.Core.Bool.{Bool, cond}
-use mathlib.Core.List.{List, map}
+use mathlib.Core.List.{List, [], map}
 use lib.Dec.{eqb}
 use lib.IntN.{ℤ}
 use lib.ListN.{length}
 use Rattle.protocol.specs.Lists.{isNone}
-use Rattle.protocol.specs.Calls.{Call, measure, Verdict, fine, refused, end}
+use Rattle.protocol.specs.Calls as model
+use Rattle.protocol.specs.Calls.{Call, measure, Verdict, fine, refused, no, ok, end}
 use Rattle.protocol.specs.Numbering.{measureOp}
-use Rattle.file.specs.Loaded.{slotIn, slots, valueIn, ruleIn, chain, firstRefusal}
+use Rattle.file.specs.Loaded.{slotIn, slots, valueIn, ruleIn, chain, firstRefusal, load}
 use Rattle.heads.specs.declared.Head.{Head}
 use Rattle.records.specs.declared.EditRecord.{EditRecord}
 use Rattle.state.specs.declared.State.{State}
@@ -52,3 +53,21 @@ DrewFrom cs k h values table h′ values′ table′ =
     (base draft : List ℤ) (arrived confirmed : List Bool) (edits : List EditRecord)
     → let p = stateOf h base draft values arrived confirmed table edits in
     Sized (spread p) → length table ≡ 256 → Drew cs k p (stateOf h′ base draft values′ arrived confirmed table′ edits)
+
+-- what loading answers, by the refusal's number, 0 for none
+abbrev pub loadAnswer : ℕ → model.Answer
+loadAnswer k = cond (isNone k) (ok []) (no k)
+
+-- A file loaded, with the plan where it is accepted; k is the refusal's number, or 0.
+pub record LoadedAs (f : List ℕ) (k : ℕ) (p q : State) : Type 0 where
+  pub answer : load f (view p) .answer ≡ loadAnswer k
+  pub plan : k ≡ 0 → view q ≡ load f (view p) .plan
+  pub sized : Sized (spread q)
+  pub long : length (q .table) ≡ 256
+
+-- the same of what is lent of a state, whatever the rest of it
+abbrev pub LoadedFrom : List ℕ → ℕ → Head → List ℤ → List ℤ → Head → List ℤ → List ℤ → Type 0
+LoadedFrom f k h values table h′ values′ table′ =
+    (base draft : List ℤ) (arrived confirmed : List Bool) (edits : List EditRecord)
+    → let p = stateOf h base draft values arrived confirmed table edits in
+    Sized (spread p) → length table ≡ 256 → LoadedAs f k p (stateOf h′ base draft values′ arrived confirmed table′ edits)

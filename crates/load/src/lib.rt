@@ -14,7 +14,7 @@ ghost use Rattle.heads.specs.Numbers.{headFrom};
 ghost use Rattle.state.specs.Meets.{refusalOf, refusal as refusalAnswer};
 ghost use Rattle.load.specs.Walking.{Walking};
 ghost use Rattle.load.specs.Reading.{headChecks, renumberedHead};
-ghost use Rattle.load.specs.Drawing.{refusedIn, slotCall, chainCalls, DrewFrom};
+ghost use Rattle.load.specs.Drawing.{refusedIn, slotCall, chainCalls, DrewFrom, LoadedFrom};
 ghost use Rattle.load.specs.Loading.{MeetsLoad};
 use heads::Head;
 use heads::Numbers;
@@ -303,30 +303,49 @@ fn refusal(p: State, k: u32) -> Answered
     Answered { state: p, answer }
 }
 
+// Internal, for `sheet`: loads a file into what is lent of a plan, and gives the refusal, or 0. A refusal may leave there what was drawn until then: its caller drops it.
+pub fn load_in(
+    f: &[u8],
+    head: &mut Numbers,
+    values: &mut [i32; limit::VALUES],
+    table: &mut Table,
+) -> u32
+    ensures { λ r. ⌜ LoadedFrom (now (f .entry)) r (headFrom (now (head .entry))) (now (values .entry)) (now (table .entry)) (headFrom (now (head .exit)))
+        (now (values .exit)) (now (table .exit)) ⌝ }
+{
+    let h = heads::from_numbers(head);
+    let unread = read_refusal(h, f);
+    if unread != 0 {
+        return unread;
+    }
+    let undrawn = draw_file(f, head, values, table);
+    if undrawn != 0 {
+        return undrawn;
+    }
+    let w = slots::read(f, 0);
+    let next = heads::numbers(with_next(heads::from_numbers(head), w.second));
+    *head = next;
+    0
+}
+
 // Loads a file: the plan is drawn and opened on numbers of its own, so that a refusal leaves it as it was, and has the file's next number.
 pub fn load(p: State, f: &[u8]) -> Answered
     ensures { λ r. ⌜ MeetsLoad (now (f .entry)) p r ⌝ }
 {
-    let h = p.head;
-    let unread = read_refusal(h, f);
-    if unread != 0 {
-        return refusal(p, unread);
-    }
-    let mut head = heads::numbers(h);
+    let mut head = heads::numbers(p.head);
     let mut values = p.values;
     let mut table = p.table;
-    let undrawn = draw_file(f, &mut head, &mut values, &mut table);
-    if undrawn != 0 {
-        return refusal(p, undrawn);
+    let unloaded = load_in(f, &mut head, &mut values, &mut table);
+    if unloaded != 0 {
+        return refusal(p, unloaded);
     }
-    let w = slots::read(f, 0);
-    let drawn = with_next(heads::from_numbers(&head), w.second);
+    let h = heads::from_numbers(&head);
     let base = p.base;
     let draft = p.draft;
     let arrived = p.arrived;
     let confirmed = p.confirmed;
     let edits = p.edits;
-    let state = state::of(drawn, base, draft, values, arrived, confirmed, table, edits);
+    let state = state::of(h, base, draft, values, arrived, confirmed, table, edits);
     let answer = Answer::Given(0, 0, 0, 0);
     Answered { state, answer }
 }

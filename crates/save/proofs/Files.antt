@@ -9,7 +9,7 @@ use lib.IntN.{ℤ, pos}
 use lib.ListN.{length, take, drop, length-append}
 use lib.Seq.{sets, sets-eq, take-at, drop-at, take-all}
 use Rattle.protocol.specs.Plan.{Rule, whole, is}
-use Rattle.protocol.specs.Calls.{no, ok}
+use Rattle.protocol.specs.Calls.{ok}
 use Rattle.file.specs.Bytes.{total, balancing}
 use Rattle.file.specs.Saved.{measureSlot, ruleSlot, slotsFrom, chains, heading, checkWord, fileOf, saved, saveChecks, save, saveInto}
 use Rattle.file.proofs.Sums.{length-slots, measure-16, rule-16, heading-16, file-length}
@@ -19,10 +19,11 @@ use Rattle.rows.specs.Rows.{row}
 use Rattle.rows.proofs.Spans.{length-span}
 use Rattle.slots.proofs.Words.{sets-both}
 use Rattle.state.specs.declared.State.{State}
+use Rattle.state.specs.Meets.{refusal, number}
 use Rattle.state.specs.Spread.{spread}
 use Rattle.state.specs.View.{view}
 use Rattle.state.proofs.View.{first-row, row-length}
-use Rattle.save.specs.Parts.{headOf, ruleAt, rulesOf}
+use Rattle.save.specs.Parts.{headOf, ruleAt, rulesOf, MeetsSave}
 use Rattle.save.proofs.Slots.{start-link}
 
 -- ---- the front of an area
@@ -131,16 +132,16 @@ module _ (p : State) where
       ap length saved-is ∙ omega arith
 
   -- refused, which leaves the area
-  pub save-31 : (area : List ℕ) → is whole (modeOf (p .head .mode)) ≡ false → (no 31 ≡ save (length area) (view p) .answer) × (area ≡ saveInto (view p) area)
+  pub save-31 : (area : List ℕ) → is whole (modeOf (p .head .mode)) ≡ false → MeetsSave (view p) area (refusal 31) area
   unfolding save saveInto saveChecks
   save-31 area e = rw e (refl, refl)
 
   module _ (area : List ℕ) (size : ℕ) (e : is whole (modeOf (p .head .mode)) ≡ true) (s : size ≡ length (saved (view p))) where
-    pub save-41 : length area < size → (no 41 ≡ save (length area) (view p) .answer) × (area ≡ saveInto (view p) area)
+    pub save-41 : length area < size → MeetsSave (view p) area (refusal 41) area
     unfolding save saveInto saveChecks
     save-41 h = rw (e, lt-leb (length (saved (view p))) (length area) (omega arith)) (refl, refl)
 
-    pub save-fine : size ≤ length area → (ok (pos size ∷ []) ≡ save (length area) (view p) .answer) × (inFront (fileOf values rules (p .head .next)) area ≡ saveInto (view p) area)
+    pub save-fine : size ≤ length area → MeetsSave (view p) area (number size) (inFront (fileOf values rules (p .head .next)) area)
     unfolding save saveInto saveChecks
     save-fine h =
         rw (e, le-leb (length (saved (view p))) (length area) (omega arith)) (ap (λ n. ok (pos n ∷ [])) s, sym (ap (λ bs. inFront bs area) saved-is))

@@ -8,10 +8,11 @@ ghost use Rattle.file.specs.Loaded.{slots};
 ghost use Rattle.file.specs.Saved.{measureSlot, ruleSlot, slotsFrom, fileOf, save, saveInto};
 ghost use Rattle.format.specs.Sheets.{inFront};
 ghost use Rattle.rows.specs.Rows.{row};
-ghost use Rattle.save.specs.Parts.{linkTo, headOf, ruleAt, rulesOf};
+ghost use Rattle.save.specs.Parts.{linkTo, headOf, ruleAt, rulesOf, SavedFrom};
 ghost use Rattle.slots.specs.Words.{bytesOf};
 ghost use Rattle.state.specs.Meets.{answerOf};
 ghost use Rattle.state.specs.View.{view};
+use heads::Head;
 use protocol::limit;
 use rules::Table;
 use slots::Slot;
@@ -136,11 +137,15 @@ fn write<'a>(
     slots::put(area, 0, heading(n, m, next, check));
 }
 
-// 31 when the plan is not whole, then 41 (02, S-1). What is written fills the front of the lent area, its length is given, and the rest is untouched; a refusal leaves the area as it was.
-pub fn save(p: State, area: &mut [u8]) -> Answer
-    ensures { λ r. ⌜ (answerOf r ≡ save (length (now (area .entry))) (view p) .answer) × (now (area .exit) ≡ saveInto (view p) (now (area .entry))) ⌝ }
+// Internal, for `sheet`: the same as `save`, on what is lent of a plan, so that it need not be handed over whole.
+pub fn save_in<'a>(
+    h: Head,
+    values: &'a [i32; limit::VALUES],
+    table: &'a Table,
+    area: &mut [u8],
+) -> Answer
+    ensures { λ r. ⌜ SavedFrom h (now (values .entry)) (now (table .entry)) (now (area .entry)) r (now (area .exit)) ⌝ }
 {
-    let h = p.head;
     let mode = h.mode;
     if heads::mode_number(mode) != 1 {
         return Answer::Refused(31, 0);
@@ -151,6 +156,13 @@ pub fn save(p: State, area: &mut [u8]) -> Answer
     if area.len() < size {
         return Answer::Refused(41, 0);
     }
-    write(&p.values, &p.table, n, m, h.next, area);
+    write(values, table, n, m, h.next, area);
     Answer::Given(1, size as u32, 0, 0)
+}
+
+// 31 when the plan is not whole, then 41 (02, S-1). What is written fills the front of the lent area, its length is given, and the rest is untouched; a refusal leaves the area as it was.
+pub fn save(p: State, area: &mut [u8]) -> Answer
+    ensures { λ r. ⌜ (answerOf r ≡ save (length (now (area .entry))) (view p) .answer) × (now (area .exit) ≡ saveInto (view p) (now (area .entry))) ⌝ }
+{
+    save_in(p.head, &p.values, &p.table, area)
 }
