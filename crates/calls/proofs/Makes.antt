@@ -11,12 +11,12 @@ use lib.IntN.{ℤ, pos}
 use lib.ListN.{length, getD, set, length-set}
 use lib.Seq.{set-getD}
 use Rattle.protocol.specs.Lists.{natural, oneTo}
-use Rattle.protocol.specs.Plan.{Mode, is, blank, whole, split, joining, closing, active, unsentOf}
-use Rattle.protocol.specs.Calls.{Call, edit, send, replay, belongs}
+use Rattle.protocol.specs.Plan.{is, whole, unsentOf}
+use Rattle.protocol.specs.Calls.{Call, edit, send, replay}
 use Rattle.protocol.proofs.Laws.{cases, range, is-yes}
 use Rattle.format.specs.Sheets.{stepOf}
 use Rattle.rows.specs.Rows.{row}
-use Rattle.rules.specs.Index.{Indexed, testedBy, firmBy}
+use Rattle.rules.specs.Index.{isMade, Indexed, testedBy, firmBy}
 use Rattle.rules.specs.Table.{lowers, gaps, uppers, firms, withRule}
 use Rattle.heads.specs.declared.Head.{Head}
 use Rattle.heads.specs.Heads.{modeOf, sidesIn, indexOf, namedAt, slotAt, namedSlot}
@@ -65,8 +65,9 @@ use Rattle.state.specs.Spread.{spread}
 use Rattle.state.specs.View.{view, stateOf}
 use Rattle.calls.specs.declared.Effect.{Effect}
 use Rattle.calls.specs.declared.Look.{Look}
-use Rattle.calls.specs.Makes.{looksAt, askedAt, firstLook, secondLook, IndexedIn, Known, Makes, noted, Making, isMove, isDraw, plain, stored}
-use Rattle.calls.proofs.Turning.{line-edit, line-replay, line-send, line-moves, line-draws, Made, meets-made, edit-rules, move-rules, drawn-before, drawn-blank, indexed-still, edit-held, replay-held, tallied-made, settled-few, edit-counts, send-counts, move-counts, draw-counts}
+use Rattle.calls.specs.Makes.{looksAt, askedAt, firstLook, secondLook, ReadyIn, Known, Makes, noted, Making, isMove, isDraw, plain, stored}
+use Rattle.calls.proofs.Turning.{line-edit, line-replay, line-send, line-moves, line-draws, Made, meets-made, edit-rules, move-rules, ready-still, edit-held, replay-held}
+use Rattle.calls.proofs.Turning.{tallied-made, settled-few, edit-counts, send-counts, move-counts, draw-counts}
 
 -- ---- a refusal leaves the state as it was
 
@@ -87,35 +88,20 @@ refused-same : (a : Answer) {A : Type 0} → isAccepted a ≡ false → IfRefuse
 refused-same (Refused k r) e x = x
 refused-same (Given count l m n) e x = absurd (is-yes (sym e))
 
-and-true : (b : Bool) → (b && true) ≡ b
-and-true true = refl
-and-true false = refl
-
 -- a move of the join is no edit
 move-counted : (op : ℕ) → isMove op ≡ true → eqb op 5 ≡ false
 move-counted op m = cases (eqb op 5)
     (λ e. absurd (subst T (sym m ∙ ap isMove (eqb-true op 5 e)) tt))
     (λ e. e)
 
--- nor is it for a blank plan
-undrawn : (op : ℕ) (x : ℤ) → belongs (moveCall op x) blank ≡ false
-undrawn op x = cases (eqb op 4) (λ e. rw e) (λ e. rw e (cases (eqb op 6) (λ f. rw f) (λ f. rw f (cases (eqb op 9) (λ g. rw g) (λ g. rw g (cases (eqb op 10) (λ h. rw h) (λ h. rw h)))))))
-
--- a plan that is joining or closing is drawn up
-joined : (mode : Mode) → T (active mode) → T (not (is blank mode))
-joined blank t = absurd t
-joined whole t = tt
-joined split t = tt
-joined joining t = tt
-joined closing t = tt
-
 -- ---- from a call's contract on states
 
 module _ {l : Line} {p : State} {index : List ℤ} {look : Look} {t : List ℕ} {sound : Bool} (k : Known l p index look t sound) where
-  pub met : (c : Call) (q : State) (e : Effect) (t′ : List ℕ) → lineIn l ≡ some c → belongs c blank ≡ false → MeetsSpread c (spread p) (record { state = spread q; answer = e .answer })
+  pub met : (c : Call) (q : State) (e : Effect) (t′ : List ℕ) {index′ : List ℤ} → lineIn l ≡ some c → (ReadyIn (spread p) index → ReadyIn (spread p) index′)
+      → MeetsSpread c (spread p) (record { state = spread q; answer = e .answer })
       → q .table ≡ p .table → e .from ≡ 0 → e .width ≡ 0
-      → t′ ≡ cond (isAccepted (e .answer)) (tallyAfter c (view p) t) t → Sized (spread q) → min (q .head .rules) 64 ≡ min (p .head .rules) 64 → Makes l p q t t′ index index e
-  met c q e t′ line u m b f w counts z n =
+      → t′ ≡ cond (isAccepted (e .answer)) (tallyAfter c (view p) t) t → Sized (spread q) → min (q .head .rules) 64 ≡ min (p .head .rules) 64 → Makes l p q t t′ index index′ e
+  met c q e t′ line ready m b f w counts z n =
       let made = meets-made c (spread p) (record { state = spread q; answer = e .answer }) m in
       record {
         answer = (λ i. withRow (answerOf (e .answer)) (row (q .values) (f i) (w i))) ∙ made .answer ∙ ap (λ o. stepOf o (view p) .answer) (sym line);
@@ -124,7 +110,7 @@ module _ {l : Line} {p : State} {index : List ℤ} {look : Look} {t : List ℕ} 
         sized = z;
         long = ap length b ∙ k .long;
         tallied = λ x. subst (λ u. Tallied u (view q)) (sym counts) (tallied-made c made t x);
-        indexed = indexed-still p q b n (drawn-before c (spread p) (spread q) made u);
+        indexed = λ x. ready-still p q b n (ready x);
         from = (let g = f in omega (arith, g));
         width = (let g = w in omega (arith, g));
         bare = λ x. w;
@@ -154,6 +140,26 @@ lent {l} {h} {h₁} {base} {draft} {values} {arrived} {confirmed} {table} {index
     subst (λ x. Making l x base draft values arrived confirmed table index look t sound e₁ h₂ base′ draft′ values′ arrived′ confirmed′ table′ index′ t′) before
     (subst (λ x. Making l h base draft values arrived confirmed table index look t sound x h₂ base′ draft′ values′ arrived′ confirmed′ table′ index′ t′) (sym effect)
     (subst (λ x. Making l h base draft values arrived confirmed table index look t sound e x base′ draft′ values′ arrived′ confirmed′ table′ index′ t′) (sym after) m))
+
+-- ---- the index that edit and replay ask
+
+module _ (table : List ℤ) (n : ℕ) (sound : Bool) (index : List ℤ) where
+  abbrev Ours : List ℤ → Type 0
+  Ours x = Indexed x (lowers table) (gaps table) (uppers table) (firms table) n
+
+  -- as it was lent, or made anew: where it is asked it is that of the rules, and so it stays
+  pub record Readied (index′ : List ℤ) : Type 0 where
+    pub asked : (isMade index ≡ true → Ours index) → sound ≡ true → Ours index′
+    pub still : (isMade index ≡ true → Ours index) → isMade index′ ≡ true → Ours index′
+
+  pub made-anew : {next index′ : List ℤ} → Ours next → index′ ≡ next → Readied index′
+  made-anew x e = subst Readied (sym e) (record { asked = λ w y. x; still = λ w y. x })
+
+  pub at-hand : {index′ : List ℤ} → (sound && not (isMade index)) ≡ false → index′ ≡ index → Readied index′
+  at-hand lacks e = subst Readied (sym e) (record {
+    asked = λ w y. w (cases (isMade index) (λ t. t) (λ t. absurd (is-yes (sym lacks ∙ (λ j. y j && not (t j))))));
+    still = λ w. w;
+  })
 
 -- ---- the calls
 
@@ -196,11 +202,11 @@ module _ (l : Line) (h : Head) (base draft values : List ℤ) (arrived confirmed
       subst (λ y. Edits (ruledAs y) e h′ values′ t′) (sym r-is) (subst (λ y. Edits (ruledAs (Granted ch x)) y h′ values′ t′) (sym e-is)
       (record { bare = (refl, refl, refl, omega arith); answer = refl; head = h-is; written = values-is; keeps = λ es. rw w; counts = rw w counts-is }))
 
-  pub edit-making : l .op ≡ 5 → (r : Ruling) {e : Effect} {h′ : Head} {values′ : List ℤ} {t′ : List ℕ}
-      → r ≡ rulingFrom (testedBy sound index) (firmBy sound index) h (lowers table) (gaps table) (uppers table) (firms table) values (look .named) (look .standing) l
+  pub edit-making : l .op ≡ 5 → {index′ : List ℤ} → Readied table (min (h .rules) 64) sound index index′ → (r : Ruling) {e : Effect} {h′ : Head} {values′ : List ℤ} {t′ : List ℕ}
+      → r ≡ rulingFrom (testedBy sound index′) (firmBy sound index′) h (lowers table) (gaps table) (uppers table) (firms table) values (look .named) (look .standing) l
       → Edits (ruledAs r) e h′ values′ t′
-      → Making l h base draft values arrived confirmed table index look t sound e h′ base draft values′ arrived confirmed table index t′
-  edit-making op r {e = e} {h′ = h′} {values′ = values′} {t′ = t′} r-is s = record {
+      → Making l h base draft values arrived confirmed table index look t sound e h′ base draft values′ arrived confirmed table index′ t′
+  edit-making op {index′ = index′} ready r {e = e} {h′ = h′} {values′ = values′} {t′ = t′} r-is s = record {
     slot = s .bare .3;
     marked = (let z = s .bare .2 in omega (arith, z));
     made = λ edits after k m.
@@ -210,9 +216,9 @@ module _ (l : Line) (h : Head) (base draft values : List ℤ) (arrived confirmed
         let i-is : i ≡ namedAt h (l .c) = k .named (ap looksAt op) ∙ ap (λ o. namedAt h (cond (eqb o 5) (l .c) (l .a))) op in
         let stood = k .stood (ap looksAt op) in
         let dec : d ≡ editIn false p (l .a) (l .b) (l .c) (l .d) (l .e) (l .f) =
-        edit-decided sound p (l .a) (l .b) (l .c) (l .d) (l .e) (l .f) {i = i} {seat = slotAt i} {index = index} i-is refl
-        (ap ruledAs r-is ∙ ap (λ s. editFrom (testedBy sound index) (firmBy sound index) h (lowers table) (gaps table) (uppers table) (firms table) values i s (l .a) (l .b) (l .c) (l .d) (l .e)
-        (l .f)) stood) (λ drawn sure. k .indexed sure drawn)
+        edit-decided sound p (l .a) (l .b) (l .c) (l .d) (l .e) (l .f) {i = i} {seat = slotAt i} {index = index′} i-is refl
+        (ap ruledAs r-is ∙ ap (λ s. editFrom (testedBy sound index′) (firmBy sound index′) h (lowers table) (gaps table) (uppers table) (firms table) values i s (l .a) (l .b) (l .c) (l .d) (l .e)
+        (l .f)) stood) (λ drawn sure. ready .asked (k .indexed sure) sure)
         ∙ edit-held p sound (k .held) (l .a) (l .b) (l .c) (l .d) (l .e) (l .f) in
         let meets : MeetsSpread (edit (l .a) (l .b) (l .c) (l .d) (l .e) (l .f)) p (record { state = editing.stored p spot (slotOf h) d; answer = d .answer }) =
         subst (λ x. MeetsSpread (edit (l .a) (l .b) (l .c) (l .d) (l .e) (l .f)) p (record { state = editing.stored p spot (slotOf h) x; answer = x .answer })) (sym dec)
@@ -225,7 +231,7 @@ module _ (l : Line) (h : Head) (base draft values : List ℤ) (arrived confirmed
         subst (λ a. MeetsSpread (edit (l .a) (l .b) (l .c) (l .d) (l .e) (l .f)) p (record { state = spread q; answer = a })) (sym (s .answer))
         (subst (λ x. MeetsSpread (edit (l .a) (l .b) (l .c) (l .d) (l .e) (l .f)) p (record { state = x; answer = d .answer })) stored-is meets) in
         let made = subst (λ a. Made (some (edit (l .a) (l .b) (l .c) (l .d) (l .e) (l .f))) p (spread q) a []) (s .answer) (meets-made _ p (record { state = spread q; answer = e .answer }) here) in
-        met k (edit (l .a) (l .b) (l .c) (l .d) (l .e) (l .f)) q e t′ (line-edit l op) refl here refl (s .bare .0) (s .bare .1)
+        met k (edit (l .a) (l .b) (l .c) (l .d) (l .e) (l .f)) q e t′ (line-edit l op) (ready .still) here refl (s .bare .0) (s .bare .1)
         (s .counts ∙ edit-counts p (l .a) (l .b) (l .c) (l .d) (l .e) (l .f) d dec made t
         ∙ ap (λ a. cond (isAccepted a) (tallyAfter (edit (l .a) (l .b) (l .c) (l .d) (l .e) (l .f)) (view (before edits)) t) t) (sym (s .answer)))
         (record {
@@ -285,11 +291,11 @@ module _ (l : Line) (h : Head) (base draft values : List ℤ) (arrived confirmed
         counts = counts-is;
       }))
 
-  pub replay-making : l .op ≡ 8 → (r : Outcome) {e : Effect} {draft′ : List ℤ} {t′ : List ℕ}
-      → r ≡ outcomeFrom (testedBy sound index) h (lowers table) (gaps table) (uppers table) draft (missingIn t) (look .named) (look .standing) (look .next) (look .seen)
+  pub replay-making : l .op ≡ 8 → {index′ : List ℤ} → Readied table (min (h .rules) 64) sound index index′ → (r : Outcome) {e : Effect} {draft′ : List ℤ} {t′ : List ℕ}
+      → r ≡ outcomeFrom (testedBy sound index′) h (lowers table) (gaps table) (uppers table) draft (missingIn t) (look .named) (look .standing) (look .next) (look .seen)
       → Settles (settledAs r) e draft′ t′
-      → Making l h base draft values arrived confirmed table index look t sound e h base draft′ values arrived confirmed table index t′
-  replay-making op r {e = e} {draft′ = draft′} {t′ = t′} r-is s = record {
+      → Making l h base draft values arrived confirmed table index look t sound e h base draft′ values arrived confirmed table index′ t′
+  replay-making op {index′ = index′} ready r {e = e} {draft′ = draft′} {t′ = t′} r-is s = record {
     slot = s .bare .3;
     marked = (let z = s .bare .2 in omega (arith, z));
     made = λ edits after k m.
@@ -304,10 +310,10 @@ module _ (l : Line) (h : Head) (base draft values : List ℤ) (arrived confirmed
         let j-is = k .next (ap (λ o. eqb o 8) op) in
         let saw = k .saw (ap (λ o. eqb o 8) op) in
         let dec : d ≡ replays.replayIn false p (l .a) =
-        replay-decided sound p (l .a) {i = i} {slot = slot} {j = j} {seat = slotAt j} {index = index} i-is refl (j-is ∙ ap (earlierAt h i) stood) refl (ap (λ n. n + 1) (settled-few p t counted))
+        replay-decided sound p (l .a) {i = i} {slot = slot} {j = j} {seat = slotAt j} {index = index′} i-is refl (j-is ∙ ap (earlierAt h i) stood) refl (ap (λ n. n + 1) (settled-few p t counted))
         (missing-unset p t counted)
-        (ap settledAs r-is ∙ (λ x. replayFrom (testedBy sound index) h (lowers table) (gaps table) (uppers table) draft (missingIn t) i (stood x) j (saw x) (min (settledIn t) 256 + 1)))
-        (λ active sure. k .indexed sure (joined (modeOf (h .mode)) active))
+        (ap settledAs r-is ∙ (λ x. replayFrom (testedBy sound index′) h (lowers table) (gaps table) (uppers table) draft (missingIn t) i (stood x) j (saw x) (min (settledIn t) 256 + 1)))
+        (λ active sure. ready .asked (k .indexed sure) sure)
         ∙ replay-held p sound (k .held) (l .a) in
         let there : point ≡ pointOf (namedIn p (natural (l .a)) .measure) = point-decided p (l .a) {i = i} {slot = slot} i-is refl (ap (λ s. pointOf (recordOf i s .measure)) stood) in
         let seat : slot ≡ namedSlot h (l .a) = ap slotAt i-is in
@@ -323,7 +329,7 @@ module _ (l : Line) (h : Head) (base draft values : List ℤ) (arrived confirmed
         let here : MeetsSpread (replay (l .a)) p (record { state = spread q; answer = e .answer }) =
         subst (λ a. MeetsSpread (replay (l .a)) p (record { state = spread q; answer = a })) (sym (s .answer))
         (subst (λ x. MeetsSpread (replay (l .a)) p (record { state = x; answer = d .answer })) stored-is meets) in
-        met k (replay (l .a)) q e t′ (line-replay l op) refl here refl (s .bare .0) (s .bare .1) (s .counts ∙ ap (λ a. cond (isAccepted a) (oneSettled t) t) (sym (s .answer)))
+        met k (replay (l .a)) q e t′ (line-replay l op) (ready .still) here refl (s .bare .0) (s .bare .1) (s .counts ∙ ap (λ a. cond (isAccepted a) (oneSettled t) t) (sym (s .answer)))
         (record {
           base = k .sized .base;
           draft = ap length (s .written) ∙ length-set draft point (d .amount) ∙ k .sized .draft;
@@ -358,7 +364,7 @@ module _ (l : Line) (h : Head) (base draft values : List ℤ) (arrived confirmed
         let e : Effect = record { answer = d .answer; from = 0; width = 0; kept = false; slot = 0; entry = noRecord; marked = d .marked } in
         let w : Named p (l .a) side i (getD t i 0) = record { number = side-is; place = i-is; unsent = unsent-is edits (k .tallied (ap (λ o. eqb o 5) op)) (i-is ∙ ap indexOf side-is) } in
         let here = send-decided p (l .a) d after w (k .sized .arrived) d-is (subst (λ s. Marked s edits after (d .marked)) (sym side-is) m) refl in
-        met k (send (l .a)) q e t′ (line-send l op) refl here refl refl refl
+        met k (send (l .a)) q e t′ (line-send l op) (λ x. x) here refl refl refl
         (counts-is ∙ (λ j. cond (isAccepted (d .answer)) (allSent (side-is j) (getD arrived ((i-is ∙ ap indexOf side-is) j) false) t) t)
         ∙ send-counts p (l .a) (meets-made _ p (record { state = spread q; answer = d .answer }) here) t)
         (record {
@@ -394,7 +400,7 @@ module _ (l : Line) (h : Head) (base draft values : List ℤ) (arrived confirmed
         let meets = moves (lowers table) (gaps table) (uppers table) (firms table) edits (unsent-is edits counted i-is, counted .counted .waiting) in
         let here : MeetsSpread c p (record { state = spread q; answer = r .answer }) = subst
         (λ es. MeetsSpread c p (record { state = spread (stateOf (r .head) base′ draft′ values′ arrived′ confirmed′ table es); answer = r .answer })) (sym (m .none refl)) meets in
-        met k c q (plain (r .answer)) t′ (line-moves l op) (undrawn (l .op) (l .a)) here refl refl refl
+        met k c q (plain (r .answer)) t′ (line-moves l op) (λ x. x) here refl refl refl
         (counts-is ∙ ap (λ x. cond (isAccepted (r .answer)) x t) (move-counts (l .op) (l .a) p t op))
         (record {
           base = n .0;
@@ -438,7 +444,7 @@ module _ (l : Line) (h : Head) (base draft values : List ℤ) (arrived confirmed
           sized = subst (λ x. Sized (spread x)) (sym same) (k .sized);
           long = k .long;
           tallied = λ x. subst (λ y. Tallied t (view y)) (sym same) x;
-          indexed = λ x. subst (λ y. IndexedIn (spread y) index) (sym same) x;
+          indexed = λ x. subst (λ y. ReadyIn (spread y) index) (sym same) x;
           from = subst (λ x. x .from ≤ 224) (sym r-in) (b .0);
           width = subst (λ x. x .width ≤ 32) (sym r-in) (b .1);
           bare = λ x. ap (λ y. y .width) r-is ∙ cases (eqb (l .op) 13) (λ e. rw (x, e)) (λ e. cases (eqb (l .op) 14) (λ f. rw (x, e, f)) (λ f. rw (x, e, f)));
@@ -449,10 +455,9 @@ module _ (l : Line) (h : Head) (base draft values : List ℤ) (arrived confirmed
 
 module _ (l : Line) (h : Head) (base draft values : List ℤ) (arrived confirmed : List Bool) (table : List ℤ) (index : List ℤ) (look : Look) (t : List ℕ) (sound : Bool) where
   pub draw-making : isDraw (l .op) ≡ true → {r : Answer} {h′ : Head} {values′ table′ index′ : List ℤ} → Drawn (l .op) (l .a) (l .b) (l .c) (l .d) h values table r h′ values′ table′
-      → ((eqb (l .op) 3 && isAccepted r) ≡ true → Indexed index′ (lowers table′) (gaps table′) (uppers table′) (firms table′) (min (h′ .rules) 64))
-      → ((eqb (l .op) 3 && isAccepted r) ≡ false → index′ ≡ index)
+      → (isAccepted r ≡ true → isMade index′ ≡ false) → (isAccepted r ≡ false → index′ ≡ index)
       → Making l h base draft values arrived confirmed table index look t sound (plain r) h′ base draft values′ arrived confirmed table′ index′ t
-  draw-making op {r} {h′} {values′} {table′} {index′} stored new old = record {
+  draw-making op {r} {h′} {values′} {table′} {index′} stored stale old = record {
     slot = omega arith;
     marked = omega arith;
     made = λ edits after k m.
@@ -472,11 +477,9 @@ module _ (l : Line) (h : Head) (base draft values : List ℤ) (arrived confirmed
           sized = kept .sized;
           long = kept .long;
           tallied = λ x. draw-counts (l .op) (l .a) (l .b) (l .c) (l .d) t op refl made x;
-          indexed = λ y. cases (eqb (l .op) 3 && isAccepted r)
-              (λ t drawn. new t)
-              (λ t. subst (IndexedIn (spread q)) (sym (old t)) (cases (isAccepted r)
-              (λ u drawn. absurd (subst (λ b. T (not b)) (drawn-blank (l .op) (l .a) (l .b) (l .c) (l .d) op (sym (ap (λ b. eqb (l .op) 3 && b) u ∙ and-true (eqb (l .op) 3)) ∙ t) made u) drawn))
-              (λ u. subst (λ z. IndexedIn (spread z) index) (sym (refused-same r u same)) y)));
+          indexed = λ y. cases (isAccepted r)
+              (λ u made. absurd (is-yes (sym (stale u) ∙ made)))
+              (λ u. subst (ReadyIn (spread q)) (sym (old u)) (subst (λ z. ReadyIn (spread z) index) (sym (refused-same r u same)) y));
           from = omega arith;
           width = omega arith;
           bare = λ y. refl;

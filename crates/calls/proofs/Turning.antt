@@ -10,10 +10,9 @@ use lib.Dec.{T, eqb, ltb}
 use lib.IntN.{ℤ, pos}
 use lib.ListN.{length, getD}
 use Rattle.protocol.specs.Lists.{natural, oneTo, count}
-use Rattle.protocol.specs.Plan.{Mode, modeNumber, is, blank, whole, split, joining, closing, holds, isSettled, absentSide, sideAt}
-use Rattle.protocol.specs.Calls as model
-use Rattle.protocol.specs.Calls.{Call, measure, rule, open-plan, edit, send, replay, Verdict, fine, refused, first, belongs, firstValues, withBase, onKept, checks, further, after, step, stepBy, no, ok}
-use Rattle.protocol.proofs.Laws.{cases, Pass, passed, both, is-yes, is-no, yes-is, range, all-nth}
+use Rattle.protocol.specs.Plan.{modeNumber, is, blank, whole, holds, isSettled, absentSide, sideAt}
+use Rattle.protocol.specs.Calls.{Call, measure, rule, open-plan, edit, send, replay, Verdict, fine, refused, first, firstValues, withBase, onKept, checks, further, after, step, stepBy, no, ok}
+use Rattle.protocol.proofs.Laws.{cases, Pass, passed, both, is-yes, yes-is, range, all-nth}
 use Rattle.guarantee.specs.Holding.{Holding}
 use Rattle.guarantee.proofs.Kept.{settled-count}
 use Rattle.guarantee.proofs.Holding.{holding-step}
@@ -50,7 +49,7 @@ use Rattle.query.proofs.Right.{alone-row}
 use Rattle.reader.specs.declared.Line.{Line}
 use Rattle.reader.specs.Reads.{lineIn}
 use Rattle.writer.specs.Writes.{withRow}
-use Rattle.calls.specs.Makes.{isMove, isDraw, SoundIn, IndexedIn}
+use Rattle.calls.specs.Makes.{isMove, isDraw, SoundIn, ReadyIn}
 
 -- ---- the calls by their numbers
 
@@ -176,28 +175,9 @@ move-rules op x p q e m = sym (rules-length q) ∙ ap (λ y. length (y .content 
     judged (refused k) = refl
     judged fine = ap length kept
 
--- a call that is not for a blank plan leaves it blank
-pub drawn-before : (c : Call) (p q : Spread) {a : Answer} {vs : List ℤ} → Made (some c) p q a vs → belongs c blank ≡ false → T (not (is blank (modeOf (q .head .mode))))
-    → T (not (is blank (modeOf (p .head .mode))))
-unfolding step checks
-drawn-before c p q m b t = cases (is blank (modeOf (p .head .mode)))
-    (λ e.
-    let n = by (modeOf (p .head .mode)) e in
-    let same : stepOf (some c) (planOf p) .plan ≡ planOf p = rw n in
-    subst (λ x. T (not (is blank (x .mode)))) (m .plan ∙ same) t)
-    (λ e. is-no e)
-  where
-    by : (mode : Mode) → is blank mode ≡ true → belongs c mode ≡ false
-    by blank e = b
-    by whole e = cc
-    by split e = cc
-    by joining e = cc
-    by closing e = cc
-
--- so the index is still that of the rules
-pub indexed-still : {index : List ℤ} (p q : State) → q .table ≡ p .table → min (q .head .rules) 64 ≡ min (p .head .rules) 64
-    → (T (not (is blank (modeOf (q .head .mode)))) → T (not (is blank (modeOf (p .head .mode))))) → IndexedIn (spread p) index → IndexedIn (spread q) index
-indexed-still p q same n before w t = rw (same, n) (w (before t))
+-- so an index that was made is still theirs
+pub ready-still : {index : List ℤ} (p q : State) → q .table ≡ p .table → min (q .head .rules) 64 ≡ min (p .head .rules) 64 → ReadyIn (spread p) index → ReadyIn (spread q) index
+ready-still p q same n w = rw (same, n) w
 
 -- ---- where every rule holds, testing those that name the measure is enough
 
@@ -274,15 +254,6 @@ module _ (c : Call) {p q : Spread} {a : Answer} {vs : List ℤ} (m : Made (some 
       (λ y. let s = if-accepted y in rw y
       (subst (Tallied (tallyAfter c (planOf p) t)) (sym (s .1)) (tallied-after t (planOf p) (kept-most p) (let l = sides-length p in let n = sides-most (p .head) in omega arith) h c (s .0))))
       (λ n. rw n (subst (Tallied t) (sym (if-refused n)) h))
-
--- and a draft of a plan stays blank until it is opened
-pub drawn-blank : (op : ℕ) (a b c d : ℤ) {p q : Spread} {answer : Answer} {vs : List ℤ} → isDraw op ≡ true → eqb op 3 ≡ false → Made (some (drawCall op a b c d)) p q answer vs
-    → isAccepted answer ≡ true → is blank (modeOf (q .head .mode)) ≡ true
-unfolding after checks
-drawn-blank op a b c d {p = p} {q = q} {answer = answer} {vs = vs} dr n m y = by-draw op dr
-    (λ e. let s = if-accepted (measure a) (subst (λ o. Made (some (drawCall o a b c d)) p q answer vs) e m) y in ap (λ x. is blank (x .mode)) (s .1) ∙ yes-is _ (s .0 .0))
-    (λ e. let s = if-accepted (rule a b c d) (subst (λ o. Made (some (drawCall o a b c d)) p q answer vs) e m) y in ap (λ x. is blank (x .mode)) (s .1) ∙ yes-is _ (s .0 .0))
-    (λ e. absurd (is-yes (sym n ∙ ap (λ o. eqb o 3) e)))
 
 -- an edit that is kept is one that was accepted while the plan was not whole
 module _ (p : Spread) (s client n m kind k : ℤ) {q : Spread} (d : Decision) (e : d ≡ editIn false p s client n m kind k) (made : Made (some (edit s client n m kind k)) p q (d .answer) []) where

@@ -2,20 +2,20 @@
 -- protocol's, and a refusal leaves everything as it was. Assumes nothing.
 use Prim.Native.Nat.{ℕ, _<_, _≤_, min}
 use mathlib.Core.Path.{_≡_}
-use mathlib.Core.Bool.{Bool, true, false, not, cond, _&&_, _||_}
+use mathlib.Core.Bool.{Bool, true, false, cond, _&&_, _||_}
 use mathlib.Core.List.{List}
-use lib.Dec.{T, eqb, ltb}
+use lib.Dec.{eqb, ltb}
 use lib.IntN.{ℤ}
 use lib.ListN.{length, getD, set}
 use Rattle.protocol.specs.Lists.{natural}
-use Rattle.protocol.specs.Plan.{is, blank, measureLimit, ruleLimit, keptLimit}
+use Rattle.protocol.specs.Plan.{measureLimit, ruleLimit, keptLimit}
 use Rattle.protocol.specs.Numbering.{splitOp, editOp, joinOp, replayOp, showOp, fateOp}
 use Rattle.guarantee.specs.Holding.{Holding}
 use Rattle.format.specs.Sheets.{stepOf}
 use Rattle.rows.specs.Rows.{row}
-use Rattle.rules.specs.Index.{Indexed}
+use Rattle.rules.specs.Index.{isMade, IndexedIf}
 use Rattle.heads.specs.declared.Head.{Head}
-use Rattle.heads.specs.Heads.{modeOf, namedAt, slotAt}
+use Rattle.heads.specs.Heads.{namedAt, slotAt}
 use Rattle.records.specs.declared.EditRecord.{EditRecord}
 use Rattle.records.specs.Records.{noRecord}
 use Rattle.state.specs.Spread.{Spread}
@@ -62,16 +62,16 @@ secondLook h l named standing = cond (eqb (l .op) replayOp) (earlierAt h named s
 abbrev pub SoundIn : Bool → Spread → Type 0
 SoundIn b p = b ≡ true → Holding (planOf p .mode) (planOf p .content)
 
--- Where the plan is drawn up, the index is that of its rules. While it is blank no call asks it.
-abbrev pub IndexedIn : Spread → List ℤ → Type 0
-IndexedIn p index = T (not (is blank (modeOf (p .head .mode)))) → Indexed index (p .lower) (p .gap) (p .upper) (p .firm) (min (p .head .rules) ruleLimit)
+-- an index that was made is that of the plan's rules
+abbrev pub ReadyIn : Spread → List ℤ → Type 0
+ReadyIn p index = IndexedIf (isMade index) index (p .lower) (p .gap) (p .upper) (p .firm) (min (p .head .rules) ruleLimit)
 
 pub record Known (l : Line) (p : State) (index : List ℤ) (look : Look) (t : List ℕ) (sound : Bool) : Type 0 where
   pub sized : Sized (spread p)
   pub long : length (p .table) ≡ 256
   pub tallied : eqb (l .op) editOp ≡ false → Tallied t (view p)
   pub held : SoundIn sound (spread p)
-  pub indexed : sound ≡ true → IndexedIn (spread p) index
+  pub indexed : sound ≡ true → ReadyIn (spread p) index
   pub named : looksAt (l .op) ≡ true → look .named ≡ askedAt (p .head) l
   pub stood : looksAt (l .op) ≡ true → look .standing ≡ getD (p .edits) (slotAt (look .named)) noRecord
   pub next : eqb (l .op) replayOp ≡ true → look .next ≡ earlierAt (p .head) (look .named) (look .standing)
@@ -87,7 +87,7 @@ pub record Makes (l : Line) (p q : State) (t t′ : List ℕ) (index index′ : 
   pub sized : Sized (spread q)
   pub long : length (q .table) ≡ 256
   pub tallied : Tallied t (view p) → Tallied t′ (view q)
-  pub indexed : IndexedIn (spread p) index → IndexedIn (spread q) index′
+  pub indexed : ReadyIn (spread p) index → ReadyIn (spread q) index′
   pub from : e .from ≤ 224
   pub width : e .width ≤ measureLimit
   pub bare : eqb (l .op) showOp ≡ false → e .width ≡ 0

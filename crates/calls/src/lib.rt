@@ -1,7 +1,7 @@
 // Internal, for `run` and `plan`: the fourteen calls (01, "The calls"), each made on what the owner of a plan lends: numbers in place, kept edits as the
 // owner's part. There is one contract for all (specs/Makes): for all kept edits of which what was handed over is true, the answer and the plan are the protocol's.
 ghost use mathlib.Core.Path.{_≡_};
-ghost use mathlib.Core.Bool.{Bool, true, false, cond, _&&_};
+ghost use mathlib.Core.Bool.{Bool, true, false, not, cond, _&&_};
 ghost use mathlib.Core.List.{List};
 ghost use Prim.Native.Nat.{ℕ, min};
 ghost use lib.Dec.{eqb};
@@ -10,7 +10,7 @@ ghost use Rattle.calls.specs.declared.Look.{Look};
 ghost use Rattle.protocol.specs.Numbering.{editOp, sendOp, replayOp};
 ghost use Rattle.heads.specs.Numbers.{headFrom};
 ghost use Rattle.rules.specs.Table.{lowers, gaps, uppers, firms};
-ghost use Rattle.rules.specs.Index.{Indexed};
+ghost use Rattle.rules.specs.Index.{isMade, Indexed};
 ghost use Rattle.counts.specs.Tallies.{allSent, moveTally};
 ghost use Rattle.reader.specs.Reads.{lineIn};
 ghost use Rattle.query.specs.Readings.{readCall};
@@ -125,13 +125,32 @@ fn keeping(answer: Answer, slot: usize, entry: EditRecord) -> Effect
     }
 }
 
+// Whether the index is to be made first: edit and replay ask it where every rule holds (`sound`).
+fn lacks_index(index: &Index, sound: bool) -> bool
+    ensures { λ t. ⌜ t ≡ (sound && not (isMade (now (index .entry)))) ⌝ }
+{
+    if sound {
+        return !rules::is_made(index);
+    }
+    false
+}
+
+// Makes the index. It has two callers, so that the test alone is compiled into them.
+fn make_index(index: &mut Index, table: &Table, k: u32)
+    ensures { λ r. ⌜ Indexed (now (index .exit)) (lowers (now (table .entry))) (gaps (now (table .entry))) (uppers (now (table .entry))) (firms (now (table .entry)))
+        (min k 64) × (isMade (now (index .exit)) ≡ true) ⌝ }
+{
+    let next = rules::indexed(table, k);
+    *index = next;
+}
+
 fn edit_in<'a>(
     l: Line,
     head: &mut Numbers,
     values: &mut [i32; limit::VALUES],
     arrived: &'a [bool; limit::SIDES],
     table: &'a Table,
-    index: &'a Index,
+    index: &mut Index,
     look: Look,
     counts: &mut Tallies,
     sound: bool,
@@ -139,9 +158,12 @@ fn edit_in<'a>(
     requires { ⌜ l .op ≡ editOp ⌝ }
     ensures { λ r. ⌜ ((base draft : List ℤ) (confirmed : List Bool) → Making l (headFrom (now (head .entry))) base draft (now (values .entry))
         (now (arrived .entry)) confirmed (now (table .entry)) (now (index .entry)) look (now (counts .entry)) sound r (headFrom (now (head .exit))) base draft
-        (now (values .exit)) (now (arrived .entry)) confirmed (now (table .entry)) (now (index .entry)) (now (counts .exit))) ⌝ }
+        (now (values .exit)) (now (arrived .entry)) confirmed (now (table .entry)) (now (index .exit)) (now (counts .exit))) ⌝ }
 {
     let h = heads::from_numbers(head);
+    if lacks_index(index, sound) {
+        make_index(index, table, h.rules);
+    }
     let standing = look.standing;
     let ruling = edit::decide_edit(l, h, table, index, values, look.named, standing, sound);
     match ruling {
@@ -180,7 +202,7 @@ fn replay_in<'a>(
     head: &'a Numbers,
     draft: &mut [i32; limit::MEASURES],
     table: &'a Table,
-    index: &'a Index,
+    index: &mut Index,
     look: Look,
     counts: &mut Tallies,
     sound: bool,
@@ -188,9 +210,12 @@ fn replay_in<'a>(
     requires { ⌜ l .op ≡ replayOp ⌝ }
     ensures { λ r. ⌜ ((base values : List ℤ) (arrived confirmed : List Bool) → Making l (headFrom (now (head .entry))) base (now (draft .entry)) values arrived
         confirmed (now (table .entry)) (now (index .entry)) look (now (counts .entry)) sound r (headFrom (now (head .entry))) base (now (draft .exit)) values
-        arrived confirmed (now (table .entry)) (now (index .entry)) (now (counts .exit))) ⌝ }
+        arrived confirmed (now (table .entry)) (now (index .exit)) (now (counts .exit))) ⌝ }
 {
     let h = heads::from_numbers(head);
+    if lacks_index(index, sound) {
+        make_index(index, table, h.rules);
+    }
     let i = look.named;
     let standing = look.standing;
     let seen = look.seen;
@@ -308,14 +333,12 @@ fn move_in(
     plain_effect(answer)
 }
 
-// Indexes the rules, if the plan was opened: until then no call asks the index, and from then on the rules stay. An owner that is handed an open plan does so too.
-pub fn note_index(index: &mut Index, table: &Table, k: u32, opened: bool)
-    ensures { λ r. ⌜ (opened ≡ true → Indexed (now (index .exit)) (lowers (now (table .entry))) (gaps (now (table .entry))) (uppers (now (table .entry)))
-        (firms (now (table .entry))) (min k 64)) × (opened ≡ false → now (index .exit) ≡ now (index .entry)) ⌝ }
+// After an accepted call the rules may be others.
+fn note_drawn(index: &mut Index, accepted: bool)
+    ensures { λ r. ⌜ (accepted ≡ true → isMade (now (index .exit)) ≡ false) × (accepted ≡ false → now (index .exit) ≡ now (index .entry)) ⌝ }
 {
-    if opened {
-        let next = rules::indexed(table, k);
-        *index = next;
+    if accepted {
+        rules::forget(index);
     }
 }
 
@@ -333,13 +356,7 @@ fn draw_in(
         (now (values .exit)) arrived confirmed (now (table .exit)) (now (index .exit)) t) ⌝ }
 {
     let answer = draw::make(l.op, l.a, l.b, l.c, l.d, head, values, table);
-    let drawn = heads::from_numbers(head);
-    note_index(
-        index,
-        table,
-        drawn.rules,
-        draw::is_made(l.op, call::OPEN, answer),
-    );
+    note_drawn(index, state::accepted(answer));
     plain_effect(answer)
 }
 

@@ -15,7 +15,7 @@ use Rattle.protocol.proofs.Laws.{cases, in-range, yes-is, is-no, count-snoc, co
 use Rattle.rows.specs.Rows.{span}
 use Rattle.rows.proofs.Spans.{Counted, count-begin, count-next, count-over, span-same, span-snoc, getD-set, getD-other}
 use Rattle.rules.specs.Rules.{namesPair, namesAt, dueAt, firmAt, firmIn}
-use Rattle.rules.specs.Index.{passing, Naming, namingOf, namingsOf, namingAt, withNaming, firstAt, lastAt, namingsIn, flagIn, Indexed, NoneAbove, Added, otherOf}
+use Rattle.rules.specs.Index.{passing, Naming, namingOf, namingsOf, namingAt, withNaming, firstAt, lastAt, namingsIn, flagIn, isMade, Indexed, NoneAbove, Added, otherOf}
 use Rattle.rules.proofs.Index.{passing-same, passing-yes, passing-no, none-passing, map-snoc}
 
 -- ---- a naming written anew
@@ -302,6 +302,46 @@ module _ (lower : List ℕ) (gap : List ℤ) (upper : List ℕ) (firm : List Boo
         done = λ j k. cases (ltb j m) (λ t. still j (ltb-true j m t) (w .done j (ltb-true j m t)))
             (λ t. let e : m ≡ j = (let u = ltb-false j m t in omega arith) in subst (Done lower gap upper firm end last next) e here);
       }
+
+-- ---- the mark of an index that was made
+
+-- a default is read, however short the list is
+default-set : (xs : List ℤ) (i : ℕ) (d : ℤ) → getD (set xs i d) i d ≡ d
+default-set [] i d = refl
+default-set (x ∷ xs) zero d = refl
+default-set (x ∷ xs) (suc i) d = default-set xs i d
+
+-- what is written there says whether it was made
+pub unmarked : (index : List ℤ) → isMade (set index 127 (pos 0)) ≡ false
+unfolding isMade
+unmarked index = ap (λ z. eqb (natural z) 1) (default-set index 127 (pos 0))
+
+pub marked : (index : List ℤ) → length index ≡ 512 → isMade (set index 127 (pos 1)) ≡ true
+unfolding isMade
+marked index l = ap (λ z. eqb (natural z) 1) (getD-set index 127 (pos 1) (pos 0) (omega arith))
+
+module _ (index : List ℤ) (x : ℤ) where
+  mark-apart : (j : ℕ) → j ≢ 127 → getD (set index 127 x) j (pos 0) ≡ getD index j (pos 0)
+  mark-apart j h = getD-other index 127 j x (pos 0) h
+
+  -- the mark stands apart from all that the index says
+  pub indexed-marked : {lower : List ℕ} {gap : List ℤ} {upper : List ℕ} {firm : List Bool} {n : ℕ} → Indexed index lower gap upper firm n → Indexed (set index 127 x) lower gap upper firm n
+  unfolding namingsIn flagIn
+  indexed-marked w = record {
+    named = λ m h.
+        let b = mark-apart m (λ e. omega arith) in
+        let e = mark-apart (m + 1) (λ e. omega arith) in
+        (λ i. span (natural (b i)) (min (natural (e i)) 128 - natural (b i)) (namingAt (set index 127 x)))
+        ∙ span-same (firstAt index m) (lastAt index m - firstAt index m) (namingAt (set index 127 x)) (namingAt index) (λ k p q. same k) ∙ w .named m h;
+    firmly = λ m p h. ap (λ z. eqb (natural z) 1) (mark-apart (64 + m) (λ e. omega arith)) ∙ w .firmly m p h;
+  }
+    where
+      same : (k : ℕ) → namingAt (set index 127 x) k ≡ namingAt index k
+      same k =
+          let a = mark-apart (128 + 3 * k) (λ e. omega arith) in
+          let b = mark-apart (129 + 3 * k) (λ e. omega arith) in
+          let c = mark-apart (130 + 3 * k) (λ e. omega arith) in
+          λ j. record { rule = a j; other = b j; gap = c j }
 
 -- ---- a measure above all that the rules name
 

@@ -77,14 +77,18 @@ namingsIn index m = span (firstAt index m) (lastAt index m - firstAt index m) (n
 unfoldable pub flagIn : List ℤ → ℕ → Bool
 flagIn index m = eqb (natural (getD index (64 + m) (pos 0))) 1
 
+-- whether it was made; until then nothing is known of it
+unfoldable pub isMade : List ℤ → Bool
+isMade index = eqb (natural (getD index 127 (pos 0))) 1
+
 -- the index of the first n rules
 pub record Indexed (index : List ℤ) (lower : List ℕ) (gap : List ℤ) (upper : List ℕ) (firm : List Bool) (n : ℕ) : Type 0 where
   pub named : (m : ℕ) → m ≤ measureLimit → namingsIn index m ≡ namingsOf lower gap upper n m
   pub firmly : (m : ℕ) → 0 < m → m ≤ measureLimit → flagIn index m ≡ firmIn lower upper firm n m
 
--- where all rules are known to hold (`sound`), it is theirs
+-- it is theirs where a flag says so: that all rules are known to hold (`sound`), or that it was made
 abbrev pub IndexedIf : Bool → List ℤ → List ℕ → List ℤ → List ℕ → List Bool → ℕ → Type 0
-IndexedIf sound index lower gap upper firm n = sound ≡ true → Indexed index lower gap upper firm n
+IndexedIf b index lower gap upper firm n = b ≡ true → Indexed index lower gap upper firm n
 
 -- ---- namings put one behind another
 

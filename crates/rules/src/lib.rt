@@ -1,7 +1,7 @@
 // The rules of a plan as one table of numbers, an index from each measure to the rules that name it, and their test on a row of values that lies in a larger array.
 // Everything is lent.
 ghost use mathlib.Core.Path.{_≡_};
-ghost use mathlib.Core.Bool.{false, _&&_};
+ghost use mathlib.Core.Bool.{true, false, _&&_};
 ghost use Prim.Native.Nat.{_+_, _-_, _<_, _≤_, min};
 ghost use lib.IntN.{ℤ, pos, negsuc, _+ℤ_};
 ghost use lib.ListN.{length, getD};
@@ -12,7 +12,7 @@ ghost use Rattle.exact.specs.Signs.{beyond};
 ghost use Rattle.rows.specs.Rows.{span, row};
 ghost use Rattle.rules.specs.Table.{lowers, gaps, uppers, firms, withRule};
 ghost use Rattle.rules.specs.Rules.{withValue, pairHolds, namesPair, namesAt, testedIn, firmIn};
-ghost use Rattle.rules.specs.Index.{placeOf, otherOf, withNaming, NoneAbove, Added, Indexed, listedAs, sideHolds, indexedIn, testedBy, firmBy};
+ghost use Rattle.rules.specs.Index.{placeOf, otherOf, withNaming, isMade, NoneAbove, Added, Indexed, listedAs, sideHolds, indexedIn, testedBy, firmBy};
 use protocol::limit;
 
 // The value of measure m in the row of n values that begins at a place; 0 where there is none.
@@ -99,10 +99,26 @@ fn less_by(low: i32, g: i32, high: i32) -> bool
 
 // ---- the index: which rules name a measure
 
-// At m where the namings of measure m begin, at m + 1 where they end, from 1 to 32; at 64 + m 1 if a firm rule names m. From 128 on three numbers
-// for each naming, those of a measure in the order of the rules: the rule's number from 0, the place of its other measure, its gap. The place is from 0, 32 for
-// none of 32 measures and 33 for m itself; it is put below 0, as -1 minus it, where m is the rule's upper measure. A rule has two namings at most.
+// At m where the namings of measure m begin, at m + 1 where they end, from 1 to 32; at 64 + m 1 if a firm rule names m; at MADE 1 if it was made. From 128 on
+// three numbers for each naming, those of a measure in the order of the rules: the rule's number from 0, the place of its other measure, its gap. The place is
+// from 0, 32 for none of 32 measures and 33 for m itself; it is put below 0, as -1 minus it, where m is the rule's upper measure. A rule has two namings at most.
 pub type Index = [i32; 512];
+
+const MADE: usize = 127;
+
+// Whether it was made, and not forgotten since.
+pub fn is_made(index: &Index) -> bool
+    ensures { λ t. ⌜ t ≡ isMade (now (index .entry)) ⌝ }
+{
+    exact::number(index[MADE]) == 1
+}
+
+// The rules may change: the index is no longer theirs.
+pub fn forget(index: &mut Index)
+    ensures { λ r. ⌜ isMade (now (index .exit)) ≡ false ⌝ }
+{
+    index[MADE] = 0;
+}
 
 // A rule on measures a and b names measure m.
 fn names(a: u32, b: u32, m: u32) -> bool
@@ -201,7 +217,8 @@ fn bit(t: bool) -> i32
 
 // The index of the first k rules: measure by measure, rule by rule, each naming behind the last.
 pub fn indexed(table: &Table, k: u32) -> Index
-    ensures { λ r. ⌜ Indexed r (lowers (now (table .entry))) (gaps (now (table .entry))) (uppers (now (table .entry))) (firms (now (table .entry))) (min k 64) ⌝ }
+    ensures { λ r. ⌜ Indexed r (lowers (now (table .entry))) (gaps (now (table .entry))) (uppers (now (table .entry))) (firms (now (table .entry))) (min k 64) ×
+        (isMade r ≡ true) ⌝ }
 {
     let rules = rows::capped(k, limit::RULES);
     let top = highest(table, rules);
@@ -215,6 +232,7 @@ pub fn indexed(table: &Table, k: u32) -> Index
         index[64 + m] = bit(firm_below(table, k, top, measure));
         m += 1;
     }
+    index[MADE] = 1;
     index
 }
 

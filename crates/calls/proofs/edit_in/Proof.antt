@@ -1,8 +1,10 @@
+use Prim.Native.Nat.{min}
 use mathlib.Core.Path.{_≡_, refl, ap, _∙_, sym}
 use mathlib.Core.Bool.{false}
 use lib.ListN.{getD, set}
 use mir.Facts.{toZ-ofZ}
 use Rattle.exact.proofs.Ints.{fits32}
+use Rattle.protocol.proofs.Laws.{on}
 use Rattle.protocol.specs.Lists.{natural}
 use Rattle.heads.specs.Heads.{indexOf}
 use Rattle.heads.specs.Numbers.{headFrom}
@@ -11,13 +13,15 @@ use Rattle.state.specs.declared.Answer.the-variants as Answer
 use Rattle.edit.specs.Edits.{spotOf}
 use Rattle.counts.specs.Tallies.{oneUnsent}
 use Rattle.calls.specs.Makes.{stored}
-use Rattle.calls.proofs.Makes.{lent, edit-making, edit-refused, edit-made, edit-kept}
+use Rattle.calls.proofs.Makes.{lent, Readied, made-anew, at-hand, edit-making, edit-refused, edit-made, edit-kept}
 use borrow.Author.Needs.{needs}
 use Rattle.calls.proofs.edit_in.Statement.{statement}
 use Rattle.calls.proofs.edit_in.Tie as tie
 use Rattle.calls.proofs.edit_in.Reads as reads
 use Rattle.calls.proofs.edit_in.Lts as lts
 use Rattle.calls.proofs.keeping.Reads as keeping-reads
+use Rattle.calls.proofs.lacks_index.Reads as lacks-index-reads
+use Rattle.calls.proofs.make_index.Reads as make-index-reads
 use Rattle.calls.proofs.plain_effect.Reads as plain-effect-reads
 use Rattle.calls.proofs.refusal.Reads as refusal-reads
 use Rattle.counts.proofs.note_kept.Reads as note-kept-reads
@@ -34,17 +38,32 @@ use Rattle.rows.proofs.capped.Reads as capped-reads
 
 -- ---- the places of the code, as tools/named writes them
 
-abbrev Start-from-After-from-numbers : tie.After-from-numbers → tie.Start
-Start-from-After-from-numbers c = c .before .before
+abbrev After-from-numbers-from-Joined1 : tie.Joined1 → tie.After-from-numbers
+After-from-numbers-from-Joined1 c = c .before .before .before
+
+abbrev Start-from-Joined1 : tie.Joined1 → tie.Start
+Start-from-Joined1 c = c .before .before .before .before .before
+
+abbrev Joined1-from-After-standing : tie.After-standing → tie.Joined1
+Joined1-from-After-standing c = c .before
+
+abbrev After-from-numbers-from-After-standing : tie.After-standing → tie.After-from-numbers
+After-from-numbers-from-After-standing c = c .before .before .before .before
+
+abbrev Start-from-After-standing : tie.After-standing → tie.Start
+Start-from-After-standing c = c .before .before .before .before .before .before
 
 abbrev After-decide-edit-from-After-refusal : tie.After-refusal → tie.After-decide-edit
 After-decide-edit-from-After-refusal c = c .before .before .before .before
 
+abbrev Joined1-from-After-refusal : tie.After-refusal → tie.Joined1
+Joined1-from-After-refusal c = c .before .before .before .before .before .before .before .before
+
 abbrev After-from-numbers-from-After-refusal : tie.After-refusal → tie.After-from-numbers
-After-from-numbers-from-After-refusal c = c .before .before .before .before .before .before .before
+After-from-numbers-from-After-refusal c = c .before .before .before .before .before .before .before .before .before .before .before
 
 abbrev Start-from-After-refusal : tie.After-refusal → tie.Start
-Start-from-After-refusal c = c .before .before .before .before .before .before .before .before .before
+Start-from-After-refusal c = c .before .before .before .before .before .before .before .before .before .before .before .before .before
 
 abbrev After-struct-told-from-After-struct-told2 : tie.After-struct-told2 → tie.After-struct-told
 After-struct-told-from-After-struct-told2 c = c .before
@@ -58,11 +77,14 @@ After-ruling2-from-After-struct-told2 c = c .before .before .before
 abbrev After-decide-edit-from-After-struct-told2 : tie.After-struct-told2 → tie.After-decide-edit
 After-decide-edit-from-After-struct-told2 c = c .before .before .before .before .before
 
+abbrev Joined1-from-After-struct-told2 : tie.After-struct-told2 → tie.Joined1
+Joined1-from-After-struct-told2 c = c .before .before .before .before .before .before .before .before .before
+
 abbrev After-from-numbers-from-After-struct-told2 : tie.After-struct-told2 → tie.After-from-numbers
-After-from-numbers-from-After-struct-told2 c = c .before .before .before .before .before .before .before .before
+After-from-numbers-from-After-struct-told2 c = c .before .before .before .before .before .before .before .before .before .before .before .before
 
 abbrev Start-from-After-struct-told2 : tie.After-struct-told2 → tie.Start
-Start-from-After-struct-told2 c = c .before .before .before .before .before .before .before .before .before .before
+Start-from-After-struct-told2 c = c .before .before .before .before .before .before .before .before .before .before .before .before .before .before
 
 abbrev After-numbers-from-After-plain-effect : tie.After-plain-effect → tie.After-numbers
 After-numbers-from-After-plain-effect c = c .before .before .before
@@ -88,8 +110,8 @@ After-ruling2-from-After-plain-effect c = c .before .before .before .before .bef
 abbrev After-decide-edit-from-After-plain-effect : tie.After-plain-effect → tie.After-decide-edit
 After-decide-edit-from-After-plain-effect c = c .before .before .before .before .before .before .before .before .before .before .before
 
-abbrev After-from-numbers-from-After-plain-effect : tie.After-plain-effect → tie.After-from-numbers
-After-from-numbers-from-After-plain-effect c = c .before .before .before .before .before .before .before .before .before .before .before .before .before .before
+abbrev After-standing-from-After-plain-effect : tie.After-plain-effect → tie.After-standing
+After-standing-from-After-plain-effect c = c .before .before .before .before .before .before .before .before .before .before .before .before .before .before
 
 abbrev After-note-kept-from-After-keeping : tie.After-keeping → tie.After-note-kept
 After-note-kept-from-After-keeping c = c .before .before .before
@@ -103,8 +125,8 @@ After-number-from-After-keeping c = c .before .before .before .before .before .b
 abbrev After-struct-told3-from-After-keeping : tie.After-keeping → tie.After-struct-told3
 After-struct-told3-from-After-keeping c = c .before .before .before .before .before .before .before .before
 
-abbrev Else1-from-After-keeping : tie.After-keeping → tie.Else1
-Else1-from-After-keeping c = c .before .before .before .before .before .before .before .before .before
+abbrev Else2-from-After-keeping : tie.After-keeping → tie.Else2
+Else2-from-After-keeping c = c .before .before .before .before .before .before .before .before .before
 
 abbrev After-is-whole-from-After-keeping : tie.After-keeping → tie.After-is-whole
 After-is-whole-from-After-keeping c = c .before .before .before .before .before .before .before .before .before .before
@@ -121,8 +143,14 @@ After-spot-from-After-keeping c = c .before .before .before .before .before .bef
 abbrev After-struct-told2-from-After-keeping : tie.After-keeping → tie.After-struct-told2
 After-struct-told2-from-After-keeping c = c .before .before .before .before .before .before .before .before .before .before .before .before .before .before
 
+abbrev Joined1-from-After-plain-effect : tie.After-plain-effect → tie.Joined1
+Joined1-from-After-plain-effect c = Joined1-from-After-standing (After-standing-from-After-plain-effect c)
+
+abbrev After-from-numbers-from-After-plain-effect : tie.After-plain-effect → tie.After-from-numbers
+After-from-numbers-from-After-plain-effect c = After-from-numbers-from-After-standing (After-standing-from-After-plain-effect c)
+
 abbrev Start-from-After-plain-effect : tie.After-plain-effect → tie.Start
-Start-from-After-plain-effect c = Start-from-After-from-numbers (After-from-numbers-from-After-plain-effect c)
+Start-from-After-plain-effect c = Start-from-After-standing (After-standing-from-After-plain-effect c)
 
 abbrev After-struct-told-from-After-keeping : tie.After-keeping → tie.After-struct-told
 After-struct-told-from-After-keeping c = After-struct-told-from-After-struct-told2 (After-struct-told2-from-After-keeping c)
@@ -136,6 +164,9 @@ After-ruling2-from-After-keeping c = After-ruling2-from-After-struct-told2 (Afte
 abbrev After-decide-edit-from-After-keeping : tie.After-keeping → tie.After-decide-edit
 After-decide-edit-from-After-keeping c = After-decide-edit-from-After-struct-told2 (After-struct-told2-from-After-keeping c)
 
+abbrev Joined1-from-After-keeping : tie.After-keeping → tie.Joined1
+Joined1-from-After-keeping c = Joined1-from-After-struct-told2 (After-struct-told2-from-After-keeping c)
+
 abbrev After-from-numbers-from-After-keeping : tie.After-keeping → tie.After-from-numbers
 After-from-numbers-from-After-keeping c = After-from-numbers-from-After-struct-told2 (After-struct-told2-from-After-keeping c)
 
@@ -144,6 +175,21 @@ Start-from-After-keeping c = Start-from-After-struct-told2 (After-struct-told2-f
 
 from-numbers-requires : tie.Need-from-numbers-requires
 from-numbers-requires c κs = search needs
+
+lacks-index-requires : tie.Need-lacks-index-requires
+lacks-index-requires c κs = search needs
+
+make-index-requires : tie.Need-make-index-requires
+make-index-requires c κs = search needs
+
+-- the index that is asked
+readied : (c : tie.Joined1) → let a = (Start-from-Joined1 c) .args in
+    Readied (a .table .now) (min ((After-from-numbers-from-Joined1 c) .from-numbers .result .rules) 64) (a .sound) (a .index .now) (c .if1 .index)
+readied c =
+    let a = (Start-from-Joined1 c) .args in
+    on (c .if1 .came)
+    (λ w. made-anew (a .table .now) _ (a .sound) (a .index .now) (w .2 .ensures .0) (w .3))
+    (λ w. at-hand (a .table .now) _ (a .sound) (a .index .now) (sym (c .before .lacks-index .ensures) ∙ w .0 .left) (w .1))
 
 decide-edit-requires : tie.Need-decide-edit-requires
 decide-edit-requires c κs = search needs
@@ -190,10 +236,10 @@ returns c =
     let to-x = toZ-ofZ (fits32 x (((After-known-told2-from-After-plain-effect c) .known-told2 .given .1 .0 .1))) in
     λ base draft confirmed. lent ((After-from-numbers-from-After-plain-effect c) .from-numbers .ensures) refl refl
     (edit-making l h base draft (a .values .now) (a .arrived .now) confirmed (a .table .now) (a .index .now) (a .look) (a .counts .now) (a .sound) (s .pre)
-    ((After-decide-edit-from-After-plain-effect c) .decide-edit .result) ((After-decide-edit-from-After-plain-effect c) .decide-edit .ensures)
+    (readied (Joined1-from-After-plain-effect c)) ((After-decide-edit-from-After-plain-effect c) .decide-edit .result) ((After-decide-edit-from-After-plain-effect c) .decide-edit .ensures)
     (edit-made l h base draft (a .values .now) (a .arrived .now) confirmed (a .table .now) (a .index .now) (a .look) (a .counts .now) (a .sound)
     ((After-ruling2-from-After-plain-effect c) .ruling2 .given .0 .0) x ((After-ruling2-from-After-plain-effect c) .ruling2 .given .1)
-    (sym (c .before .before .is-whole .ensures) ∙ (c .before .if1 .taken)) (c .plain-effect .ensures)
+    (sym (c .before .before .is-whole .ensures) ∙ (c .before .if2 .taken)) (c .plain-effect .ensures)
     (ap headFrom ((After-numbers-from-After-plain-effect c) .numbers .ensures) ∙ head-numbers ((After-edit-head-from-After-plain-effect c) .edit-head .result)
     ∙ ((After-edit-head-from-After-plain-effect c) .edit-head .ensures))
     (λ j. set (a .values .now) ((((After-spot-from-After-plain-effect c) .spot .ensures .0) ∙ (λ k. spotOf (natural (to-a k)) (natural (to-d k)))) j) (to-x j))))
@@ -227,7 +273,7 @@ returns-2 c =
     let h = ((After-from-numbers-from-After-refusal c) .from-numbers .result) in
     λ base draft confirmed. lent ((After-from-numbers-from-After-refusal c) .from-numbers .ensures) refl (sym ((After-from-numbers-from-After-refusal c) .from-numbers .ensures))
     (edit-making l h base draft (a .values .now) (a .arrived .now) confirmed (a .table .now) (a .index .now) (a .look) (a .counts .now) (a .sound) (s .pre)
-    ((After-decide-edit-from-After-refusal c) .decide-edit .result) ((After-decide-edit-from-After-refusal c) .decide-edit .ensures)
+    (readied (Joined1-from-After-refusal c)) ((After-decide-edit-from-After-refusal c) .decide-edit .result) ((After-decide-edit-from-After-refusal c) .decide-edit .ensures)
     (edit-refused l h base draft (a .values .now) (a .arrived .now) confirmed (a .table .now) (a .index .now) (a .look) (a .counts .now) (a .sound) (c .before .before .ruling .given .0 .0)
     (c .before .before .ruling .given .1) (c .refusal .ensures)))
 
@@ -245,10 +291,10 @@ returns-3 c =
     let place = ((After-index-from-After-keeping c) .index .ensures .0) ∙ ap indexOf side in
     λ base draft confirmed. lent ((After-from-numbers-from-After-keeping c) .from-numbers .ensures) refl refl
     (edit-making l h base draft (a .values .now) (a .arrived .now) confirmed (a .table .now) (a .index .now) (a .look) (a .counts .now) (a .sound) (s .pre)
-    ((After-decide-edit-from-After-keeping c) .decide-edit .result) ((After-decide-edit-from-After-keeping c) .decide-edit .ensures)
+    (readied (Joined1-from-After-keeping c)) ((After-decide-edit-from-After-keeping c) .decide-edit .result) ((After-decide-edit-from-After-keeping c) .decide-edit .ensures)
     (edit-kept l h base draft (a .values .now) (a .arrived .now) confirmed (a .table .now) (a .index .now) (a .look) (a .counts .now) (a .sound)
     ((After-ruling2-from-After-keeping c) .ruling2 .given .0 .0) x ((After-ruling2-from-After-keeping c) .ruling2 .given .1)
-    (sym ((After-is-whole-from-After-keeping c) .is-whole .ensures) ∙ ((Else1-from-After-keeping c) .if1 .left))
+    (sym ((After-is-whole-from-After-keeping c) .is-whole .ensures) ∙ ((Else2-from-After-keeping c) .if2 .left))
     ((c .keeping .ensures) ∙ (λ j. stored (Answer.Given 1 (h .next) 0 0) ((c .before .before .capped .ensures) j) ((c .before .edit-record .ensures) j)))
     (ap headFrom ((After-numbers-from-After-keeping c) .numbers .ensures) ∙ head-numbers ((After-edit-head-from-After-keeping c) .edit-head .result)
     ∙ ((After-edit-head-from-After-keeping c) .edit-head .ensures))
@@ -260,6 +306,8 @@ edit-in-spec =
     tie.close
     (tie.spec
     from-numbers-requires
+    lacks-index-requires
+    make-index-requires
     decide-edit-requires
     enum-known-ruling
     refusal-requires

@@ -1,12 +1,13 @@
 use mathlib.Core.Path.{_≡_, refl, _∙_, sym}
 use lib.ListN.{set}
-use Prim.Native.Nat.{_+_}
+use Prim.Native.Nat.{_+_, min}
 use mir.Facts.{toZ-ofZ}
 use Rattle.exact.proofs.Ints.{fits32}
+use Rattle.protocol.proofs.Laws.{on}
 use Rattle.state.specs.declared.Answer.the-variants as Answer
 use Rattle.replay.specs.Replays.{settledRecord}
 use Rattle.calls.specs.Makes.{stored}
-use Rattle.calls.proofs.Makes.{lent, replay-making, replay-refused, replay-settled}
+use Rattle.calls.proofs.Makes.{lent, Readied, made-anew, at-hand, replay-making, replay-refused, replay-settled}
 use borrow.Author.Needs.{needs}
 use Rattle.calls.proofs.replay_in.Statement.{statement}
 use Rattle.calls.proofs.replay_in.Tie as tie
@@ -14,6 +15,8 @@ use Rattle.calls.proofs.replay_in.Reads as reads
 use Rattle.calls.proofs.replay_in.Lts as lts
 use Rattle.calls.proofs.fate_number.Reads as fate-number-reads
 use Rattle.calls.proofs.keeping.Reads as keeping-reads
+use Rattle.calls.proofs.lacks_index.Reads as lacks-index-reads
+use Rattle.calls.proofs.make_index.Reads as make-index-reads
 use Rattle.calls.proofs.refusal.Reads as refusal-reads
 use Rattle.counts.proofs.note_settled.Reads as note-settled-reads
 use Rattle.heads.proofs.from_numbers.Reads as from-numbers-reads
@@ -25,20 +28,32 @@ use Rattle.rows.proofs.capped.Reads as capped-reads
 
 -- ---- the places of the code, as tools/named writes them
 
-abbrev After-from-numbers-from-After-missing : tie.After-missing → tie.After-from-numbers
-After-from-numbers-from-After-missing c = c .before .before .before
+abbrev After-from-numbers-from-Joined1 : tie.Joined1 → tie.After-from-numbers
+After-from-numbers-from-Joined1 c = c .before .before .before
 
-abbrev Start-from-After-missing : tie.After-missing → tie.Start
-Start-from-After-missing c = c .before .before .before .before
+abbrev Start-from-Joined1 : tie.Joined1 → tie.Start
+Start-from-Joined1 c = c .before .before .before .before
+
+abbrev Joined1-from-After-decide-replay-arg : tie.After-decide-replay-arg → tie.Joined1
+Joined1-from-After-decide-replay-arg c = c .before .before .before .before
+
+abbrev After-from-numbers-from-After-decide-replay-arg : tie.After-decide-replay-arg → tie.After-from-numbers
+After-from-numbers-from-After-decide-replay-arg c = c .before .before .before .before .before .before .before
+
+abbrev Start-from-After-decide-replay-arg : tie.After-decide-replay-arg → tie.Start
+Start-from-After-decide-replay-arg c = c .before .before .before .before .before .before .before .before
 
 abbrev After-decide-replay-from-After-refusal : tie.After-refusal → tie.After-decide-replay
 After-decide-replay-from-After-refusal c = c .before .before .before .before
 
+abbrev Joined1-from-After-refusal : tie.After-refusal → tie.Joined1
+Joined1-from-After-refusal c = c .before .before .before .before .before .before .before .before .before .before
+
 abbrev After-from-numbers-from-After-refusal : tie.After-refusal → tie.After-from-numbers
-After-from-numbers-from-After-refusal c = c .before .before .before .before .before .before .before .before .before
+After-from-numbers-from-After-refusal c = c .before .before .before .before .before .before .before .before .before .before .before .before .before
 
 abbrev Start-from-After-refusal : tie.After-refusal → tie.Start
-Start-from-After-refusal c = c .before .before .before .before .before .before .before .before .before .before
+Start-from-After-refusal c = c .before .before .before .before .before .before .before .before .before .before .before .before .before .before
 
 abbrev After-fate-number-from-After-keeping : tie.After-keeping → tie.After-fate-number
 After-fate-number-from-After-keeping c = c .before .before .before
@@ -61,17 +76,35 @@ After-outcome2-from-After-keeping c = c .before .before .before .before .before 
 abbrev After-decide-replay-from-After-keeping : tie.After-keeping → tie.After-decide-replay
 After-decide-replay-from-After-keeping c = c .before .before .before .before .before .before .before .before .before .before .before .before
 
-abbrev After-missing-from-After-keeping : tie.After-keeping → tie.After-missing
-After-missing-from-After-keeping c = c .before .before .before .before .before .before .before .before .before .before .before .before .before .before
+abbrev After-decide-replay-arg-from-After-keeping : tie.After-keeping → tie.After-decide-replay-arg
+After-decide-replay-arg-from-After-keeping c = c .before .before .before .before .before .before .before .before .before .before .before .before .before .before
+
+abbrev Joined1-from-After-keeping : tie.After-keeping → tie.Joined1
+Joined1-from-After-keeping c = Joined1-from-After-decide-replay-arg (After-decide-replay-arg-from-After-keeping c)
 
 abbrev After-from-numbers-from-After-keeping : tie.After-keeping → tie.After-from-numbers
-After-from-numbers-from-After-keeping c = After-from-numbers-from-After-missing (After-missing-from-After-keeping c)
+After-from-numbers-from-After-keeping c = After-from-numbers-from-After-decide-replay-arg (After-decide-replay-arg-from-After-keeping c)
 
 abbrev Start-from-After-keeping : tie.After-keeping → tie.Start
-Start-from-After-keeping c = Start-from-After-missing (After-missing-from-After-keeping c)
+Start-from-After-keeping c = Start-from-After-decide-replay-arg (After-decide-replay-arg-from-After-keeping c)
 
 from-numbers-requires : tie.Need-from-numbers-requires
 from-numbers-requires c κs = search needs
+
+lacks-index-requires : tie.Need-lacks-index-requires
+lacks-index-requires c κs = search needs
+
+make-index-requires : tie.Need-make-index-requires
+make-index-requires c κs = search needs
+
+-- the index that is asked
+readied : (c : tie.Joined1) → let a = (Start-from-Joined1 c) .args in
+    Readied (a .table .now) (min ((After-from-numbers-from-Joined1 c) .from-numbers .result .rules) 64) (a .sound) (a .index .now) (c .if1 .index)
+readied c =
+    let a = (Start-from-Joined1 c) .args in
+    on (c .if1 .came)
+    (λ w. made-anew (a .table .now) _ (a .sound) (a .index .now) (w .2 .ensures .0) (w .3))
+    (λ w. at-hand (a .table .now) _ (a .sound) (a .index .now) (sym (c .before .lacks-index .ensures) ∙ w .0 .left) (w .1))
 
 element-copy-out-missing : tie.Need-element-copy-out-missing
 element-copy-out-missing c = search needs
@@ -132,7 +165,7 @@ returns c =
     let h = ((After-from-numbers-from-After-refusal c) .from-numbers .result) in
     λ base values arrived confirmed. lent ((After-from-numbers-from-After-refusal c) .from-numbers .ensures) refl (sym ((After-from-numbers-from-After-refusal c) .from-numbers .ensures))
     (replay-making l h base (a .draft .now) values arrived confirmed (a .table .now) (a .index .now) (a .look) (a .counts .now) (a .sound) (s .pre)
-    ((After-decide-replay-from-After-refusal c) .decide-replay .result) ((After-decide-replay-from-After-refusal c) .decide-replay .ensures)
+    (readied (Joined1-from-After-refusal c)) ((After-decide-replay-from-After-refusal c) .decide-replay .result) ((After-decide-replay-from-After-refusal c) .decide-replay .ensures)
     (replay-refused l h base (a .draft .now) values arrived confirmed (a .table .now) (a .index .now) (a .look) (a .counts .now) (a .sound) (c .before .before .outcome .given .0 .0)
     (c .before .before .outcome .given .1) (c .refusal .ensures)))
 
@@ -147,7 +180,7 @@ returns-2 c =
     let to-x = toZ-ofZ (fits32 x (((After-known-told2-from-After-keeping c) .known-told2 .given .1 .0 .1))) in
     λ base values arrived confirmed. lent ((After-from-numbers-from-After-keeping c) .from-numbers .ensures) refl (sym ((After-from-numbers-from-After-keeping c) .from-numbers .ensures))
     (replay-making l h base (a .draft .now) values arrived confirmed (a .table .now) (a .index .now) (a .look) (a .counts .now) (a .sound) (s .pre)
-    ((After-decide-replay-from-After-keeping c) .decide-replay .result) ((After-decide-replay-from-After-keeping c) .decide-replay .ensures)
+    (readied (Joined1-from-After-keeping c)) ((After-decide-replay-from-After-keeping c) .decide-replay .result) ((After-decide-replay-from-After-keeping c) .decide-replay .ensures)
     (replay-settled l h base (a .draft .now) values arrived confirmed (a .table .now) (a .index .now) (a .look) (a .counts .now) (a .sound) b x
     ((After-outcome2-from-After-keeping c) .outcome2 .given .1)
     ((c .keeping .ensures)
@@ -161,6 +194,8 @@ replay-in-spec =
     tie.close
     (tie.spec
     from-numbers-requires
+    lacks-index-requires
+    make-index-requires
     element-copy-out-missing
     decide-replay-requires
     enum-known-outcome

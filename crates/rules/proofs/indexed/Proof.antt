@@ -10,7 +10,7 @@ use Rattle.rows.proofs.Spans.{getD-blank}
 use Rattle.rules.specs.Table.{lowers, gaps, uppers, firms}
 use Rattle.rules.specs.Rules.{firmIn}
 use Rattle.rules.specs.Index.{NoneAbove, Indexed}
-use Rattle.rules.proofs.Making.{Indexing, indexing-begin, indexing-over, indexing-room, indexing-few, indexing-next}
+use Rattle.rules.proofs.Making.{Indexing, indexing-begin, indexing-over, indexing-room, indexing-few, indexing-next, indexed-marked, marked}
 use Rattle.rules.proofs.indexed.Statement.{statement}
 use Rattle.rules.proofs.indexed.Tie as tie
 use Rattle.rules.proofs.indexed.Reads as reads
@@ -92,11 +92,18 @@ loop-again c =
     ((c .before .firm-below .ensures) ∙ ap (λ n. firmIn (lowers (a .table .now)) (uppers (a .table .now)) (firms (a .table .now)) n (c .before .before .before .before .before .loop .m))
     (sym (c .before .before .before .before .before .before .before .capped .ensures))))
 
+array-set-of-index : tie.Need-array-set-of-index Inv-loop μ-loop
+array-set-of-index c = omega (arith, c .before .loop .inv .long)
+
 returns : tie.Need-returns Inv-loop μ-loop
 returns c =
     let a = (c .before .before .before .before .args) in
-    subst (Indexed (c .before .loop .index) (lowers (a .table .now)) (gaps (a .table .now)) (uppers (a .table .now)) (firms (a .table .now))) (c .before .before .before .capped .ensures)
-    (indexing-over _ _ _ _ _ _ _ _ (c .before .loop .inv) (omega arith))
+    let index = c .before .loop .index in (
+      indexed-marked index (pos 1)
+          (subst (Indexed index (lowers (a .table .now)) (gaps (a .table .now)) (uppers (a .table .now)) (firms (a .table .now))) (c .before .before .before .capped .ensures)
+          (indexing-over _ _ _ _ _ _ _ _ (c .before .loop .inv) (omega arith))),
+      marked index (c .before .loop .inv .long),
+    )
 
 pub indexed-spec : {M : Type 1} → statement M
 indexed-spec =
@@ -121,4 +128,5 @@ indexed-spec =
     add-m
     loop-less
     loop-again
+    array-set-of-index
     returns)
