@@ -111,8 +111,6 @@ module _ {l : Line} {p : State} {index : List ℤ} {look : Look} {t : List ℕ} 
         long = ap length b ∙ k .long;
         tallied = λ x. subst (λ u. Tallied u (view q)) (sym counts) (tallied-made c made t x);
         indexed = λ x. ready-still p q b n (ready x);
-        from = (let g = f in omega (arith, g));
-        width = (let g = w in omega (arith, g));
         bare = λ x. w;
       }
 
@@ -209,6 +207,8 @@ module _ (l : Line) (h : Head) (base draft values : List ℤ) (arrived confirmed
   edit-making op {index′ = index′} ready r {e = e} {h′ = h′} {values′ = values′} {t′ = t′} r-is s = record {
     slot = s .bare .3;
     marked = (let z = s .bare .2 in omega (arith, z));
+    from = (let z = s .bare .0 in omega (arith, z));
+    width = (let z = s .bare .1 in omega (arith, z));
     made = λ edits after k m.
         let p = spread (before edits) in
         let d = ruledAs r in
@@ -298,6 +298,8 @@ module _ (l : Line) (h : Head) (base draft values : List ℤ) (arrived confirmed
   replay-making op {index′ = index′} ready r {e = e} {draft′ = draft′} {t′ = t′} r-is s = record {
     slot = s .bare .3;
     marked = (let z = s .bare .2 in omega (arith, z));
+    from = (let z = s .bare .0 in omega (arith, z));
+    width = (let z = s .bare .1 in omega (arith, z));
     made = λ edits after k m.
         let p = spread (before edits) in
         let d = settledAs r in
@@ -358,6 +360,8 @@ module _ (l : Line) (h : Head) (base draft values : List ℤ) (arrived confirmed
   send-making op {side = side} {i = i} {t′ = t′} d side-is i-is counts-is d-is = record {
     slot = omega arith;
     marked = send-few h side (getD arrived i false) (getD t i 0) d d-is;
+    from = omega arith;
+    width = omega arith;
     made = λ edits after k m.
         let p = spread (before edits) in
         let q = stateOf h base draft values (set arrived i (d .arrived)) confirmed table after in
@@ -392,6 +396,8 @@ module _ (l : Line) (h : Head) (base draft values : List ℤ) (arrived confirmed
   move-making op {i = i} r {t′ = t′} {base′ = base′} {draft′ = draft′} {values′ = values′} {arrived′ = arrived′} {confirmed′ = confirmed′} i-is counts-is moves n = record {
     slot = omega arith;
     marked = omega arith;
+    from = omega arith;
+    width = omega arith;
     made = λ edits after k m.
         let p = spread (before edits) in
         let q = stateOf (r .head) base′ draft′ values′ arrived′ confirmed′ table after in
@@ -424,6 +430,8 @@ module _ (l : Line) (h : Head) (base draft values : List ℤ) (arrived confirmed
   read-making line op r r-is = record {
     slot = omega arith;
     marked = omega arith;
+    from = subst (λ x. x .from ≤ 224) (sym r-is) (reading-bounds (l .op) (l .a) h (look .named) (look .standing) (leftNoted t) .0);
+    width = subst (λ x. x .width ≤ 32) (sym r-is) (reading-bounds (l .op) (l .a) h (look .named) (look .standing) (leftNoted t) .1);
     made = λ edits after k m.
         let p = spread (before edits) in
         let a = m .none refl in
@@ -434,7 +442,6 @@ module _ (l : Line) (h : Head) (base draft values : List ℤ) (arrived confirmed
         (leftNoted t))
         (λ e. rw e) in
         let g = reading-right p t (k .tallied op) (l .op) (l .a) in
-        let b = reading-bounds p t (k .tallied op) (l .op) (l .a) in
         let r-in : r ≡ readingIn p t (k .tallied op) (l .op) (l .a) = r-is ∙ stood in
         let same : before after ≡ before edits = ap before a in
         record {
@@ -445,8 +452,6 @@ module _ (l : Line) (h : Head) (base draft values : List ℤ) (arrived confirmed
           long = k .long;
           tallied = λ x. subst (λ y. Tallied t (view y)) (sym same) x;
           indexed = λ x. subst (λ y. ReadyIn (spread y) index) (sym same) x;
-          from = subst (λ x. x .from ≤ 224) (sym r-in) (b .0);
-          width = subst (λ x. x .width ≤ 32) (sym r-in) (b .1);
           bare = λ x. ap (λ y. y .width) r-is ∙ cases (eqb (l .op) 13) (λ e. rw (x, e)) (λ e. cases (eqb (l .op) 14) (λ f. rw (x, e, f)) (λ f. rw (x, e, f)));
         };
   }
@@ -460,6 +465,8 @@ module _ (l : Line) (h : Head) (base draft values : List ℤ) (arrived confirmed
   draw-making op {r} {h′} {values′} {table′} {index′} stored stale old = record {
     slot = omega arith;
     marked = omega arith;
+    from = omega arith;
+    width = omega arith;
     made = λ edits after k m.
         let x = stateOf h base draft values arrived confirmed table edits in
         let q = stateOf h′ base draft values′ arrived confirmed table′ after in
@@ -480,8 +487,6 @@ module _ (l : Line) (h : Head) (base draft values : List ℤ) (arrived confirmed
           indexed = λ y. cases (isAccepted r)
               (λ u made. absurd (is-yes (sym (stale u) ∙ made)))
               (λ u. subst (ReadyIn (spread q)) (sym (old u)) (subst (λ z. ReadyIn (spread z) index) (sym (refused-same r u same)) y));
-          from = omega arith;
-          width = omega arith;
           bare = λ y. refl;
         };
   }

@@ -88,8 +88,6 @@ pub record Makes (l : Line) (p q : State) (t t′ : List ℕ) (index index′ : 
   pub long : length (q .table) ≡ 256
   pub tallied : Tallied t (view p) → Tallied t′ (view q)
   pub indexed : ReadyIn (spread p) index → ReadyIn (spread q) index′
-  pub from : e .from ≤ 224
-  pub width : e .width ≤ measureLimit
   pub bare : eqb (l .op) showOp ≡ false → e .width ≡ 0
 
 -- the kept edits with the record that the owner is to store
@@ -102,6 +100,8 @@ pub record Making (l : Line) (h : Head) (base draft values : List ℤ) (arrived 
     (h′ : Head) (base′ draft′ values′ : List ℤ) (arrived′ confirmed′ : List Bool) (table′ index′ : List ℤ) (t′ : List ℕ) : Type 0 where
   pub slot : e .slot < keptLimit
   pub marked : e .marked ≤ keptLimit
+  pub from : e .from ≤ 224
+  pub width : e .width ≤ measureLimit
   pub made : (edits after : List EditRecord)
       → Known l (stateOf h base draft values arrived confirmed table edits) index look t sound
       → Marked (natural (l .a)) (noted e edits) after (e .marked)

@@ -18,7 +18,9 @@ use Rattle.state.specs.Spread.{Spread}
 use Rattle.state.specs.declared.Answer.{Answer}
 use Rattle.state.specs.declared.Answer.the-variants.{Refused, Given}
 use Rattle.state.specs.Spread.{planOf}
+use Rattle.records.specs.declared.EditRecord.{EditRecord}
 use Rattle.records.specs.Records.{keptAt, keptOf, noRecord}
+use Rattle.heads.specs.declared.Head.{Head}
 use Rattle.heads.specs.Heads.{modeOf, sidesIn, endIn, keptIn, namedAt, namedSlot, unsetIn}
 use Rattle.state.specs.Meets.{answerOf, firstOf}
 use Rattle.state.proofs.View.{flags-unset}
@@ -87,13 +89,13 @@ module _ (p : Spread) (t : List ℕ) (h : Tallied t (planOf p)) where
       (λ e. rw e (cases (eqb op 13) (λ f. rw f (fate-right a))
       (λ f. rw f (cases (eqb op 14) (λ g. rw g (left-right a)) (λ g. rw g (refl, refl))))))
 
-  -- where the values of a reading stand
-  pub reading-bounds : (op : ℕ) (a : ℤ) → (readingIn op a .from ≤ 224) × (readingIn op a .width ≤ 32)
-  reading-bounds op a =
-      cases (eqb op 12) (λ e. rw e (by (first (showChecks (p .head) (natural a) measureLimit))))
-      (λ e. rw e (cases (eqb op 13) (λ f. rw f (omega arith, omega arith))
-      (λ f. rw f (cases (eqb op 14) (λ g. rw g (omega arith, omega arith)) (λ g. rw g (omega arith, omega arith))))))
-    where
-      by : (v : Verdict) → (showBy v (p .head) (natural a) .from ≤ 224) × (showBy v (p .head) (natural a) .width ≤ 32)
-      by fine = (omega arith, omega arith)
-      by (refused k) = (omega arith, omega arith)
+-- where the values of a reading stand
+pub reading-bounds : (op : ℕ) (a : ℤ) (h : Head) (i : ℕ) (seen : EditRecord) (n : ℕ) → (readingOf op a h i seen n .from ≤ 224) × (readingOf op a h i seen n .width ≤ 32)
+reading-bounds op a h i seen n =
+    cases (eqb op 12) (λ e. rw e (by (first (showChecks h (natural a) measureLimit))))
+    (λ e. rw e (cases (eqb op 13) (λ f. rw f (omega arith, omega arith))
+    (λ f. rw f (cases (eqb op 14) (λ g. rw g (omega arith, omega arith)) (λ g. rw g (omega arith, omega arith))))))
+  where
+    by : (v : Verdict) → (showBy v h (natural a) .from ≤ 224) × (showBy v h (natural a) .width ≤ 32)
+    by fine = (omega arith, omega arith)
+    by (refused k) = (omega arith, omega arith)
