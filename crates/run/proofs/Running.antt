@@ -15,13 +15,15 @@ use Rattle.format.specs.Sheets.{text, lineStep, inFront}
 use Rattle.reader.specs.Cut.{upTo}
 use Rattle.reader.proofs.Cut.{lines-over, lines-at}
 use Rattle.protocol.specs.Plan.{Plan}
+use Rattle.records.specs.declared.EditRecord.{EditRecord}
 use Rattle.state.specs.declared.State.{State}
 use Rattle.state.specs.Spread.{spread}
 use Rattle.state.specs.View.{view}
-use Rattle.calls.specs.Makes.{SoundIn, IndexedIn}
+use Rattle.calls.specs.Makes.{SoundIn, ReadyIn}
 use Rattle.state.specs.Sizes.{Sized}
 use Rattle.counts.specs.Tallies.{Tallied}
 use Rattle.protocol.proofs.Laws.{cases}
+use Rattle.run.specs.declared.Way.{Way}
 use Rattle.run.specs.Progress.{Ran, behindRan, ran, Advanced, lastOf}
 
 -- a run that goes on: the answers written so far, and what is still to come of the whole run
@@ -131,33 +133,38 @@ module _ (on : Bool) (reserve : ℕ) (sheet : List ℕ) (from : ℕ) (lent : Lis
 
 -- ---- the loop's invariant
 
--- The run is over, as an answer did not fit, or goes on; `stop` says whether there is another line. Where the rules are known to hold, the index is theirs.
-pub record Course (sound on : Bool) (reserve : ℕ) (sheet : List ℕ) (from : ℕ) (lent : List ℕ) (start : Plan) (area : List ℕ) (p : State) (t : List ℕ) (index : List ℤ) (at i : ℕ) (ended : Bool)
-    (stop : ℕ) : Type 0 where
-  pub indexed : sound ≡ true → IndexedIn (spread p) index
+-- What holds whatever is known of the rules; `stop` says whether there is another line.
+pub record Within (reserve : ℕ) (sheet lent area : List ℕ) (edits : List EditRecord) (at : ℕ) (ended : Bool) (stop : ℕ) : Type 0 where
+  pub full : length edits ≡ 256
   pub same : length area ≡ length lent
+  pub most : at ≤ length lent
   pub last : stop ≡ lastOf (length sheet) ended (length area - at) reserve
-  pub over : ended ≡ true → Advanced on reserve sheet from start lent (view p) i at true area
-  pub under : ended ≡ false → SoundIn sound (spread p) × Going on reserve sheet from lent start area p t at i
 
-module _ {sound : Bool} {on : Bool} {reserve : ℕ} {sheet : List ℕ} {from : ℕ} {lent : List ℕ} {start : Plan} {area : List ℕ} {p : State} {t : List ℕ} {index : List ℤ} {at i : ℕ}
-    {ended : Bool} {stop : ℕ}
-    (k : Course sound on reserve sheet from lent start area p t index at i ended stop) where
-  -- a line is begun
-  pub inside : i < stop → (ended ≡ false) × (i < length sheet) × (reserve ≤ length area - at)
-  inside h =
-      cases ended (λ e. absurd (let z : stop ≡ 0 = k .last ∙ rw e in omega (arith, z, h)))
-      (λ e. cases (ltb (length area - at) reserve) (λ f. absurd (let z : stop ≡ 0 = k .last ∙ rw (e, f) in omega (arith, z, h)))
-      (λ f. (e, (let z : stop ≡ length sheet = k .last ∙ rw (e, f) in omega (arith, z, h)), ltb-false _ _ f)))
+-- The run is over, as an answer did not fit, or goes on. Where the rules are known to hold, an index that was made is theirs.
+pub record Course (way : Way) (sheet lent : List ℕ) (start : Plan) (area : List ℕ) (p : State) (t : List ℕ) (index : List ℤ) (at i : ℕ) (ended : Bool) : Type 0 where
+  pub indexed : way .sound ≡ true → ReadyIn (spread p) index
+  pub over : ended ≡ true → Advanced (way .on) (way .reserve) sheet (way .from) start lent (view p) i at true area
+  pub under : ended ≡ false → SoundIn (way .sound) (spread p) × Going (way .on) (way .reserve) sheet (way .from) lent start area p t at i
 
-  -- none is
-  pub finished : stop ≤ i → Advanced on reserve sheet from start lent (view p) i at ended area
-  finished h =
-      cases ended (λ e. rw e (k .over e))
-      (λ e. let g = k .under e .1 in cases (ltb (length area - at) reserve)
-      (λ f. rw e (cases (ltb i (length sheet)) (λ l. paused _ _ _ _ _ _ _ _ _ _ _ g (ltb-true _ _ l) (let b = ltb-true (length area - at) reserve f in let q = g .same in omega (arith, b, q)))
-      (λ l. over _ _ _ _ _ _ _ _ _ _ _ g (ltb-false _ _ l))))
-      (λ f. rw e (over _ _ _ _ _ _ _ _ _ _ _ g (let z : stop ≡ length sheet = k .last ∙ rw (e, f) in omega (arith, z, h)))))
+-- a line is begun
+pub inside : {reserve : ℕ} {sheet lent area : List ℕ} {edits : List EditRecord} {at i : ℕ} {ended : Bool} {stop : ℕ} → Within reserve sheet lent area edits at ended stop → i < stop
+    → (ended ≡ false) × (i < length sheet) × (reserve ≤ length area - at)
+inside {reserve = reserve} {sheet = sheet} {area = area} {at = at} {ended = ended} {stop = stop} k h =
+    cases ended (λ e. absurd (let z : stop ≡ 0 = k .last ∙ rw e in omega (arith, z, h)))
+    (λ e. cases (ltb (length area - at) reserve) (λ f. absurd (let z : stop ≡ 0 = k .last ∙ rw (e, f) in omega (arith, z, h)))
+    (λ f. (e, (let z : stop ≡ length sheet = k .last ∙ rw (e, f) in omega (arith, z, h)), ltb-false _ _ f)))
+
+-- none is
+pub finished : {way : Way} {sheet lent : List ℕ} {start : Plan} {area : List ℕ} {p : State} {t : List ℕ} {index : List ℤ} {at i : ℕ} {ended : Bool} {stop : ℕ}
+    → Within (way .reserve) sheet lent area (p .edits) at ended stop → Course way sheet lent start area p t index at i ended → stop ≤ i
+    → Advanced (way .on) (way .reserve) sheet (way .from) start lent (view p) i at ended area
+finished {way = way} {sheet = sheet} {area = area} {at = at} {i = i} {ended = ended} {stop = stop} n k h =
+    cases ended (λ e. rw e (k .over e))
+    (λ e. let g = k .under e .1 in cases (ltb (length area - at) (way .reserve))
+    (λ f. rw e (cases (ltb i (length sheet))
+    (λ l. paused _ _ _ _ _ _ _ _ _ _ _ g (ltb-true _ _ l) (let b = ltb-true (length area - at) (way .reserve) f in let q = g .same in omega (arith, b, q)))
+    (λ l. over _ _ _ _ _ _ _ _ _ _ _ g (ltb-false _ _ l))))
+    (λ f. rw e (over _ _ _ _ _ _ _ _ _ _ _ g (let z : stop ≡ length sheet = n .last ∙ rw (e, f) in omega (arith, z, h)))))
 
 -- ---- the beginning
 

@@ -1,24 +1,34 @@
-// The run over a sheet (01, "The sheet program"): each line is read, made on the plan and answered. The loop owns the plan: it lends its numbers to the call, and keeps its edits.
+// The run over a sheet (01, "The sheet program"): each line is read, made on the plan and answered. The loop is lent a plan's numbers, which it lends to the call, and has
+// its kept edits by value.
 ghost use mathlib.Core.Path.{_≡_};
-ghost use mathlib.Core.Bool.{true, false};
-ghost use Rattle.protocol.specs.Plan.{is, blank};
-ghost use Rattle.heads.specs.Heads.{modeOf};
-ghost use Rattle.counts.specs.Tallies.{Tallied};
+ghost use Prim.Native.Nat.{_≤_};
+ghost use Rattle.protocol.specs.Plan.{measureLimit};
+ghost use Rattle.rows.specs.Rows.{row};
+ghost use Rattle.writer.specs.Writes.{lineOf, putIn, putLength};
 ghost use Rattle.rules.specs.Table.{lowers, gaps, uppers};
-ghost use Rattle.state.specs.Spread.{spread};
-ghost use Rattle.state.specs.View.{view};
-ghost use Rattle.calls.specs.Makes.{SoundIn};
 ghost use Rattle.run.specs.Sound.{soundIn};
-ghost use Rattle.run.specs.Progress.{lastOf, endsAt, Advanced};
-use counts::Tallies;
+ghost use Rattle.run.specs.Progress.{lastOf, endsAt};
+ghost use Rattle.run.specs.Advance.{Advancing};
 use heads::Head;
+use protocol::limit;
+use records::EditRecord;
 use records::Test;
 use rules::Table;
-use state::State;
+use state::Answer;
 
-// Where a run stands: the plan, the place of the line that comes next, how many bytes were written, and whether an answer did not fit.
+// How a run goes: from which place of the sheet on, how many bytes are to be free before a line is begun, whether it goes on where an answer does not fit, and whether
+// every rule is known to hold.
+pub struct Way {
+    pub from: usize,
+    pub reserve: usize,
+    pub on: bool,
+    pub sound: bool,
+}
+
+// Where a run stands: the plan's head and its kept edits, the place of the line that comes next, how many bytes were written, and whether an answer did not fit.
 pub struct Progress {
-    pub state: State,
+    pub head: Head,
+    pub edits: [EditRecord; limit::EDITS],
     pub next: usize,
     pub written: usize,
     pub ended: bool,
@@ -47,19 +57,24 @@ fn ends(on: bool, n: usize) -> bool
     n == 0
 }
 
-fn reached(state: State, next: usize, written: usize, ended: bool) -> Progress
-    ensures { λ r. ⌜ r ≡ record { state = state; next = next; written = written; ended = ended } ⌝ }
+// Puts an answer into a room, with the values that it gives besides.
+fn tell(
+    answer: Answer,
+    values: &[i32; limit::VALUES],
+    from: usize,
+    width: usize,
+    room: &mut [u8],
+) -> usize
+    requires { ⌜ (from ≤ 224) × (width ≤ measureLimit) ⌝ }
+    ensures { λ r. ⌜ (now (room .exit) ≡ putIn (lineOf answer (row (now (values .entry)) from width)) (now (room .entry))) ×
+        (r ≡ putLength (lineOf answer (row (now (values .entry)) from width)) (now (room .entry))) ⌝ }
 {
-    Progress {
-        state,
-        next,
-        written,
-        ended,
-    }
+    let vs = &values[..];
+    writer::put(answer, &vs[from..from + width], room)
 }
 
 // The rules of a plan hold once it is open, and every call keeps it so (`sound`): of a blank one this is known, and a whole one is tested.
-fn is_sound<'a>(h: Head, table: &'a Table, values: &'a [i32]) -> bool
+pub fn is_sound<'a>(h: Head, table: &'a Table, values: &'a [i32]) -> bool
     ensures { λ t. ⌜ t ≡ soundIn h (lowers (now (table .entry))) (gaps (now (table .entry))) (uppers (now (table .entry))) (now (values .entry)) ⌝ }
 {
     let mode = h.mode;
@@ -73,37 +88,33 @@ fn is_sound<'a>(h: Head, table: &'a Table, values: &'a [i32]) -> bool
     false
 }
 
-// The loop. Where every rule holds (`sound`), the rules are indexed: at the start, if the plan is open, or when it is opened.
-fn go(
-    p: State,
-    t: Tallies,
-    sound: bool,
-    opened: bool,
-    on: bool,
-    reserve: usize,
+// The loop: goes on from a line of the sheet as long as so many bytes of the area are free and each answer fits. Where it is to go on, an answer that does not fit is
+// dropped, and does not end the run: an owner that wants only the plan lends no room.
+pub fn advance(
+    first: Head,
+    base: &mut [i32; limit::MEASURES],
+    draft: &mut [i32; limit::MEASURES],
+    values: &mut [i32; limit::VALUES],
+    arrived: &mut [bool; limit::SIDES],
+    confirmed: &mut [bool; limit::SIDES],
+    table: &mut Table,
+    kept: [EditRecord; limit::EDITS],
+    way: Way,
     sheet: &[u8],
-    from: usize,
     area: &mut [u8],
 ) -> Progress
-    requires { ⌜ Tallied t (view p) × SoundIn sound (spread p) × (sound ≡ true → opened ≡ false → is blank (modeOf (p .head .mode)) ≡ true) ⌝ }
-    ensures { λ r. ⌜ Advanced on reserve (now (sheet .entry)) from (view p) (now (area .entry)) (view (r .state)) (r .next) (r .written) (r .ended) (now (area .exit)) ⌝ }
+    ensures { λ r. ⌜ Advancing way (now (sheet .entry)) (now (area .entry)) first (now (base .entry)) (now (draft .entry)) (now (values .entry))
+        (now (arrived .entry)) (now (confirmed .entry)) (now (table .entry)) kept r (now (base .exit)) (now (draft .exit)) (now (values .exit))
+        (now (arrived .exit)) (now (confirmed .exit)) (now (table .exit)) (now (area .exit)) ⌝ }
 {
-    let h = p.head;
-    let mut head = heads::numbers(h);
-    let mut base = p.base;
-    let mut draft = p.draft;
-    let mut values = p.values;
-    let mut arrived = p.arrived;
-    let mut confirmed = p.confirmed;
-    let mut table = p.table;
-    let mut edits = p.edits;
-    let mut counts = t;
+    let mut head = heads::numbers(first);
+    let mut edits = kept;
+    let mut counts = query::tallies(kept, first, arrived, confirmed);
     let mut index = [0i32; 512];
-    calls::note_index(&mut index, &table, h.rules, opened);
     let mut at: usize = 0;
-    let mut i = from;
+    let mut i = way.from;
     let mut ended = false;
-    let mut stop = last(sheet.len(), ended, area.len(), reserve);
+    let mut stop = last(sheet.len(), ended, area.len(), way.reserve);
     while i < stop {
         let line = reader::read_line(&sheet[i..]);
         let h = heads::from_numbers(&head);
@@ -117,16 +128,16 @@ fn go(
         let e = calls::make(
             line,
             &mut head,
-            &mut base,
-            &mut draft,
-            &mut values,
-            &mut arrived,
-            &mut confirmed,
-            &mut table,
+            base,
+            draft,
+            values,
+            arrived,
+            confirmed,
+            table,
             &mut index,
             look,
             &mut counts,
-            sound,
+            way.sound,
         );
         if e.kept {
             let slot = e.slot;
@@ -144,39 +155,18 @@ fn go(
             }
             j += 1;
         }
-        let first = e.from;
-        let width = e.width;
         let answer = e.answer;
-        let vs = &values[..];
-        let n = writer::put(answer, &vs[first..first + width], &mut area[at..]);
-        ended = ends(on, n);
+        let n = tell(answer, values, e.from, e.width, &mut area[at..]);
+        ended = ends(way.on, n);
         at += n;
         i = i + line.end + 1;
-        stop = last(sheet.len(), ended, area.len() - at, reserve);
+        stop = last(sheet.len(), ended, area.len() - at, way.reserve);
     }
-    let h = heads::from_numbers(&head);
-    let state = state::of(h, base, draft, values, arrived, confirmed, table, edits);
-    reached(state, i, at, ended)
-}
-
-// Goes on from a line of the sheet, as long as `reserve` bytes of the area are free and each answer fits. The rules of a plan that is handed in
-// blank are tested when it is opened, those of a whole one at once; of another nothing is known. Where it is to go on (`on`), an answer that does not fit is
-// dropped, and does not end the run: an owner that wants only the plan lends no room.
-pub fn advance(
-    p: State,
-    on: bool,
-    reserve: usize,
-    sheet: &[u8],
-    from: usize,
-    area: &mut [u8],
-) -> Progress
-    ensures { λ r. ⌜ Advanced on reserve (now (sheet .entry)) from (view p) (now (area .entry)) (view (r .state)) (r .next) (r .written) (r .ended) (now (area .exit)) ⌝ }
-{
-    let h = p.head;
-    let mode = h.mode;
-    let opened = heads::mode_number(mode) == 1;
-    let sound = is_sound(h, &p.table, &p.values);
-    let edits = p.edits;
-    let counts = query::tallies(edits, h, &p.arrived, &p.confirmed);
-    go(p, counts, sound, opened, on, reserve, sheet, from, area)
+    Progress {
+        head: heads::from_numbers(&head),
+        edits,
+        next: i,
+        written: at,
+        ended,
+    }
 }

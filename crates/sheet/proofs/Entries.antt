@@ -5,7 +5,7 @@ use mathlib.Core.Path.{_≡_, refl, sym, ap, ap₂, subst, _∙_}
 use mathlib.Core.Bool.{Bool, true, false, cond}
 use mathlib.Core.List.{List, [], _∷_, _++_, append-nil}
 use lib.Seq.{take-all}
-use borrow.Author.Tests.{le-ltb, lt-ltb, lt-leb}
+use borrow.Author.Tests.{le-ltb, lt-ltb, lt-leb, eq-eqb, ne-eqb}
 use lib.Dec.{T, eqb, leb}
 use lib.IntN.{ℤ, pos}
 use lib.ListN.{length, take, drop, length-append, length-take, length-drop, drop-of-length-le}
@@ -23,15 +23,23 @@ use Rattle.file.specs.Loaded.{nextLimit, nextNumber, readChecks, drawing, first
 use Rattle.file.proofs.Drawn.{both-fine}
 use Rattle.file.proofs.Rising.{number-in}
 use Rattle.state.specs.declared.State.{State}
-use Rattle.state.specs.View.{view}
+use Rattle.state.specs.Spread.{spread}
+use Rattle.state.specs.Sizes.{Sized}
+use Rattle.state.specs.View.{view, stateOf, blankState}
+use Rattle.heads.specs.declared.Head.{Head}
+use Rattle.records.specs.declared.EditRecord.{EditRecord}
+use Rattle.rules.proofs.Table.{lowers-length, gaps-length, uppers-length, firms-length}
+use Rattle.guarantee.specs.Holding.{Holding}
+use Rattle.guarantee.proofs.Holding.{holding-step, holding-start}
+use Rattle.load.specs.Drawing.{loadAnswer, LoadedFrom}
+use Rattle.run.specs.Advance.{Lent}
 use Rattle.state.specs.declared.Answer.{Answer}
 use Rattle.state.specs.declared.Answer.the-variants.{Refused, Given}
 use Rattle.state.specs.Meets.{firstOf, answerOf}
-use Rattle.state.specs.Spread.{isAccepted}
 use Rattle.run.specs.Progress.{Ran, ran, Advanced}
 use Rattle.run.proofs.Putting.{text-some}
 use Rattle.sheet.specs.Runs.{handedBack}
-use Rattle.sheet.specs.Served.{begunAs, entryNumber, scaledAs, longAs, servedOn}
+use Rattle.sheet.specs.Served.{begunAs, Begun, BegunFrom, entryNumber, scaledAs, longAs, servedOn}
 use Rattle.sheet.proofs.Runs.{written-is, written-most, screened-is}
 use Rattle.sheet.specs.Entries.{onLoaded, planOf, savedBy, saveFrom}
 
@@ -98,12 +106,73 @@ narrow-load f p g = by (loadVerdict f p) (λ e. number-in f p (both-fine (first 
 narrow-start : Narrow (start .content)
 narrow-start = record { rules = omega arith; next = short (pos 1) (omega arith); base = tt; draft = tt; sides = omega arith; values = tt; kept = omega arith; places = tt }
 
-pub narrow-begun : (loads : Bool) (file : List ℕ) (p : State) → view p ≡ begunAs loads file .plan → Narrow (view p .content)
-narrow-begun loads file p e = subst (λ (q : Plan). Narrow (q .content)) (sym e) (by loads)
+pub narrow-begun : (loads : Bool) (file : List ℕ) → Narrow (begunAs loads file .plan .content)
+narrow-begun true file = narrow-load file start narrow-start
+narrow-begun false file = narrow-start
+
+-- ---- and every rule holds in it
+
+holding-end : (cs : List Call) (p : Plan) → Holding (p .mode) (p .content) → Holding (end cs p .mode) (end cs p .content)
+holding-end [] p g = g
+holding-end (c ∷ cs) p g = holding-end cs (following p c) (holding-step c p g)
+
+holding-load : (f : List ℕ) (p : Plan) → Holding (p .mode) (p .content) → Holding (load f p .plan .mode) (load f p .plan .content)
+unfolding load
+holding-load f p g = by (loadVerdict f p)
   where
-    by : (b : Bool) → Narrow (begunAs b file .plan .content)
-    by true = narrow-load file start narrow-start
-    by false = narrow-start
+    by : (v : Verdict) → Holding (loadBy v f p .plan .mode) (loadBy v f p .plan .content)
+    by fine = let n = holding-end (drawing f) p g in record { alone = n .alone; sides = n .sides; base = n .base; draft = n .draft }
+    by (refused k) = g
+
+holding-begun : (loads : Bool) (file : List ℕ) → Holding (begunAs loads file .plan .mode) (begunAs loads file .plan .content)
+holding-begun true file = holding-load file start holding-start
+holding-begun false file = holding-start
+
+-- ---- a blank state, and what is begun from it
+
+pub begun-loaded : (loads : Bool) {file : List ℕ} {k : ℕ} {h h′ : Head} {values table values′ table′ : List ℤ} → loads ≡ true
+    → LoadedFrom file k h values table h′ values′ table′ → BegunFrom loads file k h values table h′ values′ table′
+begun-loaded true e m =
+    λ base draft arrived confirmed edits z l. let r = m base draft arrived confirmed edits z l in record { answer = r .answer; plan = r .plan; sized = r .sized; long = r .long }
+begun-loaded false e m = absurd (is-yes e)
+
+pub begun-none : (loads : Bool) {file : List ℕ} {h : Head} {values table : List ℤ} → loads ≡ false → BegunFrom loads file 0 h values table h values table
+begun-none true e = absurd (is-yes (sym e))
+begun-none false e = λ base draft arrived confirmed edits z l. record { answer = refl; plan = λ k. refl; sized = z; long = l }
+
+blank-sized : Sized (spread blankState)
+blank-sized = record {
+  base = refl;
+  draft = refl;
+  values = refl;
+  arrived = refl;
+  confirmed = refl;
+  lower = lowers-length (blankState .table);
+  gap = gaps-length (blankState .table);
+  upper = uppers-length (blankState .table);
+  firm = firms-length (blankState .table);
+  edits = refl;
+}
+
+pub begun-by : {loads : Bool} {file : List ℕ} {k : ℕ} {h h′ : Head} {values table values′ table′ : List ℤ} {base draft : List ℤ} {arrived confirmed : List Bool} {edits : List EditRecord}
+    → BegunFrom loads file k h values table h′ values′ table′ → stateOf h base draft values arrived confirmed table edits ≡ blankState
+    → Begun loads file k blankState (stateOf h′ base draft values′ arrived confirmed table′ edits)
+begun-by {loads = loads} {file = file} {k = k} {h′ = h′} {values′ = values′} {table′ = table′} {base = base} {draft = draft} {arrived = arrived} {confirmed = confirmed} {edits = edits} b e =
+    subst (λ p. Begun loads file k p (stateOf h′ base draft values′ arrived confirmed table′ edits)) e
+    (b base draft arrived confirmed edits (subst (λ p. Sized (spread p)) (sym e) blank-sized) (ap (λ p. length (p .table)) e))
+
+module _ {loads : Bool} {file : List ℕ} {k : ℕ} {q : State} (b : Begun loads file k blankState q) where
+  pub begun-answer : begunAs loads file .answer ≡ loadAnswer k
+  begun-answer = b .answer
+
+  pub begun-plan : k ≡ 0 → view q ≡ begunAs loads file .plan
+  begun-plan z = b .plan z
+
+  pub begun-lent : k ≡ 0 → Lent true q
+  begun-lent z = (b .sized, b .long, λ s. subst (λ (p : Plan). Holding (p .mode) (p .content)) (sym (begun-plan z)) (holding-begun loads file))
+
+  pub begun-narrow : k ≡ 0 → Narrow (view q .content)
+  begun-narrow z = subst (λ (p : Plan). Narrow (p .content)) (sym (begun-plan z)) (narrow-begun loads file)
 
 -- ---- the plan of a sheet, played with no room for its answers
 
@@ -217,19 +286,12 @@ long-served loads saves sheet area p h = let t = lt-ltb 65536 (length sheet) h i
 
 -- ---- on the plan that an entry begins on
 
-module _ (l : Stepped) (buffer : List ℕ) (g : Plan → Screened) (a : Answer) (a-is : answerOf a ≡ l .answer) where
+module _ (l : Stepped) (buffer : List ℕ) (g : Plan → Screened) (k : ℕ) (a-is : l .answer ≡ loadAnswer k) where
   -- a file that is refused
-  pub turned : isAccepted a ≡ false → (n : ℕ) → n ≡ entryNumber a → handedBack n buffer ≡ onLoaded l buffer g
-  turned r n e = by a a-is r e
-    where
-      by : (a : Answer) → answerOf a ≡ l .answer → isAccepted a ≡ false → n ≡ entryNumber a → handedBack n buffer ≡ onLoaded l buffer g
-      by (Refused k j) x r e = ap (λ m. handedBack m buffer) e ∙ subst (λ y. handedBack k buffer ≡ onLoaded (record { answer = y; plan = l .plan }) buffer g) x refl
-      by (Given n u v w) x r e = absurd (subst T r tt)
+  pub turned : (k ≡ 0 → ⊥) → handedBack k buffer ≡ onLoaded l buffer g
+  turned n = subst (λ y. handedBack k buffer ≡ onLoaded (record { answer = y; plan = l .plan }) buffer g) (sym (a-is ∙ ap (λ b. cond b (ok []) (no k)) (ne-eqb k 0 n))) refl
 
   -- one that loads, or none
-  pub taken : isAccepted a ≡ true → (q : Plan) → q ≡ l .plan → (s : Screened) → s ≡ g q → s ≡ onLoaded l buffer g
-  taken r q e s k = k ∙ ap g e ∙ by a a-is r
-    where
-      by : (a : Answer) → answerOf a ≡ l .answer → isAccepted a ≡ true → g (l .plan) ≡ onLoaded l buffer g
-      by (Refused k j) x r = absurd (is-yes r)
-      by (Given n u v w) x r = subst (λ y. g (l .plan) ≡ onLoaded (record { answer = y; plan = l .plan }) buffer g) x refl
+  pub taken : k ≡ 0 → (q : Plan) → q ≡ l .plan → (s : Screened) → s ≡ g q → s ≡ onLoaded l buffer g
+  taken z q e s j =
+      j ∙ ap g e ∙ subst (λ y. g (l .plan) ≡ onLoaded (record { answer = y; plan = l .plan }) buffer g) (sym (a-is ∙ ap (λ b. cond b (ok []) (no k)) (eq-eqb k 0 z))) refl

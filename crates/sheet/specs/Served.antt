@@ -1,19 +1,45 @@
 -- Scaffolding: all entries as one, by whether a file is loaded first and whether the plan is saved. Assumes nothing.
 use Prim.Native.Nat.{ℕ, _*_}
+use mathlib.Core.Path.{_≡_}
 use mathlib.Core.Bool.{Bool, cond}
 use mathlib.Core.List.{List, [], _∷_}
+use lib.IntN.{ℤ}
 use lib.ListN.{length}
 use Rattle.protocol.specs.Plan.{Plan}
 use Rattle.protocol.specs.Calls.{no, ok, Stepped, start}
 use Rattle.format.specs.Sheets.{text, fitted, Screened, screened, screen}
 use Rattle.file.specs.Loaded.{load}
+use Rattle.heads.specs.declared.Head.{Head}
+use Rattle.records.specs.declared.EditRecord.{EditRecord}
+use Rattle.state.specs.declared.State.{State}
+use Rattle.state.specs.Spread.{spread}
+use Rattle.state.specs.Sizes.{Sized}
+use Rattle.state.specs.View.{view, stateOf}
+use Rattle.load.specs.Drawing.{loadAnswer}
 use Rattle.state.specs.declared.Answer.{Answer}
 use Rattle.state.specs.declared.Answer.the-variants.{Refused, Given}
 use Rattle.sheet.specs.Entries.{refusedWith, onLoaded, saveFrom}
 
--- the plan that an entry begins on
+-- the plan that an entry begins on, from one with nothing drawn
+abbrev pub begunOn : Bool → List ℕ → Plan → Stepped
+begunOn loads file p = cond loads (load file p) (record { answer = ok []; plan = p })
+
 abbrev pub begunAs : Bool → List ℕ → Stepped
-begunAs loads file = cond loads (load file start) (record { answer = ok []; plan = start })
+begunAs loads file = begunOn loads file start
+
+-- It, with the plan where it is accepted; k is the refusal's number, or 0.
+pub record Begun (loads : Bool) (file : List ℕ) (k : ℕ) (p q : State) : Type 0 where
+  pub answer : begunOn loads file (view p) .answer ≡ loadAnswer k
+  pub plan : k ≡ 0 → view q ≡ begunOn loads file (view p) .plan
+  pub sized : Sized (spread q)
+  pub long : length (q .table) ≡ 256
+
+-- the same of what is lent of a state, whatever the rest of it
+abbrev pub BegunFrom : Bool → List ℕ → ℕ → Head → List ℤ → List ℤ → Head → List ℤ → List ℤ → Type 0
+BegunFrom loads file k h values table h′ values′ table′ =
+    (base draft : List ℤ) (arrived confirmed : List Bool) (edits : List EditRecord)
+    → let p = stateOf h base draft values arrived confirmed table edits in
+    Sized (spread p) → length table ≡ 256 → Begun loads file k p (stateOf h′ base draft values′ arrived confirmed table′ edits)
 
 -- an entry's number, from the answer of a call
 abbrev pub entryNumber : Answer → ℕ

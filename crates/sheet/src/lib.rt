@@ -7,14 +7,16 @@ ghost use Rattle.protocol.specs.Lists.{bit};
 ghost use Rattle.protocol.specs.Calls.{no, start};
 ghost use Rattle.format.specs.Sheets.{screen, text, fitted, screened};
 ghost use mathlib.Core.Bool.{cond};
-ghost use Rattle.state.specs.Meets.{answerOf};
-ghost use Rattle.state.specs.View.{view};
 ghost use Rattle.sheet.specs.Runs.{handedBack};
 ghost use Rattle.sheet.specs.Entries.{loadEntry, saveEntry, saveOnEntry};
-ghost use Rattle.sheet.specs.Served.{begunAs, entryNumber, longAs, served};
+ghost use Rattle.heads.specs.Numbers.{headFrom};
+ghost use Rattle.sheet.specs.Served.{BegunFrom, entryNumber, longAs, served};
 ghost use Rattle.sheet.specs.Pieces.{Pieced};
+use heads::Numbers;
+use protocol::limit;
+use rules::Table;
+use run::Way;
 use state::Answer;
-use state::Answered;
 use state::State;
 
 // The most bytes that a sheet has.
@@ -60,16 +62,21 @@ fn refuse_sheet(area: &mut [u8]) -> u64
 
 // ---- the entries
 
-// The plan that an entry begins on, the blank one or that of a file, and what loading answered.
-fn begun(loads: bool, file: &[u8]) -> Answered
-    ensures { λ r. ⌜ (answerOf (r .answer) ≡ begunAs loads (now (file .entry)) .answer) × (view (r .state) ≡ begunAs loads (now (file .entry)) .plan) ⌝ }
+// Loads the file into what is lent of a plan, if there is one, and gives the refusal, or 0.
+fn begin(
+    loads: bool,
+    file: &[u8],
+    head: &mut Numbers,
+    values: &mut [i32; limit::VALUES],
+    table: &mut Table,
+) -> u32
+    ensures { λ r. ⌜ BegunFrom loads (now (file .entry)) r (headFrom (now (head .entry))) (now (values .entry)) (now (table .entry)) (headFrom (now (head .exit)))
+        (now (values .exit)) (now (table .exit)) ⌝ }
 {
-    let p = state::blank();
     if loads {
-        return load::load(p, file);
+        return load::load_in(file, head, values, table);
     }
-    let answer = Answer::Given(0, 0, 0, 0);
-    Answered { state: p, answer }
+    0
 }
 
 // The number of an entry, from what loading or saving answered.
@@ -114,22 +121,48 @@ fn room_for(saves: bool, len: usize) -> usize
 }
 
 // All entries: on a blank plan or that of a file, a sheet is run and answered, or its answers are dropped and the plan that it leaves is saved. One function for
-// all, so that the run is compiled into it, and no plan is copied on the way.
+// all owns the plan, and lends it to the loading, the run and the saving: they are compiled into it, and nothing is copied on the way. Of a blank plan and of a
+// loaded one it is known that every rule holds.
 fn serve(loads: bool, saves: bool, file: &[u8], sheet: &[u8], area: &mut [u8]) -> u64
     ensures { λ r. ⌜ handedBack r (now (area .exit)) ≡ served loads saves (now (file .entry)) (now (sheet .entry)) (now (area .entry)) ⌝ }
 {
-    let b = begun(loads, file);
-    let answer = b.answer;
-    if !state::accepted(answer) {
-        return entry_number(answer);
+    let p = state::blank();
+    let mut head = heads::numbers(p.head);
+    let mut base = p.base;
+    let mut draft = p.draft;
+    let mut values = p.values;
+    let mut arrived = p.arrived;
+    let mut confirmed = p.confirmed;
+    let mut table = p.table;
+    let edits = p.edits;
+    let refusal = begin(loads, file, &mut head, &mut values, &mut table);
+    if refusal != 0 {
+        return refusal as u64;
     }
     if LIMIT < sheet.len() {
         return refuse_long(loads, saves, area);
     }
     let room = room_for(saves, area.len());
-    let r = run::advance(b.state, saves, 0, sheet, 0, &mut area[..room]);
+    let r = run::advance(
+        heads::from_numbers(&head),
+        &mut base,
+        &mut draft,
+        &mut values,
+        &mut arrived,
+        &mut confirmed,
+        &mut table,
+        edits,
+        Way {
+            from: 0,
+            reserve: 0,
+            on: saves,
+            sound: true,
+        },
+        sheet,
+        &mut area[..room],
+    );
     if saves {
-        return entry_number(save::save(r.state, area));
+        return entry_number(save::save_in(r.head, &values, &table, area));
     }
     scaled(loads, handed(r.written, r.ended))
 }
@@ -199,8 +232,35 @@ pub fn next_piece(p: State, sheet: &[u8], from: usize, area: &mut [u8]) -> Piece
     if LIMIT < sheet.len() {
         return refuse_piece(p, sheet, from, area);
     }
-    let r = run::advance(p, false, RESERVE, sheet, from, area);
-    let state = r.state;
+    let mut base = p.base;
+    let mut draft = p.draft;
+    let mut values = p.values;
+    let mut arrived = p.arrived;
+    let mut confirmed = p.confirmed;
+    let mut table = p.table;
+    let edits = p.edits;
+    let sound = run::is_sound(p.head, &table, &values);
+    let r = run::advance(
+        p.head,
+        &mut base,
+        &mut draft,
+        &mut values,
+        &mut arrived,
+        &mut confirmed,
+        &mut table,
+        edits,
+        Way {
+            from,
+            reserve: RESERVE,
+            on: false,
+            sound,
+        },
+        sheet,
+        area,
+    );
+    let head = r.head;
+    let after = r.edits;
+    let state = state::of(head, base, draft, values, arrived, confirmed, table, after);
     Piece {
         state,
         next: r.next,
