@@ -3,3 +3,4 @@ pub mod Inverse
 pub mod Texts
 pub mod Refusals
 pub mod Longest
+pub mod Fronts

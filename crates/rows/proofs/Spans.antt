@@ -9,7 +9,7 @@ use borrow.Author.Tests.{ltb-true, ltb-false}
 use lib.Dec.{ltb}
 use lib.ListN.{length, getD, set, replicate}
 use Rattle.protocol.specs.Lists.{bit, count, all, any, snoc, nth, modify}
-use Rattle.protocol.proofs.Laws.{cases}
+use Rattle.protocol.proofs.Laws.{cases, bit-most}
 use Rattle.rows.specs.Rows.{span}
 
 module _ {A : Type 0} where
@@ -117,10 +117,6 @@ all-to p f n i j w a b e =
     let z : i + (j - i) ≡ j = omega arith in
     subst (Walked (all p) f n) z (all-skip p f n i (j - i) w (omega arith) (λ k c d. e k c (omega arith)))
 
-pub bit-one : (b : Bool) → bit b ≤ 1
-bit-one true = omega arith
-bit-one false = omega arith
-
 -- k of the first i pass, and the rest are still to be counted
 pub record Counted {A : Type 0} (p : A → Bool) (f : ℕ → A) (n i k : ℕ) : Type 0 where
   pub most : k ≤ i
@@ -133,7 +129,7 @@ module _ {A : Type 0} (p : A → Bool) (f : ℕ → A) (n : ℕ) where
   pub count-next : (i k b : ℕ) → Counted p f n i k → i < n → b ≡ bit (p (f i)) → Counted p f n (i + 1) (k + b)
   count-next i k b c h e =
       let r = ap (count p) (span-next i n f h) in
-      let o = bit-one (p (f i)) in
+      let o = bit-most (p (f i)) in
       record { most = omega (arith, c .most); rest = omega (arith, c .rest) }
 
   pub count-over : (i k : ℕ) → Counted p f n i k → n ≤ i → k ≡ count p (span 0 n f)

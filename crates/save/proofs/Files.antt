@@ -7,13 +7,14 @@ use mathlib.Core.List.{List, [], _∷_, _++_, append-assoc}
 use borrow.Author.Tests.{le-leb, lt-leb}
 use lib.IntN.{ℤ, pos}
 use lib.ListN.{length, take, drop, length-append}
-use lib.Seq.{sets, sets-eq, take-at, drop-at, take-all}
+use lib.Seq.{sets, take-at, drop-at, take-all}
 use Rattle.protocol.specs.Plan.{Rule, whole, is}
 use Rattle.protocol.specs.Calls.{ok}
 use Rattle.file.specs.Bytes.{total, balancing}
 use Rattle.file.specs.Saved.{measureSlot, ruleSlot, slotsFrom, chains, heading, checkWord, fileOf, saved, saveChecks, save, saveInto}
 use Rattle.file.proofs.Sums.{length-slots, measure-16, rule-16, heading-16, file-length}
 use Rattle.format.specs.Sheets.{inFront}
+use Rattle.format.proofs.Fronts.{sets-front}
 use Rattle.heads.specs.Heads.{modeOf, measuresIn}
 use Rattle.rows.specs.Rows.{row}
 use Rattle.rows.proofs.Spans.{length-span}
@@ -27,9 +28,6 @@ use Rattle.save.specs.Parts.{headOf, ruleAt, rulesOf, MeetsSave}
 use Rattle.save.proofs.Slots.{start-link}
 
 -- ---- the front of an area
-
-sets-front : (area xs : List ℕ) → length xs ≤ length area → sets area 0 xs ≡ inFront xs area
-sets-front area xs h = let e : 0 + length xs ≡ length xs = omega arith in sets-eq xs area 0 (omega arith) ∙ ap (λ n. xs ++ drop n area) e
 
 -- a part of it written anew
 front-anew : (area old new rest : List ℕ) → length new ≡ length old → length (old ++ rest) ≤ length area → sets (inFront (old ++ rest) area) 0 new ≡ inFront (new ++ rest) area

@@ -16,7 +16,7 @@ use Rattle.format.specs.Lines.{lines}
 use Rattle.format.specs.Numbers.{digits}
 use Rattle.format.specs.Sheets.{text, lineStep, answerLines, replies, Fitted, behind, fitted, inFront, Screened, screened, screen}
 use Rattle.run.specs.Progress.{Ran, ran, Advanced}
-use Rattle.writer.proofs.Writes.{sets-front}
+use Rattle.format.proofs.Fronts.{sets-front}
 use Rattle.sheet.specs.Runs.{handedBack}
 
 abbrev wholeOf : Ran → Fitted

@@ -20,7 +20,8 @@ use Rattle.state.specs.declared.Answer.{Answer}
 use Rattle.state.specs.declared.Answer.the-variants.{Refused, Given}
 use Rattle.state.specs.Meets.{firstOf}
 use Rattle.writer.specs.Writes.{lineOf, putIn, putLength, numbersOf, toldOf, headOf, ended, partsOf}
-use Rattle.writer.proofs.Writes.{sets-append, sets-back, sets-front}
+use Rattle.format.proofs.Fronts.{sets-front}
+use Rattle.writer.proofs.Writes.{sets-append, sets-back}
 
 -- ---- the numbers given
 

@@ -1,15 +1,14 @@
 -- Laws of bytes put at a place, one store after the other. Assumes nothing.
 use Prim.Native.Nat.{ℕ, suc, _+_, _-_, _/_, _%_, _<_, _≤_}
 use native.Mathlib.Omega.{arith}
-use native.Mathlib.Nat.{zero-add}
 use mathlib.Core.Path.{_≡_, refl, sym, ap, ap₂, _∙_}
 use mathlib.Core.List.{List, [], _∷_, _++_}
 use native.Mathlib.Numerals.{add-one}
 use lib.IntN.{ℤ, pos}
 use lib.ListN.{length, getD, set, drop, length-set}
-use lib.Seq.{sets, sets-eq, set-comm, length-sets}
+use lib.Seq.{sets, set-comm, length-sets}
 use Rattle.format.specs.Numbers.{digits, written}
-use Rattle.format.specs.Sheets.{spaced, inFront}
+use Rattle.format.specs.Sheets.{spaced}
 use Rattle.format.specs.Lines.{space}
 use Rattle.format.proofs.Digits.{digits-one, digits-more, length-one, length-more, length-some}
 use Rattle.writer.proofs.Widths.{rest, rest-length, rest-none}
@@ -34,9 +33,6 @@ module _ {A : Type 0} where
   -- the last bytes first
   pub sets-back : (l : List A) (i : ℕ) (xs : List A) (j : ℕ) (ys : List A) → j ≡ i + length xs → sets (sets l j ys) i xs ≡ sets l i (xs ++ ys)
   sets-back l i xs j ys e = sets-swap l i xs j ys (omega arith) ∙ ap (λ k. sets (sets l i xs) k ys) e ∙ sym (sets-append l i xs ys)
-
-pub sets-front : (area line : List ℕ) → length line ≤ length area → sets area 0 line ≡ inFront line area
-sets-front area line h = let e = zero-add (length line) in sets-eq line area 0 (omega arith) ∙ ap (λ k. line ++ drop k area) e
 
 -- ---- digits, from the last to the first
 

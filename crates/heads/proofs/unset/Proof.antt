@@ -5,7 +5,7 @@ use Prim.Native.Nat.{_≤_, _-_}
 use mathlib.Core.Bool.{false, not}
 use mathlib.Core.Path.{_≡_, refl, ap, _∙_}
 use lib.ListN.{getD}
-use Rattle.rows.proofs.Spans.{bit-one}
+use Rattle.protocol.proofs.Laws.{bit-most}
 use Rattle.heads.specs.Heads.{unsetIn}
 use Rattle.heads.proofs.unset.Statement.{statement}
 use Rattle.heads.proofs.unset.Tie as tie
@@ -34,7 +34,7 @@ bit-unless-requires c κs = search needs
 
 add-k : tie.Need-add-k Inv-loop μ-loop
 add-k c =
-    let o = bit-one (not (getD ((c .before .before .before .before .before .args .flags .now)) ((c .before .before .before .loop .i)) false)) in
+    let o = bit-most (not (getD ((c .before .before .before .before .before .args .flags .now)) ((c .before .before .before .loop .i)) false)) in
     let e = (c .bit-unless .ensures) in
     omega (arith, (c .before .before .before .loop .inv .0), (c .before .before .before .loop .inv .1), (c .before .before .before .loop .inv .2))
 
@@ -48,7 +48,7 @@ loop-again : tie.Need-loop-again Inv-loop μ-loop
 loop-again c =
     let i = (c .before .before .before .loop .i) in
     let fs = (c .before .before .before .before .before .args .flags .now) in
-    let o = bit-one (not (getD fs i false)) in
+    let o = bit-most (not (getD fs i false)) in
     let e = (c .bit-unless .ensures) in (
       omega arith,
       (c .before .before .before .loop .inv .1),

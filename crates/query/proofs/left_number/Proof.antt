@@ -3,7 +3,7 @@ use Prim.Native.Nat.{_+_, _≤_}
 use mathlib.Core.Path.{sym, _∙_}
 use borrow.Author.Tests.{not-true, not-false}
 use Rattle.protocol.specs.Plan.{is, joining}
-use Rattle.rows.proofs.Spans.{bit-one}
+use Rattle.protocol.proofs.Laws.{bit-most}
 use Rattle.heads.specs.Heads.{modeOf}
 use borrow.Author.Needs.{needs}
 use Rattle.query.proofs.left_number.Statement.{statement}
@@ -24,7 +24,7 @@ parts c =
       c .before .before .capped .ensures,
       c .before .unset .ensures .1,
       c .joining-bit .ensures,
-      bit-one
+      bit-most
           (is joining (modeOf (c .before .before .before .before .before .before .args .h .mode))),
     )
 

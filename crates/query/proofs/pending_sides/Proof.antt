@@ -7,7 +7,7 @@ use mathlib.Core.Path.{_≡_, refl, sym, ap, _∙_}
 use lib.Dec.{ltb}
 use lib.ListN.{getD}
 use Rattle.protocol.specs.Lists.{bit}
-use Rattle.rows.proofs.Spans.{bit-one}
+use Rattle.protocol.proofs.Laws.{bit-most}
 use Rattle.query.specs.Reads.{pendingIn}
 use Rattle.heads.proofs.Flags.{count-to-next, index-suc}
 use Rattle.query.proofs.pending_sides.Statement.{statement}
@@ -28,7 +28,7 @@ side-bit : (c : tie.After-pending-bit Inv-loop μ-loop) → c .pending-bit .resu
 side-bit c =
     let a = c .before .before .before .before .before .before .args in
     let i = c .before .before .before .before .loop .i in
-    omega (arith, bit-one (not (getD (a .arrived .now) i false) || ltb 0 (getD (a .t .now) i 0)), c .pending-bit .ensures)
+    omega (arith, bit-most (not (getD (a .arrived .now) i false) || ltb 0 (getD (a .t .now) i 0)), c .pending-bit .ensures)
 
 side-count-requires : tie.Need-side-count-requires Inv-loop μ-loop
 side-count-requires c κs = search needs

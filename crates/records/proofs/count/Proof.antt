@@ -1,6 +1,6 @@
 use Rattle.rows.specs.Rows.{span}
 use Rattle.records.proofs.Records.{any-number}
-use Rattle.rows.proofs.Spans.{bit-one}
+use Rattle.protocol.proofs.Laws.{bit-most}
 use Rattle.rows.proofs.Spans.{count-span}
 use borrow.Author.Needs.{needs}
 use native.Mathlib.Omega.{arith}
@@ -41,7 +41,7 @@ satisfies-requires c κs = search needs
 
 add-n : tie.Need-add-n Inv-loop μ-loop
 add-n c =
-    let o = bit-one (testOf ((c .before .before .before .before .before .args .t))
+    let o = bit-most (testOf ((c .before .before .before .before .before .args .t))
     (keptAt 0 (getD ((c .before .before .before .before .before .args .t1)) ((c .before .before .before .loop .i)) noRecord))) in
     let e = (c .satisfies .ensures) in
     omega (arith, (c .before .before .before .loop .inv .0), (c .before .before .before .loop .inv .1 .most))
