@@ -1,10 +1,20 @@
 //! Keeps the specification's book beside a list of calls, from the calls and the library's answers alone, and holds the
-//! claim about whole lists against those answers.
+//! claim about whole lists against those answers. A list begins on a blank plan or on a loaded one (02, S-1: "Demand 3 covers
+//! loaded plans too").
 
 use crate::call::{Call, Name};
+use crate::compare::{answers_of_library, answers_of_separate};
+use crate::files::{self, Drawing};
 use crate::generate::{Generator, Style};
 use crate::random::Random;
-use separate::{Mode, SHEET_LIMIT};
+use separate::{Mode, Plan, SHEET_LIMIT};
+
+/// The last number of an edit (01, refusal 30).
+const LAST_NUMBER: i32 = 999_999;
+
+/// Most bytes of a call's line with `left` and `show 1` behind it, and of a line that asks for a fate.
+const LONGEST_CALL: usize = 100;
+const LONGEST_FATE: usize = 12;
 
 struct Edit {
     number: i32,
@@ -30,6 +40,8 @@ struct Book {
     values: Vec<i32>,
     rules: Vec<[i32; 4]>,
     sides: usize,
+    /// The next edit's number: 1 after open, the file's after a load.
+    next: i32,
     edits: Vec<Edit>,
     /// Indices of edits in the order of settling.
     settlings: Vec<usize>,
@@ -44,11 +56,27 @@ impl Book {
             values: Vec::new(),
             rules: Vec::new(),
             sides: 0,
+            next: 1,
             edits: Vec::new(),
             settlings: Vec::new(),
             last: [Last::None; 9],
             confirmed: [false; 9],
         }
+    }
+
+    /// The book just after a load, which is entered as the calls that draw the file (01, "A call that does the work of several"). The
+    /// next number is the file's (02, S-1).
+    fn loaded(drawing: &Drawing) -> Result<Book, String> {
+        let mut book = Book::new();
+        for (number, &value) in (1..).zip(&drawing.values) {
+            book.enter(&Call::new(Name::Measure, &[value]), number)?;
+        }
+        for (number, rule) in (1..).zip(&drawing.rules) {
+            book.enter(&Call::new(Name::Rule, &[rule.a.into(), rule.c, rule.b.into(), rule.firm.into()]), number)?;
+        }
+        book.enter(&Call::new(Name::Open, &[]), 0)?;
+        book.next = drawing.next_number as i32;
+        Ok(book)
     }
 
     fn settling(&self) -> bool {
@@ -101,6 +129,11 @@ impl Book {
                 }
             }
             Name::Edit => {
+                // 01, "edit": it gives the next number, and numbers rise by one with each.
+                if given != self.next || given > LAST_NUMBER {
+                    return Err(format!("the edit gets number {given}, the book's next is {}", self.next));
+                }
+                self.next += 1;
                 let measure = d as usize - 1;
                 if self.mode == Mode::Whole {
                     self.change(measure, e, f);
@@ -109,9 +142,6 @@ impl Book {
                     if self.mode == Mode::Joining {
                         moved = 1 + late as i32;
                         self.last[side] = Last::Edit;
-                    }
-                    if self.edits.iter().any(|edit| edit.number == given) {
-                        return Err(format!("edit number {given} is given twice"));
                     }
                     self.edits.push(Edit {
                         number: given,
@@ -198,73 +228,121 @@ enum Line {
     Fate(usize),
 }
 
+/// Of the lists that begin on a blank plan, or of those on a loaded one.
 #[derive(Default)]
 pub struct Tally {
     pub lists: u64,
     pub moves: u64,
     pub installs: u64,
     pub late: u64,
+    pub revoked: u64,
     pub prefixes: u64,
+    /// Edits refused as 30.
+    pub used_up: u64,
 }
 
-/// One random list of calls, probed after every line. On a failure gives the sheet too.
-pub fn check(random: &mut Random, tally: &mut Tally) -> Result<(), (Vec<u8>, String)> {
+/// A list of calls, each with what is asked behind it.
+pub struct List {
+    /// The file of the plan that it begins on. None for a blank plan.
+    pub file: Option<Box<[u8]>>,
+    pub sheet: Vec<u8>,
+    lines: Vec<Line>,
+}
+
+/// One random list of calls, probed after every line. On a failure gives the list too.
+pub fn check(random: &mut Random, loaded: bool, tally: &mut Tally) -> Result<(), (List, String)> {
+    let mut plan = Plan::new();
+    let (file, book) = if loaded {
+        let (file, drawing) = stored(random);
+        let book = match plan.load(&file) {
+            Ok(()) => Book::loaded(&drawing),
+            Err(refusal) => Err(format!("the separate program refuses the file as {}", refusal as u64)),
+        };
+        (Some(file), book)
+    } else {
+        (None, Ok(Book::new()))
+    };
+    let list = list(random, file, plan);
+    match book.and_then(|book| walk(&list, book, random, tally)) {
+        Ok(()) => Ok(()),
+        Err(what) => Err((list, what)),
+    }
+}
+
+/// A file that loads, and what it says. In half of them the numbers are nearly used up, so that 30 is met.
+fn stored(random: &mut Random) -> (Box<[u8]>, Drawing) {
+    loop {
+        let mut drawing = files::drawing(random);
+        if random.chance(500) {
+            let most = random.pick(&[10, 100, 300]);
+            drawing.next_number = LAST_NUMBER as u32 + 1 - random.below(most) as u32;
+        }
+        if drawing.loads() {
+            let file = drawing.file();
+            let file = if random.chance(500) { file.shuffled(random) } else { file };
+            return (file.bytes(), drawing);
+        }
+    }
+}
+
+/// A random list on the plan, which is the file's or blank.
+fn list(random: &mut Random, file: Option<Box<[u8]>>, plan: Plan) -> List {
     let mut style = Style::random(random);
     style.kept = style.kept.min(100);
     let length = random.pick(&[50, 200, 800]);
     let mut sheet = Vec::new();
     let mut lines = Vec::new();
-    let mut generator = Generator::new(random, style);
+    let mut generator = Generator::on(plan, random, style);
+    ask(&generator.plan, &mut sheet, &mut lines);
     for _ in 0..length {
         let Some(call) = generator.next() else { break };
-        let (_, kept) = generator.plan.kept();
-        if sheet.len() + 40 + 12 * kept as usize > SHEET_LIMIT {
+        let (first, kept) = generator.plan.kept();
+        if sheet.len() + LONGEST_CALL + LONGEST_FATE * kept as usize > SHEET_LIMIT {
             break;
         }
         call.write(&mut sheet);
         lines.push(Line::Move(call));
-        sheet.extend_from_slice(b"left\n");
-        lines.push(Line::Left);
-        if generator.plan.mode() == Mode::Whole {
-            sheet.extend_from_slice(b"show 1\n");
-            lines.push(Line::Whole);
-            if call.name == Name::Install {
-                let (first, count) = generator.plan.kept();
-                for i in 0..count {
-                    Call::new(Name::Fate, &[first + i]).write(&mut sheet);
-                    lines.push(Line::Fate(i as usize));
-                }
+        ask(&generator.plan, &mut sheet, &mut lines);
+        if generator.plan.mode() == Mode::Whole && call.name == Name::Install {
+            for i in 0..kept {
+                Call::new(Name::Fate, &[first + i]).write(&mut sheet);
+                lines.push(Line::Fate(i as usize));
             }
         }
     }
-    match walk(&sheet, &lines, random, tally) {
-        Ok(()) => Ok(()),
-        Err(what) => Err((sheet, what)),
+    List { file, sheet, lines }
+}
+
+fn ask(plan: &Plan, sheet: &mut Vec<u8>, lines: &mut Vec<Line>) {
+    sheet.extend_from_slice(b"left\n");
+    lines.push(Line::Left);
+    if plan.mode() == Mode::Whole {
+        sheet.extend_from_slice(b"show 1\n");
+        lines.push(Line::Whole);
     }
 }
 
-/// The library's whole output for a sheet.
-fn library_answers(sheet: &[u8]) -> String {
-    // No answer to a line of this length is longer.
-    let mut area = vec![0; 50 * sheet.len() + 300];
-    let given = library::screen_run(sheet, &mut area);
-    area.truncate(given as usize / 2);
-    String::from_utf8_lossy(&area).into_owned()
+/// The library's whole output for a sheet, on the plan that the list begins on.
+fn library_answers(list: &List, sheet: &[u8]) -> Result<String, String> {
+    match answers_of_library(list.file.as_deref(), sheet) {
+        Ok(answers) => Ok(String::from_utf8_lossy(&answers).into_owned()),
+        Err(refusal) => Err(format!("the library refuses the file as {refusal}")),
+    }
 }
 
-fn walk(sheet: &[u8], lines: &[Line], random: &mut Random, tally: &mut Tally) -> Result<(), String> {
-    let answers = library_answers(sheet);
-    let answers: Vec<&str> = answers.lines().collect();
-    if answers.len() != lines.len() {
-        return Err(format!("{} answers to {} lines", answers.len(), lines.len()));
+/// Holds the claim against the answers. The book is the one at the list's beginning.
+fn walk(list: &List, mut book: Book, random: &mut Random, tally: &mut Tally) -> Result<(), String> {
+    let all = library_answers(list, &list.sheet)?;
+    let answers: Vec<&str> = all.lines().collect();
+    if answers.len() != list.lines.len() {
+        return Err(format!("{} answers to {} lines", answers.len(), list.lines.len()));
     }
-    let texts: Vec<&[u8]> = sheet.split_inclusive(|&b| b == b'\n').collect();
-    let mut book = Book::new();
+    let texts: Vec<&[u8]> = list.sheet.split_inclusive(|&b| b == b'\n').collect();
     let mut left = 0;
     let mut moved = 0;
     let mut fates_due = 0;
     tally.lists += 1;
-    for (at, (line, answer)) in lines.iter().zip(&answers).enumerate() {
+    for (at, (line, answer)) in list.lines.iter().zip(&answers).enumerate() {
         let mut words = answer.split(' ');
         let accepted = words.next() == Some("ok");
         let numbers: Vec<i32> = words.filter_map(|word| word.parse().ok()).collect();
@@ -282,14 +360,22 @@ fn walk(sheet: &[u8], lines: &[Line], random: &mut Random, tally: &mut Tally) ->
                         Err(what) => return fail(what),
                     };
                     tally.late += (moved == 2 && call.name == Name::Edit) as u64;
+                    tally.revoked += (call.name == Name::Replay && numbers == [4]) as u64;
                     if call.name == Name::Install {
                         tally.installs += 1;
                         fates_due = book.edits.len();
                     }
+                } else if numbers == [30] {
+                    tally.used_up += 1;
+                    if book.next <= LAST_NUMBER {
+                        return fail(format!("refused as 30, the book's next number is {}", book.next));
+                    }
                 }
             }
             Line::Left => {
-                let now = numbers[0];
+                let Some(&now) = numbers.first() else {
+                    return fail(format!("left gives {answer}"));
+                };
                 if now != book.left() {
                     return fail(format!("{now} left, the book has {}", book.left()));
                 }
@@ -299,7 +385,7 @@ fn walk(sheet: &[u8], lines: &[Line], random: &mut Random, tally: &mut Tally) ->
                 left = now;
                 if book.settling() && random.chance(15) {
                     tally.prefixes += 1;
-                    if !closing_move(&texts[..=at], &book) {
+                    if !closing_move(list, &texts[..=at], &book)? {
                         return fail("no closing move is accepted here".into());
                     }
                 }
@@ -324,12 +410,15 @@ fn walk(sheet: &[u8], lines: &[Line], random: &mut Random, tally: &mut Tally) ->
     if fates_due > 0 {
         return Err("the fates after the install were not all asked for".into());
     }
-    Ok(())
+    match answers_of_separate(list.file.as_deref(), &list.sheet) {
+        Ok(others) if others == all.as_bytes() => Ok(()),
+        _ => Err("the separate program answers otherwise".into()),
+    }
 }
 
 /// Whether some send, replay, stop, confirm or install is accepted after the lines. Refused ones change nothing, so all are
 /// tried in one sheet.
-fn closing_move(lines: &[&[u8]], book: &Book) -> bool {
+fn closing_move(list: &List, lines: &[&[u8]], book: &Book) -> Result<bool, String> {
     let mut sheet = lines.concat();
     let mut tries = 2;
     for s in 1..=book.sides as i32 {
@@ -344,9 +433,9 @@ fn closing_move(lines: &[&[u8]], book: &Book) -> bool {
     Call::new(Name::Stop, &[]).write(&mut sheet);
     Call::new(Name::Install, &[]).write(&mut sheet);
     if sheet.len() > SHEET_LIMIT {
-        return true;
+        return Ok(true);
     }
-    let answers = library_answers(&sheet);
+    let answers = library_answers(list, &sheet)?;
     let answers: Vec<&str> = answers.lines().collect();
-    answers.len() == lines.len() + tries && answers[lines.len()..].iter().any(|answer| answer.starts_with("ok"))
+    Ok(answers.len() == lines.len() + tries && answers[lines.len()..].iter().any(|answer| answer.starts_with("ok")))
 }

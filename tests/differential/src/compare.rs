@@ -2,6 +2,7 @@
 
 use crate::call::NAMES;
 use crate::random::Random;
+use crate::watched;
 use std::time::{Duration, Instant};
 
 const GUARD: usize = 64;
@@ -63,7 +64,7 @@ impl Areas {
         self.theirs.clear();
         self.theirs.extend_from_slice(&self.ours);
         let ours = separate::screen_run(sheet, &mut self.ours[GUARD..GUARD + length]);
-        let theirs = library::screen_run(sheet, &mut self.theirs[GUARD..GUARD + length]);
+        let theirs = watched::screen_run(sheet, &mut self.theirs[GUARD..GUARD + length]);
         if self.ours != self.theirs {
             let at = (0..size).find(|&i| self.ours[i] != self.theirs[i]).unwrap_or(0);
             return Err(format!("byte {} of an area of {length} differs", at as i64 - GUARD as i64));
@@ -112,6 +113,33 @@ impl Areas {
             6 => end + 1,
             _ => end,
         }
+    }
+}
+
+/// All answers of the library to a sheet, on a blank plan or on that of a file, or the refusal of the file.
+pub fn answers_of_library(file: Option<&[u8]>, sheet: &[u8]) -> Result<Vec<u8>, u64> {
+    answers(sheet, |area| match file {
+        None => 256 * watched::screen_run(sheet, area),
+        Some(file) => watched::screen_load(file, sheet, area),
+    })
+}
+
+/// The same of the separate program.
+pub fn answers_of_separate(file: Option<&[u8]>, sheet: &[u8]) -> Result<Vec<u8>, u64> {
+    answers(sheet, |area| match file {
+        None => 256 * separate::screen_run(sheet, area),
+        Some(file) => separate::screen_load(file, sheet, area),
+    })
+}
+
+fn answers(sheet: &[u8], run: impl FnOnce(&mut [u8]) -> u64) -> Result<Vec<u8>, u64> {
+    // No answer to a line of this length is longer.
+    let mut area = vec![0; 50 * sheet.len() + 300];
+    let given = run(&mut area);
+    area.truncate(given as usize / 512);
+    match given % 256 {
+        0 => Ok(area),
+        refusal => Err(refusal),
     }
 }
 

@@ -1,9 +1,11 @@
 //! Runs the counter program on a sheet through pipes and compares its whole output.
 
 use crate::random::Random;
-use std::io::Write;
+use crate::watched::LIMIT;
+use std::io::{Read, Write};
 use std::process::{Command, Stdio};
 use std::thread;
+use std::time::{Duration, Instant};
 
 /// The sheet goes in by pieces of random length, so that a read can come back short.
 pub fn check(program: &str, random: &mut Random, sheet: &[u8]) -> Result<(), String> {
@@ -29,15 +31,32 @@ pub fn check(program: &str, random: &mut Random, sheet: &[u8]) -> Result<(), Str
             rest = &rest[length..];
         }
     });
-    let output = child.wait_with_output().map_err(|error| error.to_string())?;
+    let mut output = child.stdout.take().ok_or("no standard output")?;
+    let reader = thread::spawn(move || {
+        let mut bytes = Vec::new();
+        output.read_to_end(&mut bytes).map(|_| bytes)
+    });
+    let start = Instant::now();
+    let status = loop {
+        if let Some(status) = child.try_wait().map_err(|error| error.to_string())? {
+            break status;
+        }
+        if start.elapsed() > LIMIT {
+            // Not left behind by the test.
+            child.kill().and_then(|()| child.wait()).map_err(|error| error.to_string())?;
+            return Err(format!("the counter program has not ended in {} seconds", LIMIT.as_secs()));
+        }
+        thread::sleep(Duration::from_micros(200));
+    };
     writer.join().map_err(|_| "the writer failed")?;
+    let output = reader.join().map_err(|_| "the reader failed")?.map_err(|error| error.to_string())?;
     let expected = separate::answers(sheet);
-    if output.stdout != expected {
-        let at = output.stdout.iter().zip(&expected).take_while(|(a, b)| a == b).count();
-        return Err(format!("{} bytes from the counter program, {} expected; byte {at} differs", output.stdout.len(), expected.len()));
+    if output != expected {
+        let at = output.iter().zip(&expected).take_while(|(a, b)| a == b).count();
+        return Err(format!("{} bytes from the counter program, {} expected; byte {at} differs", output.len(), expected.len()));
     }
-    if !output.status.success() {
-        return Err(format!("the counter program ends with {}", output.status));
+    if !status.success() {
+        return Err(format!("the counter program ends with {status}"));
     }
     Ok(())
 }

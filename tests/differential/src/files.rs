@@ -165,8 +165,34 @@ impl File {
     }
 }
 
+/// What the file of a plan says.
+pub struct Drawing {
+    pub next_number: u32,
+    pub values: Vec<i32>,
+    pub rules: Vec<Rule>,
+}
+
+impl Drawing {
+    pub fn file(&self) -> File {
+        File::new(self.next_number, &self.values, &self.rules)
+    }
+
+    /// Whether its file loads (02, S-1), given that the rules are in range: 46 by the next number, 12, 13, 16 and 17.
+    pub fn loads(&self) -> bool {
+        let value = |m: u16| self.values[m as usize - 1];
+        (1..=1_000_000).contains(&self.next_number)
+            && (1..=32).contains(&self.values.len())
+            && self.rules.len() <= 64
+            && self.rules.iter().all(|rule| value(rule.a) + rule.c < value(rule.b))
+    }
+}
+
 /// A plan's file, as a rule one that loads.
 pub fn drawn(random: &mut Random) -> File {
+    drawing(random).file()
+}
+
+pub fn drawing(random: &mut Random) -> Drawing {
     let most = random.pick(&[1, 2, 4, 8, 32, 32, 33, 35]);
     let measures = if most < 32 { 1 + random.below(most) } else { most };
     let spread = random.pick(&[0, 5, 1000, 1_000_000]);
@@ -175,7 +201,8 @@ pub fn drawn(random: &mut Random) -> File {
     let firm = random.pick(&[0, 200, 1000]);
     let slack = random.pick(&[0, 3, 1000]);
     let rules: Vec<Rule> = (0..most).map(|_| rule(random, &values, firm, slack)).collect();
-    File::new(if random.chance(700) { 1 + random.below(1000) as u32 } else { random.pick(&ODD_NUMBERS) }, &values, &rules)
+    let next_number = if random.chance(700) { 1 + random.below(1000) as u32 } else { random.pick(&ODD_NUMBERS) };
+    Drawing { next_number, values, rules }
 }
 
 /// A rule that holds of the values.

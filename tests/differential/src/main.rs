@@ -1,5 +1,5 @@
 //! Compares the library with the separate program on random sheets and on files of saved plans, and holds the claim about whole
-//! lists of calls against the library's answers.
+//! lists of calls against the library's answers, on blank plans and loaded ones. A call that does not come back is a failure.
 //!
 //! differential [SEED [LINES [LISTS [FILES]]]]
 //!
@@ -14,14 +14,16 @@ mod generate;
 mod random;
 mod saved;
 mod sheets;
+mod watched;
 
+use book::Tally;
 use call::NAMES;
-use compare::{shrink, Areas, Counts};
+use compare::{answers_of_library, answers_of_separate, shrink, Areas, Counts};
 use random::Random;
 use saved::{Check, Difference, ENTRIES};
 use std::process::ExitCode;
 
-/// Refusals that a sheet can meet. 30 needs more lines than a sheet has; 41 never is an answer line.
+/// Refusals that a sheet can meet on a blank plan. 30 needs more lines than a sheet has; 41 never is an answer line.
 const REFUSALS: [usize; 28] = [
     11, 12, 13, 14, 15, 16, 17, 21, 22, 23, 24, 25, 26, 27, 28, 29, 31, 32, 33, 34, 35, 36, 37, 38, 39, 40, 51, 52,
 ];
@@ -29,7 +31,12 @@ const REFUSALS: [usize; 28] = [
 /// Shorter runs, as to repeat a failure, need not meet every refusal.
 const LINES_TO_MEET_ALL: u64 = 500_000;
 
+const LISTS_TO_MEET_ALL: u64 = 500;
+
 const FILES_TO_MEET_ALL: u64 = 2_000;
+
+/// One list with a book of so many begins on a loaded plan, the first among them.
+const LISTS_TO_A_LOADED: u64 = 4;
 
 const FAILURES_SHOWN: usize = 5;
 
@@ -55,6 +62,7 @@ fn main() -> ExitCode {
         return ExitCode::from(2);
     };
     println!("seed {seed}, {lines} lines, {lists} lists, {files} files");
+    watched::begin(seed);
     let mut passed = 0u64;
     let mut failed = 0u64;
 
@@ -62,6 +70,7 @@ fn main() -> ExitCode {
     let mut areas = Areas::new();
     let mut index = 0;
     while counts.lines < lines && failed < FAILURES_SHOWN as u64 {
+        watched::case(&format!("sheet {index}"));
         let mut random = Random::item(seed, index);
         // A block of exactly its length, so that a memory checker sees a read behind the end.
         let sheet = sheets::sheet(&mut random).into_boxed_slice();
@@ -70,7 +79,7 @@ fn main() -> ExitCode {
             Err((length, what)) => {
                 failed += 1;
                 println!("sheet {index}, area of {length} bytes: {what}");
-                show(&shrink(&sheet));
+                show(None, &shrink(&sheet));
             }
         }
         index += 1;
@@ -102,27 +111,11 @@ fn main() -> ExitCode {
         met(&format!("refusal {refusal}"), count, REFUSALS.contains(&refusal));
     }
 
-    let mut tally = book::Tally::default();
-    let mut broken = 0;
-    for list in 0..lists {
-        let mut random = Random::item(!seed, list);
-        match book::check(&mut random, &mut tally) {
-            Ok(()) => passed += 1,
-            Err((sheet, what)) => {
-                failed += 1;
-                broken += 1;
-                println!("list {list}: {what}");
-                show(&sheet);
-                if broken == FAILURES_SHOWN {
-                    break;
-                }
-            }
-        }
+    if lists > 0 {
+        let (good, bad) = books(seed, lists);
+        passed += good;
+        failed += bad;
     }
-    println!(
-        "{} lists with a book: {} accepted calls, {} late edits, {} installs, closing moves tried at {} places",
-        tally.lists, tally.moves, tally.late, tally.installs, tally.prefixes
-    );
 
     let mut broken = 0;
     for index in 0..COUNTER_SHEETS {
@@ -156,29 +149,89 @@ fn main() -> ExitCode {
     }
 }
 
+/// Lists with a book, on a blank plan and on loaded ones. Gives how many passed and failed.
+fn books(seed: u64, lists: u64) -> (u64, u64) {
+    let mut passed = 0;
+    let mut failed = 0;
+    let mut blank = Tally::default();
+    let mut loaded = Tally::default();
+    for index in 0..lists {
+        watched::case(&format!("list {index}"));
+        let is_loaded = index % LISTS_TO_A_LOADED == 0;
+        let tally = if is_loaded { &mut loaded } else { &mut blank };
+        let mut random = Random::item(!seed, index);
+        match book::check(&mut random, is_loaded, tally) {
+            Ok(()) => passed += 1,
+            Err((list, what)) => {
+                failed += 1;
+                println!("list {index}: {what}");
+                show(list.file.as_deref(), &list.sheet);
+                if failed == FAILURES_SHOWN as u64 {
+                    break;
+                }
+            }
+        }
+    }
+    for (plan, tally) in [("a blank plan", &blank), ("a loaded plan", &loaded)] {
+        println!(
+            "{} lists with a book on {plan}: {} accepted calls, {} late edits, {} revoked, {} refused as 30, {} installs, closing moves tried at {} places",
+            tally.lists, tally.moves, tally.late, tally.revoked, tally.used_up, tally.installs, tally.prefixes
+        );
+    }
+    let mut met = |what: &str, count: u64, expected: bool| {
+        if (count > 0) == expected {
+            passed += 1;
+        } else if count > 0 || lists >= LISTS_TO_MEET_ALL {
+            failed += 1;
+            println!("{what}: met {count} times");
+        }
+    };
+    for (what, count) in [
+        ("late edits", loaded.late),
+        ("revoked edits", loaded.revoked),
+        ("edits refused as 30", loaded.used_up),
+        ("installs", loaded.installs),
+        ("closing moves tried", loaded.prefixes),
+    ] {
+        met(&format!("{what} on a loaded plan"), count, true);
+    }
+    met("edits refused as 30 on a blank plan", blank.used_up, false);
+    // However few the lists: 02, S-1, "Demand 3 covers loaded plans too".
+    if loaded.lists > 0 {
+        passed += 1;
+    } else {
+        failed += 1;
+        println!("no list with a book on a loaded plan");
+    }
+    (passed, failed)
+}
+
 /// Files and sheets around saved plans: those of every run, then random ones. Gives how many passed and failed.
 fn saved_plans(seed: u64, files: u64) -> (u64, u64) {
     let mut check = Check::new();
     let mut passed = 0;
     let mut failed = 0;
-    let mut told = |name: &str, result: Result<(), Difference>| match result {
-        Ok(()) => passed += 1,
-        Err(difference) => {
-            failed += 1;
-            if failed <= FAILURES_SHOWN as u64 {
-                println!("{name}: {}", difference.what);
-                show_file(&difference);
+    let mut told = |name: &str, make: &mut dyn FnMut(&mut Check) -> Result<(), Difference>| {
+        watched::case(name);
+        match make(&mut check) {
+            Ok(()) => passed += 1,
+            Err(difference) => {
+                failed += 1;
+                if failed <= FAILURES_SHOWN as u64 {
+                    println!("{name}: {}", difference.what);
+                    show_file(&difference);
+                }
             }
         }
     };
-    files::each(&mut |name, file| told(name, check.file(file)));
-    told("long sheets", check.long_sheets());
+    files::each(&mut |name, file| told(name, &mut |check| check.file(file)));
+    told("long sheets", &mut Check::long_sheets);
     for index in 0..files {
         let mut random = Random::item(seed, index);
         match index % 20 {
-            0 => told(&format!("any sheet {index}"), check.any_sheet(&mut random)),
-            1..4 => told(&format!("saved plan {index}"), check.trip(&mut random)),
-            _ => told(&format!("file {index}"), check.damaged(&mut random)),
+            0 => told(&format!("any sheet {index}"), &mut |check| check.any_sheet(&mut random)),
+            1..4 => told(&format!("saved plan {index}"), &mut |check| check.trip(&mut random)),
+            _ => told(&format!("file {index}"), &mut |check| check.damaged(&mut random)),
         }
     }
     let counts = &check.counts;
@@ -222,23 +275,26 @@ fn saved_plans(seed: u64, files: u64) -> (u64, u64) {
 
 /// Prints a file by its slots, and the start of the sheet.
 fn show_file(difference: &Difference) {
-    for (at, slot) in difference.file.chunks(files::SLOT).enumerate().take(100) {
+    show_slots(&difference.file);
+    let sheet = &difference.sheet;
+    println!("  on it {} bytes: {}", sheet.len(), sheet[..sheet.len().min(2000)].escape_ascii());
+}
+
+fn show_slots(file: &[u8]) {
+    for (at, slot) in file.chunks(files::SLOT).enumerate().take(100) {
         print!("  {at:3}:");
         for byte in slot {
             print!(" {byte:02x}");
         }
         println!();
     }
-    let sheet = &difference.sheet;
-    println!("  on it {} bytes: {}", sheet.len(), sheet[..sheet.len().min(2000)].escape_ascii());
 }
 
-/// Prints a sheet with both programs' answers, or its start if it is long.
-fn show(sheet: &[u8]) {
-    let mut area = vec![0; 50 * sheet.len() + 300];
-    let given = library::screen_run(sheet, &mut area);
-    let theirs = &area[..(given as usize / 2).min(area.len())];
-    let ours = separate::answers(sheet);
+/// Prints the file that a sheet begins on, if any, and the sheet with both programs' answers, or its start if it is long.
+fn show(file: Option<&[u8]>, sheet: &[u8]) {
+    show_slots(file.unwrap_or_default());
+    let ours = answers_of_separate(file, sheet).unwrap_or_default();
+    let theirs = answers_of_library(file, sheet).unwrap_or_default();
     let mut ours = ours.split(|&b| b == b'\n');
     let mut theirs = theirs.split(|&b| b == b'\n');
     println!("  line | library | separate program");

@@ -1,9 +1,11 @@
 //! Loads and saves plans by both programs and compares the numbers handed back and every byte of the areas.
 
+use crate::compare::answers_of_library;
 use crate::files::{self, File, SLOT};
 use crate::generate::{Generator, Style};
 use crate::random::Random;
 use crate::sheets;
+use crate::watched;
 use separate::{Mode, Plan, SHEET_LIMIT};
 
 const GUARD: usize = 64;
@@ -32,9 +34,9 @@ pub const ENTRIES: [(Entry, &str, &[usize]); 3] = [
 impl Entry {
     fn of_library(self, file: &[u8], sheet: &[u8], area: &mut [u8]) -> u64 {
         match self {
-            Entry::Load => library::screen_load(file, sheet, area),
-            Entry::Save => library::screen_save(sheet, area),
-            Entry::SaveOn => library::screen_save_on(file, sheet, area),
+            Entry::Load => watched::screen_load(file, sheet, area),
+            Entry::Save => watched::screen_save(sheet, area),
+            Entry::SaveOn => watched::screen_save_on(file, sheet, area),
         }
     }
 
@@ -284,9 +286,7 @@ fn tail(sheet: &[u8]) -> Vec<u8> {
         all.push(b'\n');
     }
     all.extend_from_slice(TAIL);
-    let mut area = vec![0; 50 * all.len() + 300];
-    let given = library::screen_run(&all, &mut area);
-    area.truncate(given as usize / 2);
+    let mut area = answers_of_library(None, &all).unwrap_or_default();
     let from = area.split_inclusive(|&b| b == b'\n').rev().take(3).map(<[u8]>::len).sum::<usize>();
     area.split_off(area.len() - from)
 }
