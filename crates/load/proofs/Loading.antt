@@ -51,14 +51,14 @@ unfolding readChecks
 checks-are f p = rw (untouched-is p)
 
 module _ (f : List ℕ) (p : State) (k : ℕ) (k-is : k ≡ refusalOf (first (headChecks f (p .head)))) where
-  refused-as : (j : ℕ) (q : State) → j ≢ 0 → loadVerdict f (view p) ≡ refused j → Sized (spread q) → length (q .table) ≡ 256 → LoadedAs f j p q
+  refused-as : (j : ℕ) (q : State) → j ≢ 0 → loadVerdict f (view p) ≡ refused j → Sized (spread q) → length (q .table) ≡ 256 → LoadedAs (load f (view p)) j q
   unfolding load
   refused-as j q n e z l =
       let v : loadAnswer j ≡ no j = rw (ne-eqb j 0 n) in
       record { answer = ap (λ x. loadBy x f (view p) .answer) e ∙ sym v; plan = λ o. absurd (n o); sized = z; long = l }
 
   -- the file cannot be read, and nothing is drawn
-  pub load-unread : k ≢ 0 → Sized (spread p) → length (p .table) ≡ 256 → LoadedAs f k p p
+  pub load-unread : k ≢ 0 → Sized (spread p) → length (p .table) ≡ 256 → LoadedAs (load f (view p)) k p
   load-unread n =
       let v = checks-are f p ∙ verdict-refused (first (headChecks f (p .head))) k k-is n in
       refused-as k p n (ap (λ x. orElse x (firstRefusal (drawing f) (view p))) v)
@@ -74,7 +74,7 @@ module _ (f : List ℕ) (p : State) (k : ℕ) (k-is : k ≡ refusalOf (first (he
     decides v e = ap (λ x. orElse x (firstRefusal (drawing f) (view p))) (checks-are f p ∙ read-fine) ∙ e
 
     -- drawing it is refused
-    pub load-undrawn : (j : ℕ) (q : State) → Drew (drawing f) j p q → j ≢ 0 → LoadedAs f j p q
+    pub load-undrawn : (j : ℕ) (q : State) → Drew (drawing f) j p q → j ≢ 0 → LoadedAs (load f (view p)) j q
     load-undrawn j q d n =
         let v : verdictOf j ≡ refused j = rw (ne-eqb j 0 n) in
         refused-as j q n (decides (refused j) (d .verdict ∙ v)) (d .sized) (d .long)
@@ -98,7 +98,7 @@ module _ (f : List ℕ) (p : State) (k : ℕ) (k-is : k ≡ refusalOf (first (he
 
     load-drawn : (h : Head) (base draft values : List ℤ) (arrived confirmed : List Bool) (table : List ℤ) (edits : List EditRecord) (w : Slot)
         → Drew (drawing f) 0 p (stateOf h base draft values arrived confirmed table edits) → w ≡ wordsIn f 0
-        → LoadedAs f 0 p (stateOf (renumberedHead h (w .second)) base draft values arrived confirmed table edits)
+        → LoadedAs (load f (view p)) 0 (stateOf (renumberedHead h (w .second)) base draft values arrived confirmed table edits)
     unfolding load
     load-drawn h base draft values arrived confirmed table edits w d w-is =
         let q = stateOf h base draft values arrived confirmed table edits in
@@ -129,9 +129,9 @@ module _ (f : List ℕ) (p : State) (k : ℕ) (k-is : k ≡ refusalOf (first (he
     -- with the head that the program makes of it
     pub load-done : (h h₂ : Head) (base draft values : List ℤ) (arrived confirmed : List Bool) (table : List ℤ) (edits : List EditRecord) (w : Slot)
         → Drew (drawing f) 0 p (stateOf h base draft values arrived confirmed table edits) → w ≡ wordsIn f 0 → h₂ ≡ renumberedHead h (w .second)
-        → LoadedAs f 0 p (stateOf h₂ base draft values arrived confirmed table edits)
+        → LoadedAs (load f (view p)) 0 (stateOf h₂ base draft values arrived confirmed table edits)
     load-done h h₂ base draft values arrived confirmed table edits w d w-is e =
-        subst (λ (x : Head). LoadedAs f 0 p (stateOf x base draft values arrived confirmed table edits)) (sym e) (load-drawn h base draft values arrived confirmed table edits w d w-is)
+        subst (λ (x : Head). LoadedAs (load f (view p)) 0 (stateOf x base draft values arrived confirmed table edits)) (sym e) (load-drawn h base draft values arrived confirmed table edits w d w-is)
 
 -- ---- by value
 
@@ -143,7 +143,7 @@ refused-keeps (refused j) f p k e = refl
 -- loaded into the state's own numbers
 module _ (f : List ℕ) (p : State) {k : ℕ} {h h′ : Head} {values table : List ℤ} (d : LoadedFrom f k h (p .values) (p .table) h′ values table) (e : h ≡ p .head) (z : Sized (spread p))
     (l : length (p .table) ≡ 256) where
-  loaded : LoadedAs f k p (stateOf h′ (p .base) (p .draft) values (p .arrived) (p .confirmed) table (p .edits))
+  loaded : LoadedAs (load f (view p)) k (stateOf h′ (p .base) (p .draft) values (p .arrived) (p .confirmed) table (p .edits))
   loaded =
       let here = subst (λ x. LoadedFrom f k x (p .values) (p .table) h′ values table) e d in
       here (p .base) (p .draft) (p .arrived) (p .confirmed) (p .edits) z l

@@ -8,7 +8,7 @@ use lib.IntN.{ℤ}
 use lib.ListN.{length}
 use Rattle.protocol.specs.Lists.{isNone}
 use Rattle.protocol.specs.Calls as model
-use Rattle.protocol.specs.Calls.{Call, measure, Verdict, fine, refused, no, ok, end}
+use Rattle.protocol.specs.Calls.{Call, measure, Verdict, fine, refused, no, ok, end, Stepped}
 use Rattle.protocol.specs.Numbering.{measureOp}
 use Rattle.file.specs.Loaded.{slotIn, slots, valueIn, ruleIn, chain, firstRefusal, load}
 use Rattle.heads.specs.declared.Head.{Head}
@@ -59,9 +59,9 @@ abbrev pub loadAnswer : ℕ → model.Answer
 loadAnswer k = cond (isNone k) (ok []) (no k)
 
 -- A file loaded, with the plan where it is accepted; k is the refusal's number, or 0.
-pub record LoadedAs (f : List ℕ) (k : ℕ) (p q : State) : Type 0 where
-  pub answer : load f (view p) .answer ≡ loadAnswer k
-  pub plan : k ≡ 0 → view q ≡ load f (view p) .plan
+pub record LoadedAs (s : Stepped) (k : ℕ) (q : State) : Type 0 where
+  pub answer : s .answer ≡ loadAnswer k
+  pub plan : k ≡ 0 → view q ≡ s .plan
   pub sized : Sized (spread q)
   pub long : length (q .table) ≡ 256
 
@@ -70,4 +70,4 @@ abbrev pub LoadedFrom : List ℕ → ℕ → Head → List ℤ → List ℤ → 
 LoadedFrom f k h values table h′ values′ table′ =
     (base draft : List ℤ) (arrived confirmed : List Bool) (edits : List EditRecord)
     → let p = stateOf h base draft values arrived confirmed table edits in
-    Sized (spread p) → length table ≡ 256 → LoadedAs f k p (stateOf h′ base draft values′ arrived confirmed table′ edits)
+    Sized (spread p) → length table ≡ 256 → LoadedAs (load f (view p)) k (stateOf h′ base draft values′ arrived confirmed table′ edits)

@@ -7,7 +7,6 @@ use lib.Dec.{eqb, leb}
 use lib.IntN.{ℤ, pos, negsuc, _+ℤ_}
 use lib.Signed.{ltZ}
 use lib.ListN.{length, getD, set}
-use Rattle.exact.specs.Signs.{beyond}
 use Rattle.protocol.specs.Lists.{natural, oneTo, count, all}
 use Rattle.protocol.specs.Plan as model
 use Rattle.protocol.specs.Plan.{measureLimit}

@@ -1,5 +1,5 @@
-// The run over a sheet (01, "The sheet program"): each line is read, made on the plan and answered. The loop is lent a plan's numbers, which it lends to the call, and has
-// its kept edits by value.
+// Internal, for `sheet`: the run over a sheet (01, "The sheet program"). Each line is read, made on the plan and answered. The loop is lent a plan's rows, flags and
+// rules, which it lends to the call, and has head and kept edits by value.
 ghost use mathlib.Core.Path.{_≡_};
 ghost use Prim.Native.Nat.{_≤_};
 ghost use Rattle.protocol.specs.Plan.{measureLimit};

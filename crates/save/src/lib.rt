@@ -137,7 +137,7 @@ fn write<'a>(
     slots::put(area, 0, heading(n, m, next, check));
 }
 
-// Internal, for `sheet`: the same as `save`, on what is lent of a plan, so that it need not be handed over whole.
+// Internal, for `sheet`: saves on what is lent of a plan, so that it need not be handed over whole. 31 when the plan is not whole, then 41 (02, S-1).
 pub fn save_in<'a>(
     h: Head,
     values: &'a [i32; limit::VALUES],
@@ -160,7 +160,7 @@ pub fn save_in<'a>(
     Answer::Given(1, size as u32, 0, 0)
 }
 
-// 31 when the plan is not whole, then 41 (02, S-1). What is written fills the front of the lent area, its length is given, and the rest is untouched; a refusal leaves the area as it was.
+// What is written fills the front of the lent area, its length is given, and the rest is untouched; a refusal leaves the area as it was.
 pub fn save(p: State, area: &mut [u8]) -> Answer
     ensures { λ r. ⌜ (answerOf r ≡ save (length (now (area .entry))) (view p) .answer) × (now (area .exit) ≡ saveInto (view p) (now (area .entry))) ⌝ }
 {

@@ -13,7 +13,7 @@ use Rattle.protocol.specs.Lists.{bit, oneTo}
 use Rattle.protocol.specs.Plan.{Plan}
 use Rattle.protocol.specs.Calls as model
 use Rattle.protocol.specs.Calls.{Call, Verdict, fine, refused, first, no, ok, Stepped, following, end, start}
-use Rattle.protocol.proofs.Laws.{cases, is-yes, range, bit-most}
+use Rattle.protocol.proofs.Laws.{cases, range, bit-most}
 use Rattle.format.specs.Lines.{lineFeed, lines, grow}
 use Rattle.format.specs.Sheets.{text, lineStep, answerLines, leaves, fitted, inFront, replies, Screened, screen}
 use Rattle.format.specs.Longest.{longestAnswer}
@@ -31,7 +31,7 @@ use Rattle.records.specs.declared.EditRecord.{EditRecord}
 use Rattle.rules.proofs.Table.{lowers-length, gaps-length, uppers-length, firms-length}
 use Rattle.guarantee.specs.Holding.{Holding}
 use Rattle.guarantee.proofs.Holding.{holding-step, holding-start}
-use Rattle.load.specs.Drawing.{loadAnswer, LoadedFrom}
+use Rattle.load.specs.Drawing.{loadAnswer, LoadedAs}
 use Rattle.run.specs.Advance.{Lent}
 use Rattle.state.specs.declared.Answer.{Answer}
 use Rattle.state.specs.declared.Answer.the-variants.{Refused, Given}
@@ -39,7 +39,7 @@ use Rattle.state.specs.Meets.{firstOf, answerOf}
 use Rattle.run.specs.Progress.{Ran, ran, Advanced}
 use Rattle.run.proofs.Putting.{text-some}
 use Rattle.sheet.specs.Runs.{handedBack}
-use Rattle.sheet.specs.Served.{begunAs, Begun, BegunFrom, entryNumber, scaledAs, longAs, servedOn}
+use Rattle.sheet.specs.Served.{begunOn, begunAs, BegunFrom, entryNumber, scaledAs, longAs, servedOn}
 use Rattle.sheet.proofs.Runs.{written-is, written-most, screened-is}
 use Rattle.sheet.specs.Entries.{onLoaded, planOf, savedBy, saveFrom}
 
@@ -130,16 +130,6 @@ holding-begun false file = holding-start
 
 -- ---- a blank state, and what is begun from it
 
-pub begun-loaded : (loads : Bool) {file : List ℕ} {k : ℕ} {h h′ : Head} {values table values′ table′ : List ℤ} → loads ≡ true
-    → LoadedFrom file k h values table h′ values′ table′ → BegunFrom loads file k h values table h′ values′ table′
-begun-loaded true e m =
-    λ base draft arrived confirmed edits z l. let r = m base draft arrived confirmed edits z l in record { answer = r .answer; plan = r .plan; sized = r .sized; long = r .long }
-begun-loaded false e m = absurd (is-yes e)
-
-pub begun-none : (loads : Bool) {file : List ℕ} {h : Head} {values table : List ℤ} → loads ≡ false → BegunFrom loads file 0 h values table h values table
-begun-none true e = absurd (is-yes (sym e))
-begun-none false e = λ base draft arrived confirmed edits z l. record { answer = refl; plan = λ k. refl; sized = z; long = l }
-
 blank-sized : Sized (spread blankState)
 blank-sized = record {
   base = refl;
@@ -154,25 +144,19 @@ blank-sized = record {
   edits = refl;
 }
 
-pub begun-by : {loads : Bool} {file : List ℕ} {k : ℕ} {h h′ : Head} {values table values′ table′ : List ℤ} {base draft : List ℤ} {arrived confirmed : List Bool} {edits : List EditRecord}
+pub begun-by : (loads : Bool) (file : List ℕ) {k : ℕ} {h h′ : Head} {values table values′ table′ : List ℤ} {base draft : List ℤ} {arrived confirmed : List Bool} {edits : List EditRecord}
     → BegunFrom loads file k h values table h′ values′ table′ → stateOf h base draft values arrived confirmed table edits ≡ blankState
-    → Begun loads file k blankState (stateOf h′ base draft values′ arrived confirmed table′ edits)
-begun-by {loads = loads} {file = file} {k = k} {h′ = h′} {values′ = values′} {table′ = table′} {base = base} {draft = draft} {arrived = arrived} {confirmed = confirmed} {edits = edits} b e =
-    subst (λ p. Begun loads file k p (stateOf h′ base draft values′ arrived confirmed table′ edits)) e
+    → LoadedAs (begunAs loads file) k (stateOf h′ base draft values′ arrived confirmed table′ edits)
+begun-by loads file {k = k} {h′ = h′} {values′ = values′} {table′ = table′} {base = base} {draft = draft} {arrived = arrived} {confirmed = confirmed} {edits = edits} b e =
+    subst (λ p. LoadedAs (begunOn loads file (view p)) k (stateOf h′ base draft values′ arrived confirmed table′ edits)) e
     (b base draft arrived confirmed edits (subst (λ p. Sized (spread p)) (sym e) blank-sized) (ap (λ p. length (p .table)) e))
 
-module _ {loads : Bool} {file : List ℕ} {k : ℕ} {q : State} (b : Begun loads file k blankState q) where
-  pub begun-answer : begunAs loads file .answer ≡ loadAnswer k
-  begun-answer = b .answer
+module _ (loads : Bool) (file : List ℕ) {k : ℕ} {q : State} (b : LoadedAs (begunAs loads file) k q) (z : k ≡ 0) where
+  pub begun-lent : Lent true q
+  begun-lent = (b .sized, b .long, λ s. subst (λ (p : Plan). Holding (p .mode) (p .content)) (sym (b .plan z)) (holding-begun loads file))
 
-  pub begun-plan : k ≡ 0 → view q ≡ begunAs loads file .plan
-  begun-plan z = b .plan z
-
-  pub begun-lent : k ≡ 0 → Lent true q
-  begun-lent z = (b .sized, b .long, λ s. subst (λ (p : Plan). Holding (p .mode) (p .content)) (sym (begun-plan z)) (holding-begun loads file))
-
-  pub begun-narrow : k ≡ 0 → Narrow (view q .content)
-  begun-narrow z = subst (λ (p : Plan). Narrow (p .content)) (sym (begun-plan z)) (narrow-begun loads file)
+  pub begun-narrow : Narrow (view q .content)
+  begun-narrow = subst (λ (p : Plan). Narrow (p .content)) (sym (b .plan z)) (narrow-begun loads file)
 
 -- ---- the plan of a sheet, played with no room for its answers
 

@@ -11,11 +11,10 @@ use Rattle.format.specs.Sheets.{text, fitted, Screened, screened, screen}
 use Rattle.file.specs.Loaded.{load}
 use Rattle.heads.specs.declared.Head.{Head}
 use Rattle.records.specs.declared.EditRecord.{EditRecord}
-use Rattle.state.specs.declared.State.{State}
 use Rattle.state.specs.Spread.{spread}
 use Rattle.state.specs.Sizes.{Sized}
 use Rattle.state.specs.View.{view, stateOf}
-use Rattle.load.specs.Drawing.{loadAnswer}
+use Rattle.load.specs.Drawing.{LoadedAs}
 use Rattle.state.specs.declared.Answer.{Answer}
 use Rattle.state.specs.declared.Answer.the-variants.{Refused, Given}
 use Rattle.sheet.specs.Entries.{refusedWith, onLoaded, saveFrom}
@@ -27,21 +26,14 @@ begunOn loads file p = cond loads (load file p) (record { answer = ok []; plan =
 abbrev pub begunAs : Bool → List ℕ → Stepped
 begunAs loads file = begunOn loads file start
 
--- It, with the plan where it is accepted; k is the refusal's number, or 0.
-pub record Begun (loads : Bool) (file : List ℕ) (k : ℕ) (p q : State) : Type 0 where
-  pub answer : begunOn loads file (view p) .answer ≡ loadAnswer k
-  pub plan : k ≡ 0 → view q ≡ begunOn loads file (view p) .plan
-  pub sized : Sized (spread q)
-  pub long : length (q .table) ≡ 256
-
--- the same of what is lent of a state, whatever the rest of it
+-- begun by the program on what is lent of a state, whatever the rest of it; k is the refusal's number, or 0
 abbrev pub BegunFrom : Bool → List ℕ → ℕ → Head → List ℤ → List ℤ → Head → List ℤ → List ℤ → Type 0
 BegunFrom loads file k h values table h′ values′ table′ =
     (base draft : List ℤ) (arrived confirmed : List Bool) (edits : List EditRecord)
     → let p = stateOf h base draft values arrived confirmed table edits in
-    Sized (spread p) → length table ≡ 256 → Begun loads file k p (stateOf h′ base draft values′ arrived confirmed table′ edits)
+    Sized (spread p) → length table ≡ 256 → LoadedAs (begunOn loads file (view p)) k (stateOf h′ base draft values′ arrived confirmed table′ edits)
 
--- an entry's number, from the answer of a call
+-- the number of an entry that saves, from the answer of the call
 abbrev pub entryNumber : Answer → ℕ
 entryNumber (Refused k r) = k
 entryNumber (Given count a b c) = 256 * a

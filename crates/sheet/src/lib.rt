@@ -79,7 +79,7 @@ fn begin(
     0
 }
 
-// The number of an entry, from what loading or saving answered.
+// The number of an entry that saves, from what saving answered.
 fn entry_number(answer: Answer) -> u64
     ensures { λ r. ⌜ r ≡ entryNumber answer ⌝ }
 {

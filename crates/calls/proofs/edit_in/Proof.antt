@@ -1,5 +1,5 @@
 use Prim.Native.Nat.{min}
-use mathlib.Core.Path.{_≡_, refl, ap, _∙_, sym}
+use mathlib.Core.Path.{refl, ap, _∙_, sym}
 use mathlib.Core.Bool.{false}
 use lib.ListN.{getD, set}
 use mir.Facts.{toZ-ofZ}

@@ -1,4 +1,4 @@
-use mathlib.Core.Path.{_≡_, refl, _∙_, sym}
+use mathlib.Core.Path.{refl, _∙_, sym}
 use lib.ListN.{set}
 use Prim.Native.Nat.{_+_, min}
 use mir.Facts.{toZ-ofZ}

@@ -1,35 +1,33 @@
-use Rattle.heads.specs.Heads.{modeOf, slotAt}
+use Rattle.heads.specs.Heads.{slotAt}
 use Rattle.heads.specs.Numbers.{headFrom}
 use Rattle.heads.proofs.Heads.{head-numbers}
 use Rattle.replay.specs.Replays.{earlierAt}
-use Rattle.protocol.specs.Plan.{is, blank}
+use Rattle.protocol.specs.Plan.{is}
 use Rattle.calls.proofs.looking.Reads as looking-reads
 use Rattle.heads.proofs.from_numbers.Reads as from-numbers-reads
 use Rattle.heads.proofs.numbers.Reads as numbers-reads
-use Prim.Native.Nat.{ℕ, _+_, _*_, _-_, _<_, _≤_, min}
+use Prim.Native.Nat.{ℕ, _+_, _*_, _-_, _<_, _≤_}
 use native.Mathlib.Omega.{arith}
 use mathlib.Core.Path.{_≡_, refl, sym, ap, _∙_, subst}
 use mathlib.Core.Bool.{Bool, true, false, not, cond}
 use mathlib.Core.List.{List, _++_}
 use borrow.Author.Needs.{needs}
-use borrow.Author.Tests.{eqb-true, eqb-false, leb-true}
 use borrow.Rule.Slice.PartMut.{putMid}
-use lib.Dec.{T, eqb, leb}
+use lib.Dec.{eqb, leb}
 use lib.IntN.{ℤ, pos}
-use lib.ListN.{length, getD, set, take, drop, length-drop, take-append-drop, replicate}
+use lib.ListN.{length, getD, set, take, drop, take-append-drop, replicate}
 use mir.Syntax.{w64}
 use mir.Val.{Fits}
-use mir.Facts.{toZ-ofZ, fits-below, fits-le}
+use mir.Facts.{toZ-ofZ, fits-le}
 use Rattle.exact.proofs.Ints.{fits32}
 use Rattle.protocol.specs.Lists.{natural}
 use Rattle.protocol.specs.Plan.{Plan}
-use Rattle.protocol.proofs.Laws.{on, cases, is-yes}
+use Rattle.protocol.proofs.Laws.{on, is-yes}
 use Rattle.format.specs.Lines.{lineFeed, lineCall}
 use Rattle.format.specs.Sheets.{text, lineStep, stepOf, inFront}
 use Rattle.rows.specs.Rows.{row}
 use Rattle.rows.proofs.Spans.{getD-blank}
 use Rattle.records.specs.Records.{noRecord}
-use Rattle.state.specs.Meets.{answerOf}
 use Rattle.writer.specs.Writes.{lineOf, putIn, putLength}
 use Rattle.moves.specs.Moves.{Marked}
 use Rattle.moves.proofs.Sends.{marked-begin, marked-next, marked-passed, mark-sent-other}

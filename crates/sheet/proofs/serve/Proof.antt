@@ -12,8 +12,9 @@ use Rattle.state.specs.declared.State.{State}
 use Rattle.state.specs.View.{view, stateOf, blankState}
 use Rattle.run.specs.Progress.{Advanced}
 use Rattle.run.specs.Advance.{Lent}
-use Rattle.sheet.specs.Served.{begunAs, Begun, servedOn}
-use Rattle.sheet.proofs.Entries.{begun-by, begun-answer, begun-plan, begun-lent, begun-narrow, room-most, back-length, turned, taken, run-written, run-small, run-served, save-served, long-served}
+use Rattle.load.specs.Drawing.{LoadedAs}
+use Rattle.sheet.specs.Served.{begunAs, servedOn}
+use Rattle.sheet.proofs.Entries.{begun-by, begun-lent, begun-narrow, room-most, back-length, turned, taken, run-written, run-small, run-served, save-served, long-served}
 use Rattle.sheet.proofs.serve.Statement.{statement}
 use Rattle.sheet.proofs.serve.Tie as tie
 use Rattle.sheet.proofs.serve.Reads as reads
@@ -294,8 +295,8 @@ state-begun c =
     let x = (c .begin .last .1 .1) in
     stateOf (headFrom (x .0)) (b .base) (b .draft) (x .1 .0) (b .arrived) (b .confirmed) (x .1 .1 .0) (b .edits)
 
-begun : (c : tie.After-begin) → Begun ((Start-from-After-begin c) .args .loads) ((Start-from-After-begin c) .args .file .now) (c .begin .result) blankState (state-begun c)
-begun c = begun-by (c .begin .ensures) (start-is ((After-numbers-from-After-begin c)))
+begun : (c : tie.After-begin) → LoadedAs (begunAs ((Start-from-After-begin c) .args .loads) ((Start-from-After-begin c) .args .file .now)) (c .begin .result) (state-begun c)
+begun c = begun-by ((Start-from-After-begin c) .args .loads) ((Start-from-After-begin c) .args .file .now) (c .begin .ensures) (start-is ((After-numbers-from-After-begin c)))
 
 -- ---- and what the run makes of it
 
@@ -317,7 +318,7 @@ advanced c =
     subst (λ h. Advanced (a .saves) 0 (a .sheet .now) 0 (view (stateOf h (p .base) (p .draft) (p .values) (p .arrived) (p .confirmed) (p .table) (p .edits)))
     (take ((After-room-for-from-After-advance c) .room-for .result) (a .area .now)) (view (state-after c)) (c .advance .result .next) (c .advance .result .written) (c .advance .result .ended) (front c)) e
     ((c .advance .ensures) (subst (λ h. Lent true (stateOf h (p .base) (p .draft) (p .values) (p .arrived) (p .confirmed) (p .table) (p .edits))) (sym e)
-    (begun-lent (begun ((After-begin-from-After-advance c))) ((Else1-from-After-advance c) .if1 .left))))
+    (begun-lent (a .loads) (a .file .now) (begun ((After-begin-from-After-advance c))) ((Else1-from-After-advance c) .if1 .left))))
 
 -- ---- what is handed back
 
@@ -328,7 +329,7 @@ returns : tie.Need-returns
 returns c =
     let a = ((Start-from-Then1 c) .args) in
     turned (begunAs (a .loads) (a .file .now)) (a .area .now) (servedOn (a .loads) (a .saves) (a .sheet .now) (a .area .now)) (c .before .begin .result)
-    (begun-answer (begun (c .before))) (c .if1 .taken)
+    ((begun (c .before)) .answer) (c .if1 .taken)
 
 refuse-long-requires : tie.Need-refuse-long-requires
 refuse-long-requires c κs = search needs
@@ -340,7 +341,7 @@ returns-2 : tie.Need-returns-2
 returns-2 c =
     let a = ((Start-from-After-slice-known2 c) .args) in
     taken (begunAs (a .loads) (a .file .now)) (a .area .now) (servedOn (a .loads) (a .saves) (a .sheet .now) (a .area .now)) ((After-begin-from-After-slice-known2 c) .begin .result)
-    (begun-answer (begun ((After-begin-from-After-slice-known2 c)))) ((Else1-from-After-slice-known2 c) .if1 .left) _ refl _
+    ((begun ((After-begin-from-After-slice-known2 c))) .answer) ((Else1-from-After-slice-known2 c) .if1 .left) _ refl _
     ((c .before .before .refuse-long .ensures) ∙ long-served (a .loads) (a .saves) (a .sheet .now) (a .area .now) _ ((Then2-from-After-slice-known2 c) .if2 .taken))
 
 room-for-requires : tie.Need-room-for-requires
@@ -376,7 +377,7 @@ returns-3 c =
     let q = state-after ((After-advance-from-After-entry-number c)) in
     let saved = ((After-save-in-from-After-entry-number c) .save-in .ensures) (q .base) (q .draft) (q .arrived) (q .confirmed) (q .edits) in
     taken (begunAs (a .loads) (a .file .now)) (a .area .now) (servedOn (a .loads) (a .saves) (a .sheet .now) (a .area .now)) ((After-begin-from-After-entry-number c) .begin .result)
-    (begun-answer (begun ((After-begin-from-After-entry-number c)))) ((Else1-from-After-entry-number c) .if1 .left) _ (begun-plan (begun ((After-begin-from-After-entry-number c))) ((Else1-from-After-entry-number c) .if1 .left)) _
+    ((begun ((After-begin-from-After-entry-number c))) .answer) ((Else1-from-After-entry-number c) .if1 .left) _ ((begun ((After-begin-from-After-entry-number c))) .plan ((Else1-from-After-entry-number c) .if1 .left)) _
     (save-served (a .saves) (a .sheet .now) (a .area .now) _ _ ((After-room-for-from-After-entry-number c) .room-for .ensures) _ _ _ _ _ (advanced ((After-advance-from-After-entry-number c)))
     ((Then3-from-After-entry-number c) .if3 .taken) (a .loads) ((Else2-from-After-entry-number c) .if2 .left) ((After-save-in-from-After-entry-number c) .save-in .result) _ (saved .0) (saved .1) _ (c .entry-number .ensures))
 
@@ -390,7 +391,7 @@ scaled-requires : tie.Need-scaled-requires
 scaled-requires c κs =
     let a = ((Start-from-After-handed c) .args) in
     run-small (a .saves) (a .sheet .now) (a .area .now) _ _ ((After-room-for-from-After-handed c) .room-for .ensures) _ _ _ _ _ (advanced ((After-advance-from-After-handed c))) (c .before .if3 .left)
-    (begun-narrow (begun ((After-begin-from-After-handed c))) ((Else1-from-After-handed c) .if1 .left)) ((Else2-from-After-handed c) .if2 .left) _ (c .handed .ensures)
+    (begun-narrow (a .loads) (a .file .now) (begun ((After-begin-from-After-handed c))) ((Else1-from-After-handed c) .if1 .left)) ((Else2-from-After-handed c) .if2 .left) _ (c .handed .ensures)
 
 same-length-3 : tie.Need-same-length-3
 same-length-3 c =
@@ -401,7 +402,7 @@ returns-4 : tie.Need-returns-4
 returns-4 c =
     let a = ((Start-from-After-scaled c) .args) in
     taken (begunAs (a .loads) (a .file .now)) (a .area .now) (servedOn (a .loads) (a .saves) (a .sheet .now) (a .area .now)) ((After-begin-from-After-scaled c) .begin .result)
-    (begun-answer (begun ((After-begin-from-After-scaled c)))) ((Else1-from-After-scaled c) .if1 .left) _ (begun-plan (begun ((After-begin-from-After-scaled c))) ((Else1-from-After-scaled c) .if1 .left)) _
+    ((begun ((After-begin-from-After-scaled c))) .answer) ((Else1-from-After-scaled c) .if1 .left) _ ((begun ((After-begin-from-After-scaled c))) .plan ((Else1-from-After-scaled c) .if1 .left)) _
     (run-served (a .saves) (a .sheet .now) (a .area .now) _ _ ((After-room-for-from-After-scaled c) .room-for .ensures) _ _ _ _ _ (advanced ((After-advance-from-After-scaled c))) (c .before .before .if3 .left) (a .loads)
     ((Else2-from-After-scaled c) .if2 .left) _ (c .before .handed .ensures) _ (c .scaled .ensures))
 
