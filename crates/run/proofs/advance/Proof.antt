@@ -393,7 +393,8 @@ abbrev At-loop-from-After-last2 : tie.After-last2 Inv-loop2 μ-loop2 Inv-loop μ
 At-loop-from-After-last2 c = At-loop-from-After-counts (After-counts-from-After-last2 c)
 
 abbrev started : tie.After-numbers Inv-loop2 μ-loop2 Inv-loop μ-loop → State
-started c = let a = ((Start-from-After-numbers c) .args) in stateOf (headFrom (c .numbers .result)) (a .base .now) (a .draft .now) (a .values .now) (a .arrived .now) (a .confirmed .now) (a .table .now) (a .kept)
+started c = let a = ((Start-from-After-numbers c) .args) in stateOf (headFrom (c .numbers .result)) (a .base .now) (a .draft .now) (a .values .now) (a .arrived .now) (a .confirmed .now)
+    (a .table .now) (a .kept)
 
 started-is : (c : tie.After-numbers Inv-loop2 μ-loop2 Inv-loop μ-loop) → started c ≡ lent ((Start-from-After-numbers c))
 started-is c =
@@ -447,8 +448,10 @@ sheet-fits c = omega arith
 begun : (c : tie.In-loop Inv-loop2 μ-loop2 Inv-loop μ-loop) → (c .before .loop .i) < length ((Start-from-In-loop c) .args .sheet .now)
 begun c = (inside (c .before .loop .inv .0) (c .loop-test .taken)) .1
 
-on-line : (c : tie.In-loop Inv-loop2 μ-loop2 Inv-loop μ-loop) → Told ((After-numbers-from-In-loop c)) → SoundIn ((Start-from-In-loop c) .args .way .sound) (spread (state-at (c .before))) × Going ((Start-from-In-loop c) .args .way .on)
-    ((Start-from-In-loop c) .args .way .reserve) ((Start-from-In-loop c) .args .sheet .now) ((Start-from-In-loop c) .args .way .from) ((Start-from-In-loop c) .args .area .now) (view (started ((After-numbers-from-In-loop c))))
+on-line : (c : tie.In-loop Inv-loop2 μ-loop2 Inv-loop μ-loop) → Told ((After-numbers-from-In-loop c)) → SoundIn ((Start-from-In-loop c) .args .way .sound)
+    (spread (state-at (c .before))) × Going ((Start-from-In-loop c) .args .way .on)
+    ((Start-from-In-loop c) .args .way .reserve) ((Start-from-In-loop c) .args .sheet .now) ((Start-from-In-loop c) .args .way .from) ((Start-from-In-loop c) .args .area .now)
+    (view (started ((After-numbers-from-In-loop c))))
     (c .before .loop .area) (state-at (c .before)) (c .before .loop .counts) (c .before .loop .at) (c .before .loop .i)
 on-line c x = (c .before .loop .inv .1 x .under) ((inside (c .before .loop .inv .0) (c .loop-test .taken)) .0)
 
@@ -504,7 +507,8 @@ state-next c =
 abbrev counts-next : tie.After-loop2 Inv-loop2 μ-loop2 Inv-loop μ-loop → List ℕ
 counts-next c = ((After-make-from-After-loop2 c) .make .last .1 .1 .1 .1 .1 .1 .1 .1 .1 .1 .0)
 
-made : (c : tie.After-loop2 Inv-loop2 μ-loop2 Inv-loop μ-loop) → Told ((After-numbers-from-After-loop2 c)) → Makes ((After-read-line-from-After-loop2 c) .read-line .result) (state-at ((At-loop-from-After-loop2 c))) (state-next c)
+made : (c : tie.After-loop2 Inv-loop2 μ-loop2 Inv-loop μ-loop) → Told ((After-numbers-from-After-loop2 c)) → Makes ((After-read-line-from-After-loop2 c) .read-line .result)
+    (state-at ((At-loop-from-After-loop2 c))) (state-next c)
     ((At-loop-from-After-loop2 c) .loop .counts) (counts-next c) ((At-loop-from-After-loop2 c) .loop .index) ((After-make-from-After-loop2 c) .make .last .1 .1 .1 .1 .1 .1 .1 .1 .0)
     ((After-make-from-After-loop2 c) .make .result)
 made c x =
@@ -544,16 +548,20 @@ values-now c = ((After-make-from-After-tell c) .make .last .1 .1 .1 .1 .0)
 abbrev told : tie.After-tell Inv-loop2 μ-loop2 Inv-loop μ-loop → List ℕ
 told c = lineOf ((After-make-from-After-tell c) .make .result .answer) (row (values-now c) ((After-make-from-After-tell c) .make .result .from) ((After-make-from-After-tell c) .make .result .width))
 
-told-is : (c : tie.After-tell Inv-loop2 μ-loop2 Inv-loop μ-loop) → Told ((After-numbers-from-After-tell c)) → told c ≡ text (lineStep (line ((After-read-line-from-After-tell c))) (view (state-at ((At-loop-from-After-tell c)))) .answer)
+told-is : (c : tie.After-tell Inv-loop2 μ-loop2 Inv-loop μ-loop) → Told ((After-numbers-from-After-tell c)) → told c ≡ text
+    (lineStep (line ((After-read-line-from-After-tell c))) (view (state-at ((At-loop-from-After-tell c)))) .answer)
 unfolding lineOf lineStep
-told-is c x = ap text ((made ((After-loop2-from-After-tell c)) x) .answer ∙ ap (λ o. stepOf o (view (state-at ((At-loop-from-After-tell c)))) .answer) ((read-is-line ((After-read-line-from-After-tell c))) .0))
+told-is c x = ap text ((made ((After-loop2-from-After-tell c)) x) .answer ∙ ap (λ o. stepOf o (view (state-at ((At-loop-from-After-tell c)))) .answer)
+    ((read-is-line ((After-read-line-from-After-tell c))) .0))
 
-left-is : (c : tie.After-tell Inv-loop2 μ-loop2 Inv-loop μ-loop) → Told ((After-numbers-from-After-tell c)) → view (state-next ((After-loop2-from-After-tell c))) ≡ lineStep (line ((After-read-line-from-After-tell c)))
+left-is : (c : tie.After-tell Inv-loop2 μ-loop2 Inv-loop μ-loop) → Told ((After-numbers-from-After-tell c)) → view (state-next ((After-loop2-from-After-tell c))) ≡ lineStep
+    (line ((After-read-line-from-After-tell c)))
     (view (state-at ((At-loop-from-After-tell c)))) .plan
 unfolding lineStep
 left-is c x = (made ((After-loop2-from-After-tell c)) x) .plan ∙ ap (λ o. stepOf o (view (state-at ((At-loop-from-After-tell c)))) .plan) ((read-is-line ((After-read-line-from-After-tell c))) .0)
 
-enough : (c : tie.After-tell Inv-loop2 μ-loop2 Inv-loop μ-loop) → ((Start-from-After-tell c) .args .way .reserve) ≤ length ((Start-from-After-tell c) .args .area .now) - ((At-loop-from-After-tell c) .loop .at)
+enough : (c : tie.After-tell Inv-loop2 μ-loop2 Inv-loop μ-loop) → ((Start-from-After-tell c) .args .way .reserve) ≤ length ((Start-from-After-tell c) .args .area .now) -
+    ((At-loop-from-After-tell c) .loop .at)
 enough c = subst (λ n. ((Start-from-After-tell c) .args .way .reserve) ≤ n - ((At-loop-from-After-tell c) .loop .at)) ((At-loop-from-After-tell c) .loop .inv .0 .same)
     ((inside ((At-loop-from-After-tell c) .loop .inv .0) ((In-loop-from-After-tell c) .loop-test .taken)) .2)
 
@@ -572,13 +580,15 @@ abbrev rest-after : tie.After-tell Inv-loop2 μ-loop2 Inv-loop μ-loop → List 
 rest-after c = (c .tell .last .1 .1 .1 .1 .0)
 
 abbrev area-now : tie.After-tell Inv-loop2 μ-loop2 Inv-loop μ-loop → List ℕ
-area-now c = putMid ((At-loop-from-After-tell c) .loop .at) (length ((At-loop-from-After-tell c) .loop .area) - ((At-loop-from-After-tell c) .loop .at)) ((At-loop-from-After-tell c) .loop .area) (rest-after c)
+area-now c = putMid ((At-loop-from-After-tell c) .loop .at) (length ((At-loop-from-After-tell c) .loop .area) - ((At-loop-from-After-tell c) .loop .at))
+    ((At-loop-from-After-tell c) .loop .area) (rest-after c)
 
 after-is : (c : tie.After-tell Inv-loop2 μ-loop2 Inv-loop μ-loop) → rest-after c ≡ putIn (told c) (room c)
 after-is c = subst (λ xs. rest-after c ≡ putIn (told c) xs) (lent-rest ((At-loop-from-After-tell c) .loop .at) ((At-loop-from-After-tell c) .loop .area)) (c .tell .ensures .0)
 
 area-is : (c : tie.After-tell Inv-loop2 μ-loop2 Inv-loop μ-loop) → area-now c ≡ take ((At-loop-from-After-tell c) .loop .at) ((At-loop-from-After-tell c) .loop .area) ++ putIn (told c) (room c)
-area-is c = put-back ((At-loop-from-After-tell c) .loop .at) ((At-loop-from-After-tell c) .loop .area) (rest-after c) ∙ ap (λ xs. take ((At-loop-from-After-tell c) .loop .at) ((At-loop-from-After-tell c) .loop .area) ++ xs) (after-is c)
+area-is c = put-back ((At-loop-from-After-tell c) .loop .at) ((At-loop-from-After-tell c) .loop .area) (rest-after c) ∙ ap
+    (λ xs. take ((At-loop-from-After-tell c) .loop .at) ((At-loop-from-After-tell c) .loop .area) ++ xs) (after-is c)
 
 same-now : (c : tie.After-tell Inv-loop2 μ-loop2 Inv-loop μ-loop) → length (area-now c) ≡ length ((Start-from-After-tell c) .args .area .now)
 same-now c = ap length (area-is c) ∙ put-same ((At-loop-from-After-tell c) .loop .at) (told c) ((At-loop-from-After-tell c) .loop .area) ∙ ((At-loop-from-After-tell c) .loop .inv .0 .same)
@@ -863,10 +873,13 @@ returns c x =
     let q = state-at ((At-loop-from-After-from-numbers2 c)) in
     let y = subst (Lent (w .sound)) (sym (started-is ((After-numbers-from-After-from-numbers2 c)))) x in
     subst (λ h. Advanced (w .on) (w .reserve) (a .sheet .now) (w .from) (view (lent ((Start-from-After-from-numbers2 c)))) (a .area .now)
-    (view (stateOf h (q .base) (q .draft) (q .values) (q .arrived) (q .confirmed) (q .table) (q .edits))) ((At-loop-from-After-from-numbers2 c) .loop .i) ((At-loop-from-After-from-numbers2 c) .loop .at) ((At-loop-from-After-from-numbers2 c) .loop .ended) ((At-loop-from-After-from-numbers2 c) .loop .area))
+    (view (stateOf h (q .base) (q .draft) (q .values) (q .arrived) (q .confirmed) (q .table) (q .edits))) ((At-loop-from-After-from-numbers2 c) .loop .i)
+    ((At-loop-from-After-from-numbers2 c) .loop .at) ((At-loop-from-After-from-numbers2 c) .loop .ended) ((At-loop-from-After-from-numbers2 c) .loop .area))
     (sym (c .from-numbers2 .ensures))
-    (subst (λ p. Advanced (w .on) (w .reserve) (a .sheet .now) (w .from) (view p) (a .area .now) (view q) ((At-loop-from-After-from-numbers2 c) .loop .i) ((At-loop-from-After-from-numbers2 c) .loop .at) ((At-loop-from-After-from-numbers2 c) .loop .ended) ((At-loop-from-After-from-numbers2 c) .loop .area))
-    (started-is ((After-numbers-from-After-from-numbers2 c))) (finished ((At-loop-from-After-from-numbers2 c) .loop .inv .0) ((At-loop-from-After-from-numbers2 c) .loop .inv .1 y) (c .before .before .loop-test .left)))
+    (subst (λ p. Advanced (w .on) (w .reserve) (a .sheet .now) (w .from) (view p) (a .area .now) (view q) ((At-loop-from-After-from-numbers2 c) .loop .i)
+    ((At-loop-from-After-from-numbers2 c) .loop .at) ((At-loop-from-After-from-numbers2 c) .loop .ended) ((At-loop-from-After-from-numbers2 c) .loop .area))
+    (started-is ((After-numbers-from-After-from-numbers2 c))) (finished ((At-loop-from-After-from-numbers2 c) .loop .inv .0) ((At-loop-from-After-from-numbers2 c) .loop .inv .1 y)
+    (c .before .before .loop-test .left)))
 
 pub advance-spec : {M : Type 1} → statement M
 advance-spec =

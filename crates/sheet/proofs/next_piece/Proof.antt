@@ -73,7 +73,8 @@ returns-2 c =
     let h = ((After-advance-from-After-of c) .advance .ensures) (owned-spread p g, owned-table p g, λ e. sound-holds (spread p) (sym ((After-is-sound-from-After-of c) .is-sound .ensures) ∙ e)) in
     piece-run (a .sheet .now) (a .from) p (a .area .now) (owned-ranged p g) (c .of .result) _ _ ((After-advance-from-After-of c) .advance .result .ended) _ ((Else1-from-After-of c) .if1 .left)
     (subst (λ (q : State). Advanced false longestAnswer (a .sheet .now) (a .from) (view p) (a .area .now) (view q)
-    ((After-advance-from-After-of c) .advance .result .next) ((After-advance-from-After-of c) .advance .result .written) ((After-advance-from-After-of c) .advance .result .ended) ((After-advance-from-After-of c) .advance .last .1 .1 .1 .1 .1 .1 .1 .1 .1 .1 .0)) (sym (c .of .ensures)) h)
+    ((After-advance-from-After-of c) .advance .result .next) ((After-advance-from-After-of c) .advance .result .written) ((After-advance-from-After-of c) .advance .result .ended)
+    ((After-advance-from-After-of c) .advance .last .1 .1 .1 .1 .1 .1 .1 .1 .1 .1 .0)) (sym (c .of .ensures)) h)
 
 pub next-piece-spec : {M : Type 1} → statement M
 next-piece-spec =

@@ -42,7 +42,8 @@ begin-requires c κs = search needs
 
 -- ---- the plan that the sheet is run on
 
-start-is : (c : tie.After-numbers) → (let b = (c .before .blank .result) in stateOf (headFrom (c .numbers .result)) (b .base) (b .draft) (b .values) (b .arrived) (b .confirmed) (b .table) (b .edits)) ≡ blankState
+start-is : (c : tie.After-numbers) → (let b = (c .before .blank .result) in stateOf (headFrom (c .numbers .result)) (b .base) (b .draft) (b .values) (b .arrived) (b .confirmed) (b .table)
+    (b .edits)) ≡ blankState
 start-is c =
     let b = (c .before .blank .result) in
     ap (λ h. stateOf h (b .base) (b .draft) (b .values) (b .arrived) (b .confirmed) (b .table) (b .edits)) (ap headFrom (c .numbers .ensures) ∙ head-numbers (b .head)) ∙ (c .before .blank .ensures)
@@ -309,14 +310,16 @@ state-after c =
 abbrev front : tie.After-advance → List ℕ
 front c = (c .advance .last .1 .1 .1 .1 .1 .1 .1 .1 .1 .1 .0)
 
-advanced : (c : tie.After-advance) → Advanced ((Start-from-After-advance c) .args .saves) 0 ((Start-from-After-advance c) .args .sheet .now) 0 (view (state-begun ((After-begin-from-After-advance c)))) (take ((After-room-for-from-After-advance c) .room-for .result) ((Start-from-After-advance c) .args .area .now))
+advanced : (c : tie.After-advance) → Advanced ((Start-from-After-advance c) .args .saves) 0 ((Start-from-After-advance c) .args .sheet .now) 0
+    (view (state-begun ((After-begin-from-After-advance c)))) (take ((After-room-for-from-After-advance c) .room-for .result) ((Start-from-After-advance c) .args .area .now))
     (view (state-after c)) (c .advance .result .next) (c .advance .result .written) (c .advance .result .ended) (front c)
 advanced c =
     let a = ((Start-from-After-advance c) .args) in
     let p = state-begun ((After-begin-from-After-advance c)) in
     let e = ((After-from-numbers-from-After-advance c) .from-numbers .ensures) in
     subst (λ h. Advanced (a .saves) 0 (a .sheet .now) 0 (view (stateOf h (p .base) (p .draft) (p .values) (p .arrived) (p .confirmed) (p .table) (p .edits)))
-    (take ((After-room-for-from-After-advance c) .room-for .result) (a .area .now)) (view (state-after c)) (c .advance .result .next) (c .advance .result .written) (c .advance .result .ended) (front c)) e
+    (take ((After-room-for-from-After-advance c) .room-for .result) (a .area .now)) (view (state-after c)) (c .advance .result .next) (c .advance .result .written)
+    (c .advance .result .ended) (front c)) e
     ((c .advance .ensures) (subst (λ h. Lent true (stateOf h (p .base) (p .draft) (p .values) (p .arrived) (p .confirmed) (p .table) (p .edits))) (sym e)
     (begun-lent (a .loads) (a .file .now) (begun ((After-begin-from-After-advance c))) ((Else1-from-After-advance c) .if1 .left))))
 
@@ -368,7 +371,8 @@ entry-number-requires c κs = search needs
 same-length-2 : tie.Need-same-length-2
 same-length-2 c =
     ((After-save-in-from-After-entry-number c) .save-in .kept .1 .1 .1 .0)
-    ∙ back-length (front ((After-advance-from-After-entry-number c))) ((After-room-for-from-After-entry-number c) .room-for .result) ((Start-from-After-entry-number c) .args .area .now) (room-most ((Start-from-After-entry-number c) .args .saves) _ _ ((After-room-for-from-After-entry-number c) .room-for .ensures))
+    ∙ back-length (front ((After-advance-from-After-entry-number c))) ((After-room-for-from-After-entry-number c) .room-for .result) ((Start-from-After-entry-number c) .args .area .now)
+    (room-most ((Start-from-After-entry-number c) .args .saves) _ _ ((After-room-for-from-After-entry-number c) .room-for .ensures))
     ((After-advance-from-After-entry-number c) .advance .kept .1 .1 .1 .1 .1 .1 .1 .1 .1 .1 .0)
 
 returns-3 : tie.Need-returns-3
@@ -377,9 +381,11 @@ returns-3 c =
     let q = state-after ((After-advance-from-After-entry-number c)) in
     let saved = ((After-save-in-from-After-entry-number c) .save-in .ensures) (q .base) (q .draft) (q .arrived) (q .confirmed) (q .edits) in
     taken (begunAs (a .loads) (a .file .now)) (a .area .now) (servedOn (a .loads) (a .saves) (a .sheet .now) (a .area .now)) ((After-begin-from-After-entry-number c) .begin .result)
-    ((begun ((After-begin-from-After-entry-number c))) .answer) ((Else1-from-After-entry-number c) .if1 .left) _ ((begun ((After-begin-from-After-entry-number c))) .plan ((Else1-from-After-entry-number c) .if1 .left)) _
+    ((begun ((After-begin-from-After-entry-number c))) .answer) ((Else1-from-After-entry-number c) .if1 .left) _
+    ((begun ((After-begin-from-After-entry-number c))) .plan ((Else1-from-After-entry-number c) .if1 .left)) _
     (save-served (a .saves) (a .sheet .now) (a .area .now) _ _ ((After-room-for-from-After-entry-number c) .room-for .ensures) _ _ _ _ _ (advanced ((After-advance-from-After-entry-number c)))
-    ((Then3-from-After-entry-number c) .if3 .taken) (a .loads) ((Else2-from-After-entry-number c) .if2 .left) ((After-save-in-from-After-entry-number c) .save-in .result) _ (saved .0) (saved .1) _ (c .entry-number .ensures))
+    ((Then3-from-After-entry-number c) .if3 .taken) (a .loads) ((Else2-from-After-entry-number c) .if2 .left) ((After-save-in-from-After-entry-number c) .save-in .result) _ (saved .0)
+    (saved .1) _ (c .entry-number .ensures))
 
 handed-requires : tie.Need-handed-requires
 handed-requires c κs =
@@ -395,7 +401,8 @@ scaled-requires c κs =
 
 same-length-3 : tie.Need-same-length-3
 same-length-3 c =
-    back-length (front ((After-advance-from-After-scaled c))) ((After-room-for-from-After-scaled c) .room-for .result) ((Start-from-After-scaled c) .args .area .now) (room-most ((Start-from-After-scaled c) .args .saves) _ _ ((After-room-for-from-After-scaled c) .room-for .ensures))
+    back-length (front ((After-advance-from-After-scaled c))) ((After-room-for-from-After-scaled c) .room-for .result) ((Start-from-After-scaled c) .args .area .now)
+    (room-most ((Start-from-After-scaled c) .args .saves) _ _ ((After-room-for-from-After-scaled c) .room-for .ensures))
     ((After-advance-from-After-scaled c) .advance .kept .1 .1 .1 .1 .1 .1 .1 .1 .1 .1 .0)
 
 returns-4 : tie.Need-returns-4
@@ -403,7 +410,8 @@ returns-4 c =
     let a = ((Start-from-After-scaled c) .args) in
     taken (begunAs (a .loads) (a .file .now)) (a .area .now) (servedOn (a .loads) (a .saves) (a .sheet .now) (a .area .now)) ((After-begin-from-After-scaled c) .begin .result)
     ((begun ((After-begin-from-After-scaled c))) .answer) ((Else1-from-After-scaled c) .if1 .left) _ ((begun ((After-begin-from-After-scaled c))) .plan ((Else1-from-After-scaled c) .if1 .left)) _
-    (run-served (a .saves) (a .sheet .now) (a .area .now) _ _ ((After-room-for-from-After-scaled c) .room-for .ensures) _ _ _ _ _ (advanced ((After-advance-from-After-scaled c))) (c .before .before .if3 .left) (a .loads)
+    (run-served (a .saves) (a .sheet .now) (a .area .now) _ _ ((After-room-for-from-After-scaled c) .room-for .ensures) _ _ _ _ _ (advanced ((After-advance-from-After-scaled c)))
+    (c .before .before .if3 .left) (a .loads)
     ((Else2-from-After-scaled c) .if2 .left) _ (c .before .handed .ensures) _ (c .scaled .ensures))
 
 pub serve-spec : {M : Type 1} → statement M
