@@ -1,42 +1,19 @@
 //! The proved library's C entries (include/screen.h), as safe functions: for desk, for the tests and for bench. All that is unsafe stands here.
 
-mod entry {
-    extern "C" {
-        pub fn screen_run(sheet: *const u8, sheet_len: usize, area: *mut u8, area_len: usize) -> u64;
-        pub fn screen_load(
-            file: *const u8,
-            file_len: usize,
-            sheet: *const u8,
-            sheet_len: usize,
-            area: *mut u8,
-            area_len: usize,
-        ) -> u64;
-        pub fn screen_save(sheet: *const u8, sheet_len: usize, area: *mut u8, area_len: usize) -> u64;
-        pub fn screen_save_on(
-            file: *const u8,
-            file_len: usize,
-            sheet: *const u8,
-            sheet_len: usize,
-            area: *mut u8,
-            area_len: usize,
-        ) -> u64;
-    }
+/// An entry: what it reads, then the area that it writes into. To C each goes as a pointer and a length.
+macro_rules! entry {
+    ($name:ident($($read:ident),*)) => {
+        pub fn $name($($read: &[u8],)* area: &mut [u8]) -> u64 {
+            extern "C" {
+                fn $name($($read: *const u8, _: usize,)* area: *mut u8, _: usize) -> u64;
+            }
+            // The slices are valid for their lengths, and the area overlaps none of the others.
+            unsafe { $name($($read.as_ptr(), $read.len(),)* area.as_mut_ptr(), area.len()) }
+        }
+    };
 }
 
-// In each, the slices are valid for their lengths, and the area overlaps none of the others.
-
-pub fn screen_run(sheet: &[u8], area: &mut [u8]) -> u64 {
-    unsafe { entry::screen_run(sheet.as_ptr(), sheet.len(), area.as_mut_ptr(), area.len()) }
-}
-
-pub fn screen_load(file: &[u8], sheet: &[u8], area: &mut [u8]) -> u64 {
-    unsafe { entry::screen_load(file.as_ptr(), file.len(), sheet.as_ptr(), sheet.len(), area.as_mut_ptr(), area.len()) }
-}
-
-pub fn screen_save(sheet: &[u8], area: &mut [u8]) -> u64 {
-    unsafe { entry::screen_save(sheet.as_ptr(), sheet.len(), area.as_mut_ptr(), area.len()) }
-}
-
-pub fn screen_save_on(file: &[u8], sheet: &[u8], area: &mut [u8]) -> u64 {
-    unsafe { entry::screen_save_on(file.as_ptr(), file.len(), sheet.as_ptr(), sheet.len(), area.as_mut_ptr(), area.len()) }
-}
+entry!(screen_run(sheet));
+entry!(screen_load(file, sheet));
+entry!(screen_save(sheet));
+entry!(screen_save_on(file, sheet));

@@ -5,6 +5,7 @@ ghost use Prim.Native.Nat.{min};
 ghost use mathlib.Core.Path.{_≡_};
 ghost use Rattle.draw.specs.Draw.{measureChecks, ruleChecks, openChecks, measured, ruled, opened, refusedDrawing, measureDecision, ruleDecision, openDecision, drawDecision, Drawn};
 ghost use Rattle.protocol.specs.Calls.{first, no15};
+ghost use Rattle.protocol.specs.Numbering.{ruleOp};
 ghost use Rattle.protocol.specs.Lists.{oneTo};
 ghost use Rattle.rows.specs.Rows.{row};
 ghost use Rattle.rules.specs.Rules.{holdsIn};
@@ -235,11 +236,11 @@ pub fn decide_draw<'a>(
 
 // ---- stored
 
-// A certain call was made and accepted.
-pub fn is_made(op: u32, asked: u32, answer: Answer) -> bool
-    ensures { λ t. ⌜ t ≡ (eqb op asked && isAccepted answer) ⌝ }
+// A rule was drawn.
+fn draws_rule(op: u32, answer: Answer) -> bool
+    ensures { λ t. ⌜ t ≡ (eqb op ruleOp && isAccepted answer) ⌝ }
 {
-    if op == asked {
+    if op == call::RULE {
         return state::accepted(answer);
     }
     false
@@ -274,7 +275,7 @@ pub fn make(
     let value = x.value;
     values[spot] = value;
     let answer = x.answer;
-    note_rule(table, h.rules, is_made(op, call::RULE, answer), a, b, c, d);
+    note_rule(table, h.rules, draws_rule(op, answer), a, b, c, d);
     let next = heads::numbers(x.head);
     *head = next;
     answer

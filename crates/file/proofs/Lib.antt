@@ -8,3 +8,4 @@ pub mod Drawn
 pub mod Round
 pub mod Written
 pub mod Rising
+pub mod Kept

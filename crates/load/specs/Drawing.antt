@@ -47,12 +47,15 @@ pub record Drew (cs : List Call) (k : ℕ) (p q : State) : Type 0 where
   pub sized : Sized (spread q)
   pub long : length (q .table) ≡ 256
 
--- the same of what is lent of a state, whatever the rest of it
-abbrev pub DrewFrom : List Call → ℕ → Head → List ℤ → List ℤ → Head → List ℤ → List ℤ → Type 0
-DrewFrom cs k h values table h′ values′ table′ =
+-- what is promised of a state and the next, of what is lent of them, whatever the rest
+abbrev pub OfLent : (State → State → Type 0) → Head → List ℤ → List ℤ → Head → List ℤ → List ℤ → Type 0
+OfLent Q h values table h′ values′ table′ =
     (base draft : List ℤ) (arrived confirmed : List Bool) (edits : List EditRecord)
     → let p = stateOf h base draft values arrived confirmed table edits in
-    Sized (spread p) → length table ≡ 256 → Drew cs k p (stateOf h′ base draft values′ arrived confirmed table′ edits)
+    Sized (spread p) → length table ≡ 256 → Q p (stateOf h′ base draft values′ arrived confirmed table′ edits)
+
+abbrev pub DrewFrom : List Call → ℕ → Head → List ℤ → List ℤ → Head → List ℤ → List ℤ → Type 0
+DrewFrom cs k = OfLent (Drew cs k)
 
 -- what loading answers, by the refusal's number, 0 for none
 abbrev pub loadAnswer : ℕ → model.Answer
@@ -65,9 +68,5 @@ pub record LoadedAs (s : Stepped) (k : ℕ) (q : State) : Type 0 where
   pub sized : Sized (spread q)
   pub long : length (q .table) ≡ 256
 
--- the same of what is lent of a state, whatever the rest of it
 abbrev pub LoadedFrom : List ℕ → ℕ → Head → List ℤ → List ℤ → Head → List ℤ → List ℤ → Type 0
-LoadedFrom f k h values table h′ values′ table′ =
-    (base draft : List ℤ) (arrived confirmed : List Bool) (edits : List EditRecord)
-    → let p = stateOf h base draft values arrived confirmed table edits in
-    Sized (spread p) → length table ≡ 256 → LoadedAs (load f (view p)) k (stateOf h′ base draft values′ arrived confirmed table′ edits)
+LoadedFrom f k = OfLent (λ p q. LoadedAs (load f (view p)) k q)

@@ -31,7 +31,3 @@ sound-holds p e = cases (is blank (modeOf (p .head .mode)))
     let n = min (p .head .rules) 64 in
     whole-holds p (eqb→eq (modeNumber (modeOf (p .head .mode))) 1 (is-yes w)) (is-yes (holds-is (p .lower) (p .gap) (p .upper) (p .firm) n (row (p .values) 0 (measuresIn (p .head))) ∙ t)))
     (λ w. let t : false ≡ true = rw (b, w) at e in absurd (is-yes t)))
-
--- where it is neither blank nor open, nothing is known
-pub sound-blank : (p : Spread) → soundIn (p .head) (p .lower) (p .gap) (p .upper) (p .values) ≡ true → is whole (modeOf (p .head .mode)) ≡ false → is blank (modeOf (p .head .mode)) ≡ true
-sound-blank p e w = cases (is blank (modeOf (p .head .mode))) (λ b. b) (λ b. let t : false ≡ true = rw (b, w) at e in absurd (is-yes t))

@@ -12,16 +12,15 @@ use lib.ListN.{length, take, drop, length-append, length-take, length-drop, drop
 use Rattle.protocol.specs.Lists.{bit, oneTo}
 use Rattle.protocol.specs.Plan.{Plan}
 use Rattle.protocol.specs.Calls as model
-use Rattle.protocol.specs.Calls.{Call, Verdict, fine, refused, first, no, ok, Stepped, following, end, start}
+use Rattle.protocol.specs.Calls.{Call, Verdict, fine, refused, first, no, ok, Stepped, following, start}
 use Rattle.protocol.proofs.Laws.{cases, range, bit-most}
 use Rattle.format.specs.Lines.{lineFeed, lines, grow}
 use Rattle.format.specs.Sheets.{text, lineStep, answerLines, leaves, fitted, inFront, replies, Screened, screen}
 use Rattle.format.specs.Longest.{longestAnswer}
 use Rattle.format.proofs.Longest.{Narrow, short, narrow-step, narrow-line, longest}
 use Rattle.file.specs.Saved.{saved, save, saveInto, saveBy, saveChecks, filledBy}
-use Rattle.file.specs.Loaded.{nextLimit, nextNumber, readChecks, drawing, firstRefusal, loadVerdict, loadBy, load}
-use Rattle.file.proofs.Drawn.{both-fine}
-use Rattle.file.proofs.Rising.{number-in}
+use Rattle.file.specs.Loaded.{nextLimit, renumbered}
+use Rattle.file.proofs.Kept.{load-keeps}
 use Rattle.state.specs.declared.State.{State}
 use Rattle.state.specs.Spread.{spread}
 use Rattle.state.specs.Sizes.{Sized}
@@ -77,56 +76,30 @@ number-small room p sheet g h written e ended n k =
     bounded : (w m : ℕ) → w ≤ 387 * m → m ≤ 65536 → w ≤ 387 * 65536
     bounded w m x y = omega arith
 
--- ---- the plan that an entry begins on is narrow
+-- ---- the plan that an entry begins on is narrow: what calls and another next number keep holds in it
 
-narrow-end : (cs : List Call) (p : Plan) → Narrow (p .content) → Narrow (end cs p .content)
-narrow-end [] p g = g
-narrow-end (c ∷ cs) p g = narrow-end cs (following p c) (narrow-step c p g)
+begun-keeps : (P : Plan → Type 0) → ((c : Call) (p : Plan) → P p → P (following p c)) → ((n : ℕ) (p : Plan) → T (oneTo nextLimit n) → P p → P (renumbered n p)) → P start
+    → (loads : Bool) (file : List ℕ) → P (begunAs loads file .plan)
+begun-keeps P by-call by-number g true file = load-keeps P by-call by-number file start g
+begun-keeps P by-call by-number g false file = g
 
-narrow-load : (f : List ℕ) (p : Plan) → Narrow (p .content) → Narrow (load f p .plan .content)
-unfolding load
-narrow-load f p g = by (loadVerdict f p) (λ e. number-in f p (both-fine (first (readChecks f p)) (firstRefusal (drawing f) p) e .0))
-  where
-    by : (v : Verdict) → (v ≡ fine → T (oneTo nextLimit (nextNumber f))) → Narrow (loadBy v f p .plan .content)
-    by fine k =
-        let n = narrow-end (drawing f) p g in
-        let r = range nextLimit (nextNumber f) (k refl) in
-        record {
-          rules = n .rules;
-          next = short (pos (nextNumber f)) (omega (arith, r .1));
-          base = n .base;
-          draft = n .draft;
-          sides = n .sides;
-          values = n .values;
-          kept = n .kept;
-          places = n .places;
-        }
-    by (refused k) e = g
+narrow-begun : (loads : Bool) (file : List ℕ) → Narrow (begunAs loads file .plan .content)
+narrow-begun = begun-keeps (λ p. Narrow (p .content)) narrow-step
+    (λ n p t g. let r = range nextLimit n t in record {
+      rules = g .rules;
+      next = short (pos n) (omega (arith, r .1));
+      base = g .base;
+      draft = g .draft;
+      sides = g .sides;
+      values = g .values;
+      kept = g .kept;
+      places = g .places;
+    })
+    (record { rules = omega arith; next = short (pos 1) (omega arith); base = tt; draft = tt; sides = omega arith; values = tt; kept = omega arith; places = tt })
 
-narrow-start : Narrow (start .content)
-narrow-start = record { rules = omega arith; next = short (pos 1) (omega arith); base = tt; draft = tt; sides = omega arith; values = tt; kept = omega arith; places = tt }
-
-pub narrow-begun : (loads : Bool) (file : List ℕ) → Narrow (begunAs loads file .plan .content)
-narrow-begun true file = narrow-load file start narrow-start
-narrow-begun false file = narrow-start
-
--- ---- and every rule holds in it
-
-holding-end : (cs : List Call) (p : Plan) → Holding (p .mode) (p .content) → Holding (end cs p .mode) (end cs p .content)
-holding-end [] p g = g
-holding-end (c ∷ cs) p g = holding-end cs (following p c) (holding-step c p g)
-
-holding-load : (f : List ℕ) (p : Plan) → Holding (p .mode) (p .content) → Holding (load f p .plan .mode) (load f p .plan .content)
-unfolding load
-holding-load f p g = by (loadVerdict f p)
-  where
-    by : (v : Verdict) → Holding (loadBy v f p .plan .mode) (loadBy v f p .plan .content)
-    by fine = let n = holding-end (drawing f) p g in record { alone = n .alone; sides = n .sides; base = n .base; draft = n .draft }
-    by (refused k) = g
-
+-- and every rule holds in it
 holding-begun : (loads : Bool) (file : List ℕ) → Holding (begunAs loads file .plan .mode) (begunAs loads file .plan .content)
-holding-begun true file = holding-load file start holding-start
-holding-begun false file = holding-start
+holding-begun = begun-keeps (λ p. Holding (p .mode) (p .content)) holding-step (λ n p t g. record { alone = g .alone; sides = g .sides; base = g .base; draft = g .draft }) holding-start
 
 -- ---- a blank state, and what is begun from it
 

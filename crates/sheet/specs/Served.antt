@@ -1,6 +1,5 @@
 -- Scaffolding: all entries as one, by whether a file is loaded first and whether the plan is saved. Assumes nothing.
 use Prim.Native.Nat.{ℕ, _*_}
-use mathlib.Core.Path.{_≡_}
 use mathlib.Core.Bool.{Bool, cond}
 use mathlib.Core.List.{List, [], _∷_}
 use lib.IntN.{ℤ}
@@ -10,11 +9,8 @@ use Rattle.protocol.specs.Calls.{no, ok, Stepped, start}
 use Rattle.format.specs.Sheets.{text, fitted, Screened, screened, screen}
 use Rattle.file.specs.Loaded.{load}
 use Rattle.heads.specs.declared.Head.{Head}
-use Rattle.records.specs.declared.EditRecord.{EditRecord}
-use Rattle.state.specs.Spread.{spread}
-use Rattle.state.specs.Sizes.{Sized}
-use Rattle.state.specs.View.{view, stateOf}
-use Rattle.load.specs.Drawing.{LoadedAs}
+use Rattle.state.specs.View.{view}
+use Rattle.load.specs.Drawing.{OfLent, LoadedAs}
 use Rattle.state.specs.declared.Answer.{Answer}
 use Rattle.state.specs.declared.Answer.the-variants.{Refused, Given}
 use Rattle.sheet.specs.Entries.{refusedWith, onLoaded, saveFrom}
@@ -28,10 +24,7 @@ begunAs loads file = begunOn loads file start
 
 -- begun by the program on what is lent of a state, whatever the rest of it; k is the refusal's number, or 0
 abbrev pub BegunFrom : Bool → List ℕ → ℕ → Head → List ℤ → List ℤ → Head → List ℤ → List ℤ → Type 0
-BegunFrom loads file k h values table h′ values′ table′ =
-    (base draft : List ℤ) (arrived confirmed : List Bool) (edits : List EditRecord)
-    → let p = stateOf h base draft values arrived confirmed table edits in
-    Sized (spread p) → length table ≡ 256 → LoadedAs (begunOn loads file (view p)) k (stateOf h′ base draft values′ arrived confirmed table′ edits)
+BegunFrom loads file k = OfLent (λ p q. LoadedAs (begunOn loads file (view p)) k q)
 
 -- the number of an entry that saves, from the answer of the call
 abbrev pub entryNumber : Answer → ℕ

@@ -38,7 +38,7 @@ const FILES_TO_MEET_ALL: u64 = 2_000;
 /// One list with a book of so many begins on a loaded plan, the first among them.
 const LISTS_TO_A_LOADED: u64 = 4;
 
-const FAILURES_SHOWN: usize = 5;
+const FAILURES_SHOWN: u64 = 5;
 
 const COUNTER_SHEETS: u64 = 300;
 
@@ -49,6 +49,39 @@ fn argument(index: usize, default: u64) -> u64 {
             eprintln!("differential: not a number: {text}");
             std::process::exit(2)
         }),
+    }
+}
+
+/// How many tests passed and failed.
+#[derive(Default)]
+struct Verdict {
+    passed: u64,
+    failed: u64,
+}
+
+impl Verdict {
+    fn note(&mut self, good: bool) {
+        if good {
+            self.passed += 1;
+        } else {
+            self.failed += 1;
+        }
+    }
+
+    /// Whether something was met as expected; only a run that is long enough has to meet it.
+    fn met(&mut self, long: bool, what: &str, count: u64, expected: bool) {
+        let good = (count > 0) == expected;
+        if !good && (count > 0 || long) {
+            println!("{what}: met {count} times");
+        }
+        if good || count > 0 || long {
+            self.note(good);
+        }
+    }
+
+    fn add(&mut self, other: Verdict) {
+        self.passed += other.passed;
+        self.failed += other.failed;
     }
 }
 
@@ -63,24 +96,38 @@ fn main() -> ExitCode {
     };
     println!("seed {seed}, {lines} lines, {lists} lists, {files} files");
     watched::begin(seed);
-    let mut passed = 0u64;
-    let mut failed = 0u64;
+    let mut verdict = random_sheets(seed, lines);
+    if lists > 0 {
+        verdict.add(books(seed, lists));
+    }
+    verdict.add(counter_sheets(seed, &program));
+    if files > 0 {
+        verdict.add(saved_plans(seed, files));
+    }
+    println!("{} passed, {} failed", verdict.passed, verdict.failed);
+    if verdict.failed == 0 && verdict.passed > 0 {
+        ExitCode::SUCCESS
+    } else {
+        ExitCode::FAILURE
+    }
+}
 
+/// Random sheets on a blank plan, each with areas of several lengths.
+fn random_sheets(seed: u64, lines: u64) -> Verdict {
+    let mut verdict = Verdict::default();
     let mut counts = Counts::new();
     let mut areas = Areas::new();
     let mut index = 0;
-    while counts.lines < lines && failed < FAILURES_SHOWN as u64 {
+    while counts.lines < lines && verdict.failed < FAILURES_SHOWN {
         watched::case(&format!("sheet {index}"));
         let mut random = Random::item(seed, index);
         // A block of exactly its length, so that a memory checker sees a read behind the end.
         let sheet = sheets::sheet(&mut random).into_boxed_slice();
-        match areas.compare(&mut random, &sheet, &mut counts) {
-            Ok(()) => passed += 1,
-            Err((length, what)) => {
-                failed += 1;
-                println!("sheet {index}, area of {length} bytes: {what}");
-                show(None, &shrink(&sheet));
-            }
+        let compared = areas.compare(&mut random, &sheet, &mut counts);
+        verdict.note(compared.is_ok());
+        if let Err((length, what)) = compared {
+            println!("sheet {index}, area of {length} bytes: {what}");
+            show(None, &shrink(&sheet));
         }
         index += 1;
     }
@@ -96,63 +143,38 @@ fn main() -> ExitCode {
         }
     }
     println!();
-    let mut met = |what: &str, count: u64, expected: bool| {
-        if (count > 0) == expected {
-            passed += 1;
-        } else if count > 0 || lines >= LINES_TO_MEET_ALL {
-            failed += 1;
-            println!("{what}: met {count} times");
-        }
-    };
+    let long = lines >= LINES_TO_MEET_ALL;
     for (call, (_, name, _)) in NAMES.iter().enumerate() {
-        met(name, counts.accepted[call], true);
+        verdict.met(long, name, counts.accepted[call], true);
     }
     for (refusal, &count) in counts.refused.iter().enumerate() {
-        met(&format!("refusal {refusal}"), count, REFUSALS.contains(&refusal));
+        verdict.met(long, &format!("refusal {refusal}"), count, REFUSALS.contains(&refusal));
     }
+    verdict
+}
 
-    if lists > 0 {
-        let (good, bad) = books(seed, lists);
-        passed += good;
-        failed += bad;
-    }
-
-    let mut broken = 0;
+/// The counter program on some of the random sheets.
+fn counter_sheets(seed: u64, program: &str) -> Verdict {
+    let mut verdict = Verdict::default();
     for index in 0..COUNTER_SHEETS {
         let mut random = Random::item(seed, index);
         let sheet = sheets::sheet(&mut random);
-        match counter::check(&program, &mut random, &sheet) {
-            Ok(()) => passed += 1,
-            Err(what) => {
-                failed += 1;
-                broken += 1;
-                println!("sheet {index}: {what}");
-                if broken == FAILURES_SHOWN {
-                    break;
-                }
+        let checked = counter::check(program, &mut random, &sheet);
+        verdict.note(checked.is_ok());
+        if let Err(what) = checked {
+            println!("sheet {index}: {what}");
+            if verdict.failed == FAILURES_SHOWN {
+                break;
             }
         }
     }
     println!("counter program run on {COUNTER_SHEETS} sheets");
-
-    if files > 0 {
-        let (good, bad) = saved_plans(seed, files);
-        passed += good;
-        failed += bad;
-    }
-
-    println!("{passed} passed, {failed} failed");
-    if failed == 0 && passed > 0 {
-        ExitCode::SUCCESS
-    } else {
-        ExitCode::FAILURE
-    }
+    verdict
 }
 
-/// Lists with a book, on a blank plan and on loaded ones. Gives how many passed and failed.
-fn books(seed: u64, lists: u64) -> (u64, u64) {
-    let mut passed = 0;
-    let mut failed = 0;
+/// Lists with a book, on a blank plan and on loaded ones.
+fn books(seed: u64, lists: u64) -> Verdict {
+    let mut verdict = Verdict::default();
     let mut blank = Tally::default();
     let mut loaded = Tally::default();
     for index in 0..lists {
@@ -160,15 +182,13 @@ fn books(seed: u64, lists: u64) -> (u64, u64) {
         let is_loaded = index % LISTS_TO_A_LOADED == 0;
         let tally = if is_loaded { &mut loaded } else { &mut blank };
         let mut random = Random::item(!seed, index);
-        match book::check(&mut random, is_loaded, tally) {
-            Ok(()) => passed += 1,
-            Err((list, what)) => {
-                failed += 1;
-                println!("list {index}: {what}");
-                show(list.file.as_deref(), &list.sheet);
-                if failed == FAILURES_SHOWN as u64 {
-                    break;
-                }
+        let checked = book::check(&mut random, is_loaded, tally);
+        verdict.note(checked.is_ok());
+        if let Err((list, what)) = checked {
+            println!("list {index}: {what}");
+            show(list.file.as_deref(), &list.sheet);
+            if verdict.failed == FAILURES_SHOWN {
+                break;
             }
         }
     }
@@ -178,14 +198,7 @@ fn books(seed: u64, lists: u64) -> (u64, u64) {
             tally.lists, tally.moves, tally.late, tally.revoked, tally.used_up, tally.installs, tally.prefixes
         );
     }
-    let mut met = |what: &str, count: u64, expected: bool| {
-        if (count > 0) == expected {
-            passed += 1;
-        } else if count > 0 || lists >= LISTS_TO_MEET_ALL {
-            failed += 1;
-            println!("{what}: met {count} times");
-        }
-    };
+    let long = lists >= LISTS_TO_MEET_ALL;
     for (what, count) in [
         ("late edits", loaded.late),
         ("revoked edits", loaded.revoked),
@@ -193,34 +206,26 @@ fn books(seed: u64, lists: u64) -> (u64, u64) {
         ("installs", loaded.installs),
         ("closing moves tried", loaded.prefixes),
     ] {
-        met(&format!("{what} on a loaded plan"), count, true);
+        verdict.met(long, &format!("{what} on a loaded plan"), count, true);
     }
-    met("edits refused as 30 on a blank plan", blank.used_up, false);
+    verdict.met(long, "edits refused as 30 on a blank plan", blank.used_up, false);
     // However few the lists: 02, S-1, "Demand 3 covers loaded plans too".
-    if loaded.lists > 0 {
-        passed += 1;
-    } else {
-        failed += 1;
-        println!("no list with a book on a loaded plan");
-    }
-    (passed, failed)
+    verdict.met(true, "lists with a book on a loaded plan", loaded.lists, true);
+    verdict
 }
 
-/// Files and sheets around saved plans: those of every run, then random ones. Gives how many passed and failed.
-fn saved_plans(seed: u64, files: u64) -> (u64, u64) {
+/// Files and sheets around saved plans: those of every run, then random ones.
+fn saved_plans(seed: u64, files: u64) -> Verdict {
     let mut check = Check::new();
-    let mut passed = 0;
-    let mut failed = 0;
+    let mut verdict = Verdict::default();
     let mut told = |name: &str, make: &mut dyn FnMut(&mut Check) -> Result<(), Difference>| {
         watched::case(name);
-        match make(&mut check) {
-            Ok(()) => passed += 1,
-            Err(difference) => {
-                failed += 1;
-                if failed <= FAILURES_SHOWN as u64 {
-                    println!("{name}: {}", difference.what);
-                    show_file(&difference);
-                }
+        let made = make(&mut check);
+        verdict.note(made.is_ok());
+        if let Err(difference) = made {
+            if verdict.failed <= FAILURES_SHOWN {
+                println!("{name}: {}", difference.what);
+                show_file(&difference);
             }
         }
     };
@@ -243,23 +248,16 @@ fn saved_plans(seed: u64, files: u64) -> (u64, u64) {
         "{} lines answered on loaded plans, {} of them refused as 30, {} sheets too long; {} runs ended",
         counts.lines, counts.used_up, counts.too_long, counts.ended
     );
-    let mut met = |what: &str, count: u64, expected: bool| {
-        if (count > 0) == expected {
-            passed += 1;
-        } else if count > 0 || files >= FILES_TO_MEET_ALL {
-            failed += 1;
-            println!("{what}: met {count} times");
-        }
-    };
+    let long = files >= FILES_TO_MEET_ALL;
     for ((_, name, refusals), (accepted, refused)) in ENTRIES.iter().zip(counts.accepted.iter().zip(&counts.refused)) {
         print!("{name}: accepted {accepted}, refused");
         for refusal in *refusals {
             print!(" {refusal}: {}", refused[*refusal]);
         }
         println!();
-        met(name, *accepted, true);
+        verdict.met(long, name, *accepted, true);
         for (refusal, &count) in refused.iter().enumerate() {
-            met(&format!("{name}, refusal {refusal}"), count, refusals.contains(&refusal));
+            verdict.met(long, &format!("{name}, refusal {refusal}"), count, refusals.contains(&refusal));
         }
     }
     for (what, count) in [
@@ -268,9 +266,9 @@ fn saved_plans(seed: u64, files: u64) -> (u64, u64) {
         ("runs that ended", counts.ended),
         ("round trips", counts.round_trips),
     ] {
-        met(what, count, true);
+        verdict.met(long, what, count, true);
     }
-    (passed, failed)
+    verdict
 }
 
 /// Prints a file by its slots, and the start of the sheet.

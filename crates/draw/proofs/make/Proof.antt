@@ -14,7 +14,7 @@ use Rattle.draw.proofs.make.Tie as tie
 use Rattle.draw.proofs.make.Reads as reads
 use Rattle.draw.proofs.make.Lts as lts
 use Rattle.draw.proofs.decide_draw.Reads as decide-draw-reads
-use Rattle.draw.proofs.is_made.Reads as is-made-reads
+use Rattle.draw.proofs.draws_rule.Reads as draws-rule-reads
 use Rattle.draw.proofs.note_rule.Reads as note-rule-reads
 use Rattle.heads.proofs.from_numbers.Reads as from-numbers-reads
 use Rattle.heads.proofs.numbers.Reads as numbers-reads
@@ -35,8 +35,8 @@ mul-value c = search needs
 element-set-from-value : tie.Need-element-set-from-value
 element-set-from-value c = search needs
 
-is-made-requires : tie.Need-is-made-requires
-is-made-requires c κs = search needs
+draws-rule-requires : tie.Need-draws-rule-requires
+draws-rule-requires c κs = search needs
 
 note-rule-requires : tie.Need-note-rule-requires
 note-rule-requires c κs = search needs
@@ -59,7 +59,7 @@ returns c =
     (λ j. drawDecision (a .op) (to-a j) (to-b j) (to-c j) (to-d j) h (lowers (a .table .now)) (gaps (a .table .now)) (uppers (a .table .now)) (a .values .now)))
     (c .before .before .before .before .before .before .before .before .capped .ensures)
     (toZ-ofZ (fits32 (x .value) ((c .before .before .before .before .struct-told .given .1 .0 .1))))
-    ((c .before .note-rule .ensures) ∙ (λ j. cond ((c .before .before .is-made .ensures) j) (withRule (a .table .now) (min (h .rules) 63) (to-a j) (to-b j) (to-c j) (to-d j)) (a .table .now)))
+    ((c .before .note-rule .ensures) ∙ (λ j. cond ((c .before .before .draws-rule .ensures) j) (withRule (a .table .now) (min (h .rules) 63) (to-a j) (to-b j) (to-c j) (to-d j)) (a .table .now)))
     (ap headFrom (c .numbers .ensures) ∙ head-numbers (x .head))
 
 pub make-spec : {M : Type 1} → statement M
@@ -71,7 +71,7 @@ make-spec =
     decide-draw-requires
     mul-value
     element-set-from-value
-    is-made-requires
+    draws-rule-requires
     note-rule-requires
     numbers-requires
     returns)

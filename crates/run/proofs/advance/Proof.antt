@@ -6,7 +6,7 @@ use Rattle.protocol.specs.Plan.{is}
 use Rattle.calls.proofs.looking.Reads as looking-reads
 use Rattle.heads.proofs.from_numbers.Reads as from-numbers-reads
 use Rattle.heads.proofs.numbers.Reads as numbers-reads
-use Prim.Native.Nat.{ℕ, _+_, _*_, _-_, _<_, _≤_}
+use Prim.Native.Nat.{ℕ, _+_, _-_, _<_, _≤_}
 use native.Mathlib.Omega.{arith}
 use mathlib.Core.Path.{_≡_, refl, sym, ap, _∙_, subst}
 use mathlib.Core.Bool.{Bool, true, false, not, cond}
@@ -417,17 +417,8 @@ kept-full c = search needs
 abbrev state-at : tie.At-loop Inv-loop2 μ-loop2 Inv-loop μ-loop → State
 state-at c = stateOf (headFrom (c .loop .head)) (c .loop .base) (c .loop .draft) (c .loop .values) (c .loop .arrived) (c .loop .confirmed) (c .loop .table) (c .loop .edits)
 
-le-trans : {a b c : ℕ} → a ≤ b → b ≤ c → a ≤ c
-le-trans h k = omega (arith, h, k)
-
 le-same : {a b n : ℕ} → a ≤ b → n ≡ b → a ≤ n
 le-same h e = omega (arith, h, e)
-
-le-sum : {a b : ℕ} → a ≤ 224 → b ≤ 32 → a + b ≤ 256
-le-sum h k = omega (arith, h, k)
-
-le-four : {a : ℕ} → a ≤ 224 → a * 4 ≤ 896
-le-four h = omega (arith, h)
 
 le-more : (a b : ℕ) → a ≤ a + b
 le-more a b = omega arith
