@@ -8,9 +8,10 @@ use lib.Dec.{T, eqb, eqb→eq, ltb→lt, nltb→le}
 use lib.IntN.{ℤ, pos}
 use lib.ListN.{length}
 use Rattle.protocol.specs.Lists.{oneTo, neg, within, natural, all, snoc, modify}
-use Rattle.protocol.specs.Plan.{measureLimit, ruleLimit, gapLimit, numberLimit, Rule, Change, Mode, blank, whole, split, joining, closing, is, active, Content, inRange, value, applied, made, fits, effective, absentSide, sideAt, lookup}
+use Rattle.protocol.specs.Plan.{measureLimit, ruleLimit, gapLimit, numberLimit, Rule, Change, Mode, blank, whole, split, joining, closing, is, active, Content, inRange, value, applied, made, fits, absentSide, sideAt, lookup}
 use Rattle.protocol.specs.Calls.{Call, measure, rule, open-plan, split-side, edit, join, send, replay, stop, confirm, install, show, fate-of, left, firstValues, checks, further, changeOf, ruleOf, freshSide, reset, onValues, hasArrived, hasConfirmed, replayable, after}
 use Rattle.protocol.proofs.Laws.{cases, is-yes, both, and-in, which, or-right, or-left, range, in-range, same-yes, same-no, Pass, length-snoc, length-modify, all-nth, all-snoc, all-map, all-modify, all-kept, all-one, nth-same}
+use Rattle.protocol.proofs.Replays.{accepted-fits}
 use Rattle.guarantee.specs.Holding.{Holding}
 use Rattle.guarantee.proofs.Holding.{only, plan}
 use Rattle.file.specs.Loaded.{nextLimit}
@@ -76,10 +77,9 @@ pub first-length : (n : ℕ) (d : Content) → length (d .sides) ≡ 1 → T (al
 first-length n d one t = eqb→eq (length (firstValues d)) n (both (eqb (length (firstValues d)) n) (all inRange (firstValues d)) (side-fit n d 1 t (omega arith) (omega arith)) .0)
 
 replayable-fit : (n : ℕ) (d : Content) (k : ℕ) → T (fit n (d .draft)) → T (replayable d k) → T (fit n (made (lookup k (d .kept) .edit .measure) (lookup k (d .kept) .edit .change) (d .draft)))
-unfolding replayable effective
 replayable-fit n d k t u =
     let e = lookup k (d .kept) .edit in
-    fit-made n (e .measure) (e .change) (d .draft) t (both (fits (e .measure) (e .change) (d .draft)) _ u .0)
+    fit-made n (e .measure) (e .change) (d .draft) t (accepted-fits d k u)
 
 -- ---- by call
 

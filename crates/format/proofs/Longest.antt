@@ -12,9 +12,10 @@ use lib.ListN.{length, length-append, length-map}
 use lib.Signed.{mag}
 use Rattle.protocol.specs.Lists.{bit, natural, within, all, any, snoc, nth}
 use Rattle.protocol.specs.Plan as plan
-use Rattle.protocol.specs.Plan.{measureLimit, valueLimit, ruleLimit, sideLimit, keptLimit, numberLimit, Kept, Side, Mode, Content, Plan, whole, is, inRange, isSettled, isOpen, applied, made, fits, effective, value, absentSide, sideAt, lookup, fateNumber}
+use Rattle.protocol.specs.Plan.{measureLimit, valueLimit, ruleLimit, sideLimit, keptLimit, numberLimit, Kept, Side, Mode, Content, Plan, whole, is, inRange, isSettled, isOpen, applied, made, fits, value, absentSide, sideAt, lookup, fateNumber}
 use Rattle.protocol.specs.Calls.{Call, measure, rule, open-plan, split-side, edit, join, send, replay, stop, confirm, install, show, fate-of, left, Verdict, fine, refused, first, checks, further, changeOf, editOf, ruleOf, apart, firstValues, reset, onValues, hasArrived, hasConfirmed, freshSide, markSent, outcome, update, nextPlace, replayable, after, gives, leftIn, leftOf, fateIn, refusals, no, ok, stepBy, step}
 use Rattle.protocol.proofs.Laws.{cases, yes-is, is-yes, both, and-in, Fine, Pass, passed, length-snoc, length-modify, all-snoc, all-map, all-modify, all-kept, count-to-most, count-most}
+use Rattle.protocol.proofs.Replays.{accepted-fits}
 use Rattle.protocol.proofs.Refusals.{AnswerAgreed, answer-agreed}
 use Rattle.format.specs.Numbers.{digits, written}
 use Rattle.format.specs.Lines.{lineCall}
@@ -113,10 +114,6 @@ side-row d s g = nth-all isSideRow absentSide (d .sides) s tt (g .values)
 mark-sent-place : (s : ℕ) (k : Kept) → shortPlace (markSent s k) ≡ shortPlace k
 mark-sent-place s k = cases (plan.isUnsent k && eqb (k .edit .side) s) (λ e. rw e) (λ e. rw e)
 
-replayable-fits : (d : Content) (n : ℕ) → T (replayable d n) → T (fits (lookup n (d .kept) .edit .measure) (lookup n (d .kept) .edit .change) (d .draft))
-unfolding replayable effective
-replayable-fits d n t = both (fits (lookup n (d .kept) .edit .measure) (lookup n (d .kept) .edit .change) (d .draft)) _ t .0
-
 -- ---- every call keeps a plan narrow
 
 narrow-after : (c : Call) (m : Mode) (d : Content) → Narrow d → Pass (checks c (record { mode = m; content = d })) → Narrow (after c m d .content)
@@ -203,7 +200,7 @@ narrow-after (replay n) m d g k = record {
   rules = g .rules;
   next = g .next;
   base = g .base;
-  draft = cases (replayable d (natural n)) (λ e. rw e (row-made (d .draft) (x .measure) (x .change) (g .draft) (replayable-fits d (natural n) (is-yes e)))) (λ e. rw e (g .draft));
+  draft = cases (replayable d (natural n)) (λ e. rw e (row-made (d .draft) (x .measure) (x .change) (g .draft) (accepted-fits d (natural n) (is-yes e)))) (λ e. rw e (g .draft));
   sides = g .sides;
   values = g .values;
   kept = rw (length-update (natural n) _ (d .kept)) (g .kept);

@@ -15,10 +15,11 @@ use Rattle.protocol.specs.Calls.{Call, measure, rule, open-plan, split-side, ed
 use Rattle.protocol.specs.History.{Entry, edited, History, lastSent, closed, budget, times, replayed, EachHolds, entered}
 use Rattle.guarantee.specs.Guarantee.{InOrder}
 use Rattle.protocol.proofs.Laws.{on, decide, cases, yes-is, is-yes, is-no, both, and-in, which, or-right, or-left, not-not, range, in-range, same-no, Pass, count-to-zero, count-map, count-snoc, length-snoc, length-modify, nth-same, nth-other, all-snoc}
+use Rattle.protocol.proofs.Replays.{accepted-holds}
 use Rattle.guarantee.proofs.Kept.{editsOf, editsIn, edits-snoc, edits-sent, edits-settle, edit-found, settle-part, lookup-same, lookup-other, lookup-number, lookup-new, lookup-old, lookup-sent, open-sent, unsent-sent, unsent-other, Within, within-snoc, within-lookup, Rising, rising-le, rising-snoc, bounds, Named, named-sent, named-settle, named-snoc, Reported, reported-snoc, reported-sent, reported-settle, fresh-open, settled-count}
 use Rattle.guarantee.proofs.Left.{unarrived, unconfirmed, sum, sendTo, pending-sent, pending-others, send-sum, settled-shut, unsent-settled, settled-settled, replayTo, replay-sum, stop-sum, confirmTo, arrived-confirmed, confirm-sum, newKept, editTo, pending-edited, arrived-edited, confirmed-edited, pending-not-edited, edit-sum, joinTo, side-joined, join-sum}
 use Rattle.guarantee.specs.Holding.{Holding}
-use Rattle.guarantee.proofs.Holding.{only, plan, replayable-holds}
+use Rattle.guarantee.proofs.Holding.{only, plan}
 
 -- ---- the invariant
 
@@ -186,7 +187,7 @@ module _ (m : Mode) (d : Content) (h : History) (t : Parted d h) (a : Active m d
           logged = λ x. logged-settle x;
           progress = record {
             draft = rw (ow, found, ← (a .progress .draft));
-            each = (rw (ow, found, ← (a .progress .draft), ← rules) (cases w (λ e. rw e (replayable-holds d n (is-yes e))) (λ e. rw e tt)), a .progress .each);
+            each = (rw (ow, found, ← (a .progress .draft), ← rules) (cases w (λ e. rw e (accepted-holds d n (is-yes e))) (λ e. rw e tt)), a .progress .each);
             places = let y = a .progress .places in omega arith;
           };
         },

@@ -6,10 +6,11 @@ use native.Mathlib.Omega.{arith}
 use lib.ListN.{length}
 use lib.Dec.{T, eqb→eq}
 use Rattle.protocol.specs.Lists.{oneTo, natural, all, snoc}
-use Rattle.protocol.specs.Plan.{Side, Mode, blank, whole, split, joining, closing, modeNumber, is, Content, Plan, holds, made, fits, effective, absentSide, sideAt, lookup}
+use Rattle.protocol.specs.Plan.{Side, Mode, blank, whole, split, joining, closing, modeNumber, is, Content, Plan, holds, made, absentSide, sideAt}
 use Rattle.protocol.specs.Calls.{Call, measure, rule, open-plan, split-side, edit, join, send, replay, stop, confirm, install, show, fate-of, left, Verdict, fine, refused, first, checks, further, changeOf, freshSide, reset, onValues, hasArrived, hasConfirmed, replayable, after, Stepped, stepBy, step, start}
 use Rattle.guarantee.specs.Holding.{Holding}
-use Rattle.protocol.proofs.Laws.{cases, is-yes, both, and-in, which, or-right, or-left, range, Fine, Pass, passed, length-modify, all-nth, all-snoc, all-map, all-modify, all-kept, all-one}
+use Rattle.protocol.proofs.Laws.{cases, is-yes, and-in, which, or-right, or-left, range, Fine, Pass, passed, length-modify, all-nth, all-snoc, all-map, all-modify, all-kept, all-one}
+use Rattle.protocol.proofs.Replays.{accepted-holds}
 
 -- ---- the mode that a test found
 
@@ -50,12 +51,7 @@ stepped P c p f g = by (first (checks c p)) (λ k. passed (checks c p) k)
 abbrev keepsRules : Content → Side → Bool
 keepsRules d x = holds (d .rules) (x .values)
 
--- every rule holds after a change that takes effect
-pub replayable-holds : (d : Content) (n : ℕ) → T (replayable d n) → T (holds (d .rules) (made (lookup n (d .kept) .edit .measure) (lookup n (d .kept) .edit .change) (d .draft)))
-unfolding replayable effective
-replayable-holds d n t = both (fits (lookup n (d .kept) .edit .measure) (lookup n (d .kept) .edit .change) (d .draft)) _ t .1
-
--- and on a new side, which has the values of an old one
+-- they hold on a new side, which has the values of an old one
 split-holds : (d : Content) (s : ℕ) → T (oneTo (length (d .sides)) s) → T (all (keepsRules d) (d .sides)) → T (all (keepsRules d) (snoc (d .sides) (freshSide (sideAt d s .values))))
 split-holds d s has hold =
     let i = range (length (d .sides)) s has in
@@ -109,7 +105,7 @@ holding-after (replay n) m d g k = record {
   alone = g .alone;
   sides = g .sides;
   base = g .base;
-  draft = λ w. cases (replayable d (natural n)) (λ e. rw e (replayable-holds d (natural n) (is-yes e))) (λ e. rw e (g .draft w));
+  draft = λ w. cases (replayable d (natural n)) (λ e. rw e (accepted-holds d (natural n) (is-yes e))) (λ e. rw e (g .draft w));
 }
 holding-after stop m d g k =
     let g′ : Holding joining d = rw (only joining m (k .0)) at g in
