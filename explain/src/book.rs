@@ -21,11 +21,21 @@ pub enum Fate {
     Revoked,
 }
 
+/// What was in the way of an edit that was revoked.
+#[derive(Clone, PartialEq, Eq, Debug)]
+pub enum Against {
+    /// The edit that it builds on, revoked before it (02, S-2).
+    Earlier(i64),
+    Range,
+    /// These rules.
+    Rules(Vec<i64>),
+}
+
 pub struct Kept {
     pub edit: Edit,
     pub fate: Fate,
-    /// The rules in the way when it was revoked; none if the result was out of range.
-    pub against: Vec<i64>,
+    /// Of a revoked edit, where the book knows it.
+    pub against: Option<Against>,
 }
 
 impl Kept {
@@ -117,7 +127,7 @@ impl Book {
             Call::Edit(edit) => {
                 make(&mut self.side(edit.side).values, &edit);
                 if self.mode != Mode::Whole {
-                    self.edits.insert(given[0], Kept { edit, fate: Fate::Unsent, against: Vec::new() });
+                    self.edits.insert(given[0], Kept { edit, fate: Fate::Unsent, against: None });
                 }
             }
             Call::Join => {
@@ -147,12 +157,29 @@ impl Book {
         let edit = kept.edit;
         let (fate, against) = if accepted {
             make(&mut self.draft, &edit);
-            (Fate::Accepted, Vec::new())
+            (Fate::Accepted, None)
         } else {
-            let trial = self.tried(&self.draft, &edit).filter(|trial| trial.fits);
-            (Fate::Revoked, trial.map_or(Vec::new(), |trial| trial.broken.iter().map(|broken| broken.rule).collect()))
+            (Fate::Revoked, self.against(&edit))
         };
         self.edits.insert(number, Kept { edit, fate, against });
+    }
+
+    pub fn is_revoked(&self, number: i64) -> bool {
+        self.edits.get(&number).is_some_and(|kept| kept.fate == Fate::Revoked)
+    }
+
+    /// What is in the way of an edit on the joined plan as it is now, for one that was revoked. None if nothing is.
+    pub fn against(&self, edit: &Edit) -> Option<Against> {
+        if self.is_revoked(edit.earlier) {
+            return Some(Against::Earlier(edit.earlier));
+        }
+        let trial = self.tried(&self.draft, edit)?;
+        let rules: Vec<i64> = trial.broken.iter().map(|broken| broken.rule).collect();
+        match (trial.fits, rules.is_empty()) {
+            (false, _) => Some(Against::Range),
+            (true, false) => Some(Against::Rules(rules)),
+            (true, true) => None,
+        }
     }
 
     /// A side that an accepted line names.

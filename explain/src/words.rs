@@ -1,14 +1,14 @@
 //! The words for each line, made from its answer and from the book as it was before the line.
 
-use crate::book::{Book, Broken, Fate, Kept, Mode, Trial};
+use crate::book::{Against, Book, Broken, Fate, Kept, Mode, Trial};
 use crate::call::{Answer, Call, Change, Edit, Rule};
 use crate::names::Names;
 use crate::phrases::{capital, count, mm, numbered};
 use crate::saved::Saved;
 
 const JOIN: &str =
-    "The join begins, from the plan as it was at the split. Every side sends its edits; then each edit is tried on \
-                    the joined plan.";
+    "The join begins, from the plan as it was at the split. Every side sends its edits; then they are tried on the \
+                    joined plan, one at a time.";
 const STOP: &str = "No more edits are taken. What was not sent has to be sent and tried, and every side confirms.";
 
 /// The next number once every number has been given.
@@ -148,7 +148,13 @@ impl Teller {
             (Some(&before), change) => format!(", from {} to {}", mm(before), mm(change.made_on(before))),
             (None, _) => String::new(),
         };
-        let ground = if edit.earlier == 0 { String::new() } else { format!(" It builds on edit {}.", edit.earlier) };
+        let ground = match edit.earlier {
+            0 => String::new(),
+            earlier if self.book.mode == Mode::Joining && self.book.is_revoked(earlier) => {
+                format!(" It builds on edit {earlier}, which was revoked, so it will be revoked too.")
+            }
+            earlier => format!(" It builds on edit {earlier}."),
+        };
         format!("Edit {number} {by}: {}{effect}.{ground} {}", self.change(edit), self.kept_for(edit.side))
     }
 
@@ -182,20 +188,18 @@ impl Teller {
             return format!("{verdict}: edit {number}.");
         };
         let measure = self.names.measure(edit.measure);
-        let effect = match self.book.tried(&self.book.draft, edit) {
-            None => String::new(),
-            Some(trial) if accepted => {
+        let trial = self.book.tried(&self.book.draft, edit);
+        let effect = match (trial, self.book.against(edit)) {
+            (Some(trial), _) if accepted => {
                 format!(" In the joined plan {measure} goes from {} to {}.", mm(trial.before), mm(trial.after))
             }
-            Some(trial) => format!(" In the joined plan {measure} {}. So the joined plan stays as it was.", self.outcome(&trial)),
-        };
-        let ground = match self.book.edits.get(&edit.earlier) {
-            Some(earlier) if earlier.fate == Fate::Revoked => {
-                format!(" Edit {}, which it builds on, was revoked; this one was tried all the same.", edit.earlier)
+            (_, Some(Against::Earlier(earlier))) if !accepted => {
+                format!(" It builds on edit {earlier}, which was revoked, so it is revoked untried. The joined plan stays as it was.")
             }
-            _ => String::new(),
+            (Some(trial), _) => format!(" In the joined plan {measure} {}. So the joined plan stays as it was.", self.outcome(&trial)),
+            (None, _) => String::new(),
         };
-        format!("{verdict}: {}.{effect}{ground}", self.edit(number, edit))
+        format!("{verdict}: {}.{effect}", self.edit(number, edit))
     }
 
     fn confirmed(&self, side: i64) -> String {
@@ -212,7 +216,7 @@ impl Teller {
         let accepted = count(self.book.edits_with(Fate::Accepted).len(), "edit");
         let revoked = self.book.edits.iter().filter(|(_, kept)| kept.fate == Fate::Revoked);
         let revoked: Vec<String> =
-            revoked.map(|(&number, kept)| format!("- {}; {}", self.edit(number, &kept.edit), against(&kept.against))).collect();
+            revoked.map(|(&number, kept)| format!("- {}{}", self.edit(number, &kept.edit), against(kept.against.as_ref()))).collect();
         words.push(match (self.book.edits.len(), revoked.len()) {
             (0, _) => "No edits had been kept.".to_string(),
             (_, 0) => format!("{accepted} accepted, none revoked."),
@@ -250,8 +254,8 @@ impl Teller {
         match fate {
             1 => format!("{what}: kept, not yet sent."),
             2 => format!("{what}: sent, waits to be tried."),
-            3 => format!("{what}: accepted, number {place} of those tried."),
-            4 => format!("{what}: revoked, number {place} of those tried."),
+            3 => format!("{what}: accepted, number {place} of those settled."),
+            4 => format!("{what}: revoked, number {place} of those settled."),
             _ if self.is_from_before(number) => format!("No edit {number} is kept: it was made before the plan was saved."),
             _ => format!("No edit {number} is kept: it was never made, or before the last split, or on the whole plan."),
         }
@@ -346,9 +350,11 @@ impl Teller {
 }
 
 /// Why an edit was revoked, for the list at the install.
-fn against(rules: &[i64]) -> String {
-    match rules {
-        [] => "its result would be out of range".to_string(),
-        _ => format!("it would break {}", numbered("rule", rules)),
+fn against(what: Option<&Against>) -> String {
+    match what {
+        Some(Against::Earlier(earlier)) => format!("; it builds on edit {earlier}, which was revoked"),
+        Some(Against::Range) => "; its result would be out of range".to_string(),
+        Some(Against::Rules(rules)) => format!("; it would break {}", numbered("rule", rules)),
+        None => String::new(),
     }
 }

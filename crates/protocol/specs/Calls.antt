@@ -6,7 +6,7 @@ use lib.ListN.{length, drop}
 use lib.Dec.{eqb, leb, ltb}
 use lib.IntN.{ℤ, pos}
 use Rattle.protocol.specs.Lists.{bit, isNone, oneTo, neg, within, natural, isZero, count, any, snoc, modify}
-use Rattle.protocol.specs.Plan.{measureLimit, ruleLimit, gapLimit, sideLimit, keptLimit, clientLimit, numberLimit, Rule, Change, kindOf, Edit, Fate, unsent, waiting, accepted, revoked, fateNumber, isUnsent, isWaiting, isOpen, isSettled, Kept, Side, Mode, blank, whole, split, joining, closing, is, active, Content, Plan, inRange, holds, firmlyNamed, allowed, made, fits, effective, sideAt, lookup, unsentOf, pending, sidesThat}
+use Rattle.protocol.specs.Plan.{measureLimit, ruleLimit, gapLimit, sideLimit, keptLimit, clientLimit, numberLimit, Rule, Change, kindOf, Edit, Fate, unsent, waiting, accepted, revoked, fateNumber, isUnsent, isWaiting, isRevoked, isOpen, isSettled, Kept, Side, Mode, blank, whole, split, joining, closing, is, active, Content, Plan, inRange, holds, firmlyNamed, allowed, made, fits, effective, sideAt, lookup, unsentOf, pending, sidesThat}
 
 -- ---- the fourteen calls with their numbers, which may be any whole numbers; show also has the length of the lent buffer
 
@@ -261,10 +261,14 @@ hasConfirmed x = record { values = x .values; arrived = x .arrived; confirmed = 
 abbrev pub markSent : ℕ → Kept → Kept
 markSent s k = cond (isUnsent k && eqb (k .edit .side) s) (record { edit = k .edit; fate = waiting; replied = true; place = k .place }) k
 
--- whether the kept edit takes effect on the draft
+-- the earlier edit of the kept edit numbered n was revoked
+abbrev pub builtOnRevoked : Content → ℕ → Bool
+builtOnRevoked d n = isRevoked (lookup (lookup n (d .kept) .edit .earlier) (d .kept))
+
+-- what a replay decides: whether the kept edit takes effect on the draft; one built on a revoked edit does not, untested (02, S-2)
 unfoldable pub replayable : Content → ℕ → Bool
 unfolding effective
-replayable d n = let e = lookup n (d .kept) .edit in effective (d .rules) (e .measure) (e .change) (d .draft)
+replayable d n = let e = lookup n (d .kept) .edit in not (builtOnRevoked d n) && effective (d .rules) (e .measure) (e .change) (d .draft)
 
 abbrev pub outcome : Bool → Fate
 outcome true = accepted

@@ -129,6 +129,9 @@ isUnsent k = fateIs unsent (k .fate)
 abbrev pub isWaiting : Kept → Bool
 isWaiting k = fateIs waiting (k .fate)
 
+abbrev pub isRevoked : Kept → Bool
+isRevoked k = fateIs revoked (k .fate)
+
 abbrev pub isOpen : Kept → Bool
 isOpen k = isUnsent k || isWaiting k
 

@@ -1,4 +1,4 @@
--- Computed: the trials P1 to P12 (01, "Trials at the edges") and the wrong joins (01, "Wrong joins that look plausible") as rows of one table. Assumes nothing.
+-- Computed: the trials P1 to P12 (01, "Trials at the edges"), the wrong joins (01, "Wrong joins that look plausible") and those of 02's requests as rows of one table. Assumes nothing.
 use Prim.Native.Nat.{ℕ, _+_, _-_}
 use mathlib.Core.Path.{_≡_, refl}
 use mathlib.Core.List.{List, [], _∷_, _++_, map}
@@ -86,6 +86,12 @@ sheetAnswers =
 abbrev lateEdit : List Call
 lateEdit = pair 0 ++ (splitOff 1 ∷ join ∷ sends 1 ∷ sends 2 ∷ change 1 1 0 1 2 1 ∷ [])
 
+-- client 6 triples measure 1 and builds on it, twice; client 5 adds 1 to measure 1 and builds on that; after both sends edit 2 is revoked, as 12 is not below 12
+abbrev built : List Call
+built =
+    pair 0 ++ (splitOff 1 ∷ change 1 5 0 1 2 1 ∷ change 2 6 0 1 3 3 ∷ change 2 6 2 2 2 5 ∷ change 2 6 3 2 2 5 ∷ change 1 5 1 2 2 1 ∷ join ∷ sends 1 ∷ sends 2
+    ∷ replays 1 ∷ replays 2 ∷ [])
+
 -- ---- the table
 
 pub table : List Row
@@ -138,6 +144,21 @@ table =
     ∷ record {
       calls = draw 1 ∷ draw 2 ∷ draw 3 ∷ drawRule 1 0 2 0 ∷ drawRule 2 0 3 0 ∷ open-plan ∷ change 1 1 0 3 1 2 ∷ change 1 1 0 3 1 4 ∷ [];
       last = no 29 ∷ gave 1 ∷ [];
+    }
+    -- S-2, an edit built on a revoked one is revoked, though 12 + 5 would do: it takes a place and a step, and the draft stays
+    ∷ record {
+      calls = built ++ (left ∷ replays 3 ∷ left ∷ asks 3 ∷ []);
+      last = gave 3 ∷ gave 4 ∷ gave 7 ∷ gave 4 ∷ gave 6 ∷ pair-of 4 3 ∷ [];
+    }
+    -- a chain of three: the third is revoked for the second, which was revoked for the first; what is built on an accepted edit is tested
+    ∷ record {
+      calls = built ++ (replays 4 ∷ replays 3 ∷ replays 4 ∷ replays 5 ∷ asks 4 ∷ asks 5 ∷ stop ∷ confirms 1 ∷ confirms 2 ∷ install ∷ shows 1 2 ∷ []);
+      last = no 36 ∷ gave 4 ∷ gave 4 ∷ gave 3 ∷ pair-of 4 4 ∷ pair-of 3 5 ∷ done ∷ done ∷ done ∷ done ∷ pair-of 4 13 ∷ [];
+    }
+    -- it acts at replay alone: a revoked edit may be named, while joining and while whole
+    ∷ record {
+      calls = built ++ (change 2 6 2 2 2 5 ∷ sends 2 ∷ replays 6 ∷ replays 3 ∷ replays 4 ∷ replays 5 ∷ stop ∷ confirms 1 ∷ confirms 2 ∷ install ∷ change 1 6 6 2 2 5 ∷ shows 1 2 ∷ []);
+      last = gave 6 ∷ gave 1 ∷ gave 4 ∷ gave 4 ∷ gave 4 ∷ gave 3 ∷ done ∷ done ∷ done ∷ done ∷ gave 7 ∷ pair-of 4 18 ∷ [];
     }
     -- the sheet's number left, fates and places to its end
     ∷ record {

@@ -12,7 +12,7 @@ use lib.ListN.{length, getD, set}
 use lib.Seq.{set-getD}
 use Rattle.protocol.specs.Lists.{natural, oneTo, count}
 use Rattle.protocol.specs.Plan as model
-use Rattle.protocol.specs.Plan.{active, holds, isSettled, effective, fits, made, applied, value}
+use Rattle.protocol.specs.Plan.{active, holds, isRevoked, isSettled, effective, fits, made, applied, value}
 use Rattle.protocol.specs.Calls.{Call, replay, Check, Verdict, fine, refused, first, checks, further, replayable, settled, outcome, update, nextPlace, after, gives, ok, stepBy, step}
 use Rattle.protocol.proofs.Laws.{cases, is-yes, range, Fine, Pass, passed}
 use Rattle.change.specs.Change.{viewChange}
@@ -35,7 +35,7 @@ use Rattle.state.specs.Sizes.{Sized}
 use Rattle.state.proofs.View.{plan-same, flags-unset, lookup-named}
 use Rattle.records.proofs.Records.{Placed, placed, log-modify}
 use Rattle.replay.specs.declared.Outcome.the-variants.{Settled}
-use Rattle.replay.specs.Replays.{Decision, replayChecks, draftIn, effectiveIn, draftOutcome, settledBy, replayOutcome, settledRecord, replayDecision, pointOf, earlierAt, standingIn, replayFrom, replayBy, replayIn, stored}
+use Rattle.replay.specs.Replays.{Decision, replayChecks, draftIn, effectiveIn, draftOutcome, settledBy, unlessBuilt, replayOutcome, settledRecord, replayDecision, pointOf, earlierAt, standingIn, replayFrom, replayBy, replayIn, stored}
 
 -- what the test of the rules finds counts only where the plan is joining or closing: two tests that then find the same make the same decision
 decision-same : (test test′ : RuleTest) (p : Spread) (n : ℤ)
@@ -53,7 +53,8 @@ decision-same test test′ p n h = cases (active (modeOf (p .head .mode)))
     let b = fits (e .measure) (viewChange (e .change)) vs && y in
     replayDecision
     (settledBy (first (replayChecks (modeOf (p .head .mode)) (unsetIn (p .arrived) (sidesIn (p .head))) (keptAt 0 e) (keptAt 0 (namedIn p (e .earlier)))))
-    (Settled b (cond (b && oneTo (min (p .head .drafted) 32) (e .measure)) (applied (viewChange (e .change)) (value vs (e .measure))) old)))
+    (unlessBuilt (keptAt 0 (namedIn p (e .earlier))) old
+    (Settled b (cond (b && oneTo (min (p .head .drafted) 32) (e .measure)) (applied (viewChange (e .change)) (value vs (e .measure))) old))))
     (standingIn p n) old (count isSettled (keptOf (p .head) (p .edits)) + 1))
     (h (is-yes t)))
     (λ t. rw t)
@@ -123,13 +124,18 @@ module _ (p : Spread) (z : Sized p) (n : ℤ) where
   unfolding checks further
   checks-same = rw (flags-unset p (λ x. x .arrived) (p .arrived) (λ s. refl), lookup-named p (natural n), lookup-named p (e .earlier))
 
-  -- and so is the trial
-  effect : replayable (planOf p .content) (natural n) ≡ effectiveIn (testedIn false) (p .lower) (p .gap) (p .upper) (min (h .rules) 64) (e .measure) ch vs
-  unfolding replayable effective effectiveIn
-  effect = rw (lookup-named p (natural n)) (ap (λ b. fits (e .measure) ch vs && b) (tested-all (p .lower) (p .gap) (p .upper) (p .firm) (min (h .rules) 64) (e .measure) ch vs))
+  -- the earlier edit was revoked
+  abbrev lost : Bool
+  lost = isRevoked (keptAt 0 (namedIn p (e .earlier)))
 
   abbrev b : Bool
-  b = effectiveIn (testedIn false) (p .lower) (p .gap) (p .upper) (min (h .rules) 64) (e .measure) ch vs
+  b = not lost && effectiveIn (testedIn false) (p .lower) (p .gap) (p .upper) (min (h .rules) 64) (e .measure) ch vs
+
+  -- and so is the trial
+  effect : replayable (planOf p .content) (natural n) ≡ b
+  unfolding replayable effective effectiveIn
+  effect = rw (lookup-named p (natural n), lookup-named p (e .earlier))
+      (ap (λ t. not lost && (fits (e .measure) ch vs && t)) (tested-all (p .lower) (p .gap) (p .upper) (p .firm) (min (h .rules) 64) (e .measure) ch vs))
 
   abbrev old : ℤ
   old = getD (p .draft) (pointOf (e .measure)) (pos 0)
@@ -190,7 +196,7 @@ module _ (p : Spread) (z : Sized p) (n : ℤ) where
           ∙ sym (q .5 (settled b (nextPlace (keptOf h (p .edits)))))
 
   abbrev decided : Verdict → Decision
-  decided v = replayDecision (settledBy v (draftOutcome (testedIn false) h (p .lower) (p .gap) (p .upper) (p .draft) (e .measure) (e .change) old)) standing old place
+  decided v = replayDecision (settledBy v (Settled b x)) standing old place
 
   abbrev next : Verdict → Spread
   next v = stored p (pointOf (e .measure)) (namedSlot h n) (decided v)
@@ -202,7 +208,7 @@ module _ (p : Spread) (z : Sized p) (n : ℤ) where
   -- by the verdict on the checks
   by : (v : Verdict) → (Fine v → Pass Checks) → (answerOf (decided v .answer) ≡ stepBy v call (planOf p) .answer) × (planOf (next v) ≡ stepBy v call (planOf p) .plan) × SameIfRefused
       (decided v .answer) p (next v)
-  unfolding gives after draftOutcome
+  unfolding gives after
   by (refused j) f =
       let same : next (refused j) ≡ p = rw (set-getD (p .draft) (pointOf (e .measure)) (pos 0), set-getD (p .edits) (namedSlot h n) noRecord) in
       (refl, ap planOf same, same)
@@ -217,6 +223,11 @@ module _ (p : Spread) (z : Sized p) (n : ℤ) where
         tt,
       )
 
+  -- what the code finds
+  found-as : unlessBuilt (keptAt 0 (namedIn p (e .earlier))) old (draftOutcome (testedIn false) h (p .lower) (p .gap) (p .upper) (p .draft) (e .measure) (e .change) old) ≡ Settled b x
+  unfolding draftOutcome
+  found-as = cases lost (λ t. rw t) (λ t. rw t)
+
   pub replay-meets : MeetsSpread call p (record { state = stored p (pointOf (e .measure)) (namedSlot h n) (replayIn false p n); answer = replayIn false p n .answer })
   unfolding step replayOutcome
-  replay-meets = let r = by (first Checks) (passed Checks) in record { answer = rw checks-same (r .0); plan = rw checks-same (r .1); same = r .2 }
+  replay-meets = let r = by (first Checks) (passed Checks) in rw found-as (record { answer = rw checks-same (r .0); plan = rw checks-same (r .1); same = r .2 })

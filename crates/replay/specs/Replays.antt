@@ -1,12 +1,12 @@
 -- Scaffolding: the checks of a replay from its parts, what it decides, and the state after the stores. Assumes nothing.
 use Prim.Native.Nat.{ℕ, _+_, _-_, min}
-use mathlib.Core.Bool.{Bool, cond, _&&_}
+use mathlib.Core.Bool.{Bool, false, cond, _&&_}
 use mathlib.Core.List.{List, [], _∷_}
 use lib.IntN.{ℤ, pos}
 use lib.ListN.{getD, set}
 use Rattle.protocol.specs.Lists.{isNone, oneTo, count}
 use Rattle.protocol.specs.Plan as model
-use Rattle.protocol.specs.Plan.{active, isWaiting, isSettled, fits, applied, value, measureLimit, ruleLimit}
+use Rattle.protocol.specs.Plan.{active, isWaiting, isRevoked, isSettled, fits, applied, value, measureLimit, ruleLimit}
 use Rattle.protocol.specs.Calls.{Check, _unless_, _when_, Verdict, fine, refused, first}
 use Rattle.protocol.specs.Sizes.{lastMeasure}
 use Rattle.change.specs.declared.Change.{Change}
@@ -51,10 +51,15 @@ abbrev pub settledBy : Verdict → Outcome → Outcome
 settledBy fine o = o
 settledBy (refused k) o = Denied k
 
+-- an edit built on a revoked one is revoked, and the value stays (02, S-2)
+abbrev pub unlessBuilt : model.Kept → ℤ → Outcome → Outcome
+unlessBuilt earlier old o = cond (isRevoked earlier) (Settled false old) o
+
 unfoldable pub replayOutcome : RuleTest → Head → List ℕ → List ℤ → List ℕ → List ℤ → ℕ → EditRecord → EditRecord → ℤ → Outcome
 unfolding draftOutcome
 replayOutcome test h lower gap upper draft missing e earlier old =
-    settledBy (first (replayChecks (modeOf (h .mode)) missing (keptAt 0 e) (keptAt 0 earlier))) (draftOutcome test h lower gap upper draft (e .measure) (e .change) old)
+    settledBy (first (replayChecks (modeOf (h .mode)) missing (keptAt 0 e) (keptAt 0 earlier)))
+    (unlessBuilt (keptAt 0 earlier) old (draftOutcome test h lower gap upper draft (e .measure) (e .change) old))
 
 -- ---- what is decided and stored
 

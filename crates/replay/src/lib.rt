@@ -4,8 +4,8 @@ ghost use mathlib.Core.Path.{_≡_};
 ghost use mathlib.Core.Bool.{cond};
 ghost use lib.IntN.{pos};
 ghost use lib.ListN.{getD};
-ghost use Rattle.protocol.specs.Plan.{isWaiting};
-ghost use Rattle.records.specs.Records.{keptAt, recordOf};
+ghost use Rattle.protocol.specs.Plan.{fateIs};
+ghost use Rattle.records.specs.Records.{fateOf, keptAt, recordOf};
 ghost use Rattle.replay.specs.Replays.{draftOutcome, settledFate, settledRecord, pointOf, earlierAt, outcomeFrom};
 ghost use Rattle.rules.specs.Index.{testedBy};
 ghost use Rattle.rules.specs.Table.{lowers, gaps, uppers};
@@ -54,15 +54,13 @@ pub fn earlier(h: Head, i: usize, standing: EditRecord) -> usize
 
 // ---- what it decides
 
-// Whether an edit, seen at a position from 1, is waiting.
-fn is_waiting(i: usize, e: EditRecord) -> bool
-    ensures { λ t. ⌜ t ≡ isWaiting (keptAt 0 (recordOf i e)) ⌝ }
+// Whether an edit, seen at a position from 1, has a fate.
+fn has_fate(i: usize, e: EditRecord, fate: Fate) -> bool
+    ensures { λ t. ⌜ t ≡ fateIs (fateOf fate) (keptAt 0 (recordOf i e) .fate) ⌝ }
 {
-    if i == 0 {
-        return false;
-    }
-    let f = e.fate;
-    records::fate_number(f) == 2
+    let r = records::found(i, e);
+    let f = r.fate;
+    records::fate_number(f) == records::fate_number(fate)
 }
 
 // The value that a change is made of: 0 where the measure is none of the draft's.
@@ -106,7 +104,7 @@ fn try_draft<'a>(
 }
 
 // What a replay decides, from how many first logs are missing, and the edit and the one that it names as earlier, each seen at a position from 1:
-// the checks 31, 34, 35, 36, and the trial.
+// the checks 31, 34, 35, 36, and the trial. An edit built on a revoked one is revoked, untested, and the draft stays (02, S-2).
 pub fn decide_replay<'a>(
     h: Head,
     table: &'a Table,
@@ -129,13 +127,17 @@ pub fn decide_replay<'a>(
     if missing != 0 {
         return Outcome::Refused(34);
     }
-    if !is_waiting(i, standing) {
+    if !has_fate(i, standing, Fate::Waiting) {
         return Outcome::Refused(35);
     }
-    if is_waiting(j, seen) {
+    if has_fate(j, seen, Fate::Waiting) {
         return Outcome::Refused(36);
     }
     let m = standing.measure as u32;
+    if has_fate(j, seen, Fate::Revoked) {
+        let at = point(m);
+        return Outcome::Settled(false, draft[at]);
+    }
     let change = standing.change;
     try_draft(h, table, index, draft, m, change, sound)
 }

@@ -25,6 +25,8 @@ struct Edit {
     constant: i32,
     settlings: u32,
     accepted: bool,
+    /// How many edits before it along its chain were revoked, where the one that it names was; 0 if not.
+    built: u32,
 }
 
 /// The last send or edit of a side since the join.
@@ -152,6 +154,7 @@ impl Book {
                         constant: f,
                         settlings: 0,
                         accepted: false,
+                        built: 0,
                     });
                 }
             }
@@ -173,9 +176,16 @@ impl Book {
                     return Err(format!("edit {a} is settled twice"));
                 }
                 let after = self.edits[at].after;
-                if self.edits.iter().any(|edit| edit.number == after && edit.settlings == 0) {
+                let earlier = self.edits.iter().find(|edit| edit.number == after);
+                if earlier.is_some_and(|edit| edit.settlings == 0) {
                     return Err(format!("edit {a} is settled before edit {after}, which it names"));
                 }
+                // 02, S-2.
+                let built = earlier.filter(|edit| !edit.accepted).map_or(0, |edit| edit.built + 1);
+                if built > 0 && given != 4 {
+                    return Err(format!("replay gives {given}, and edit {after}, which edit {a} names, was revoked"));
+                }
+                self.edits[at].built = built;
                 self.edits[at].settlings = 1;
                 self.edits[at].accepted = match given {
                     3 => true,
@@ -236,6 +246,9 @@ pub struct Tally {
     pub installs: u64,
     pub late: u64,
     pub revoked: u64,
+    /// Edits built on a revoked one, and those among them at least third in a chain of revoked ones.
+    pub built: u64,
+    pub deep: u64,
     pub prefixes: u64,
     /// Edits refused as 30.
     pub used_up: u64,
@@ -360,7 +373,12 @@ fn walk(list: &List, mut book: Book, random: &mut Random, tally: &mut Tally) -> 
                         Err(what) => return fail(what),
                     };
                     tally.late += (moved == 2 && call.name == Name::Edit) as u64;
-                    tally.revoked += (call.name == Name::Replay && numbers == [4]) as u64;
+                    if let (Name::Replay, Some(&at)) = (call.name, book.settlings.last()) {
+                        let Edit { accepted, built, .. } = book.edits[at];
+                        tally.revoked += !accepted as u64;
+                        tally.built += (built > 0) as u64;
+                        tally.deep += (built > 1) as u64;
+                    }
                     if call.name == Name::Install {
                         tally.installs += 1;
                         fates_due = book.edits.len();

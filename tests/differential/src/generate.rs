@@ -40,6 +40,8 @@ pub struct Style {
     pub chained: usize,
     /// Chance that an edit's constant is an edge.
     pub harsh: usize,
+    /// Chance that an edit of a copy takes all the room that a rule leaves there, so that another copy's edit is in its way.
+    pub greedy: usize,
 }
 
 impl Style {
@@ -62,6 +64,7 @@ impl Style {
             clients: random.pick(&[1, 2, 5, 999]),
             chained: random.pick(&[0, 200, 500, 900]),
             harsh: random.pick(&[0, 20, 150]),
+            greedy: random.pick(&[0, 0, 100, 400]),
         }
     }
 }
@@ -356,6 +359,16 @@ impl<'a> Generator<'a> {
         Call::new(Name::Rule, &[a, offset, b, firm])
     }
 
+    /// A measure of a soft rule, and the last value that the rule leaves it on a side.
+    fn last_room(&mut self, side: i32) -> Option<(i32, i32)> {
+        let rule = 1 + self.random.below(self.plan.rules().max(1) as usize) as i32;
+        let [a, c, b] = self.plan.rule_terms(rule)?;
+        let values = self.plan.values_of(side).ok()?;
+        let (measure, value) =
+            if self.random.chance(500) { (a, values[b as usize - 1] - c - 1) } else { (b, values[a as usize - 1] + c + 1) };
+        (!self.plan.is_firm(measure) && value.abs() <= 1_000_000).then_some((measure, value))
+    }
+
     fn edit(&mut self) -> Call {
         let side = self.side();
         let mut client = self.random.between(1, self.style.clients);
@@ -377,6 +390,11 @@ impl<'a> Generator<'a> {
                 break;
             }
             measure = self.some_measure();
+        }
+        if self.plan.mode() != Mode::Whole && self.random.chance(self.style.greedy) {
+            if let Some((measure, value)) = self.last_room(side) {
+                return Call::new(Name::Edit, &[side, client, after, measure, 1, value]);
+            }
         }
         let value = match self.plan.values_of(side) {
             Ok(values) => values[measure as usize - 1],

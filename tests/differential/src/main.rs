@@ -194,20 +194,24 @@ fn books(seed: u64, lists: u64) -> Verdict {
     }
     for (plan, tally) in [("a blank plan", &blank), ("a loaded plan", &loaded)] {
         println!(
-            "{} lists with a book on {plan}: {} accepted calls, {} late edits, {} revoked, {} refused as 30, {} installs, closing moves tried at {} places",
-            tally.lists, tally.moves, tally.late, tally.revoked, tally.used_up, tally.installs, tally.prefixes
+            "{} lists with a book on {plan}: {} accepted calls, {} late edits, {} refused as 30, {} installs, closing moves tried at {} places",
+            tally.lists, tally.moves, tally.late, tally.used_up, tally.installs, tally.prefixes
         );
+        println!("{} edits revoked, {} of them built on a revoked one, {} on one that was itself", tally.revoked, tally.built, tally.deep);
     }
     let long = lists >= LISTS_TO_MEET_ALL;
     for (what, count) in [
         ("late edits", loaded.late),
         ("revoked edits", loaded.revoked),
+        ("edits built on a revoked one", loaded.built),
         ("edits refused as 30", loaded.used_up),
         ("installs", loaded.installs),
         ("closing moves tried", loaded.prefixes),
     ] {
         verdict.met(long, &format!("{what} on a loaded plan"), count, true);
     }
+    verdict.met(long, "edits built on a revoked one", blank.built, true);
+    verdict.met(long, "edits built on one that was itself", blank.deep, true);
     verdict.met(long, "edits refused as 30 on a blank plan", blank.used_up, false);
     // However few the lists: 02, S-1, "Demand 3 covers loaded plans too".
     verdict.met(true, "lists with a book on a loaded plan", loaded.lists, true);

@@ -437,12 +437,14 @@ impl Plan {
             _ => return Err(NotWaiting),
         };
         let Kept { change, measure, earlier, .. } = self.edits[at];
-        if earlier != NONE && self.edits[earlier as usize].fate == Fate::Waiting {
+        let earlier = if earlier == NONE { Fate::NotKept } else { self.edits[earlier as usize].fate };
+        if earlier == Fate::Waiting {
             return Err(EarlierWaiting);
         }
         let measure = measure as usize;
         let value = change.apply(self.draft[measure]);
-        let fate = if in_range(value) && self.rules_hold(&self.draft, measure, value) {
+        // An edit whose earlier edit was revoked is not tested (02, S-2).
+        let fate = if earlier != Fate::Revoked && in_range(value) && self.rules_hold(&self.draft, measure, value) {
             self.draft[measure] = value;
             Fate::Accepted
         } else {
@@ -574,6 +576,12 @@ impl Plan {
 
     pub fn has_confirmed(&self, s: i32) -> bool {
         self.side_index(s).is_ok_and(|side| self.confirmed >> side & 1 == 1)
+    }
+
+    /// The numbers of rule r, with which it was drawn: a, c, b.
+    pub fn rule_terms(&self, r: i32) -> Option<[i32; 3]> {
+        let Rule { low, high, offset, .. } = self.rule[index(r, 1, self.rules as u32)?];
+        Some([low as i32 + 1, offset, high as i32 + 1])
     }
 
     pub fn is_firm(&self, m: i32) -> bool {

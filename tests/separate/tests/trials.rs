@@ -283,6 +283,54 @@ fn earlier_edits() {
     assert_eq!(after(&installed, "split 1\nedit 1 6 0 1 2 1\n"), "ok 4");
 }
 
+/// Edit 2 is revoked. Edit 3, built on it, would do; edit 4 is built on edit 3, edit 6 on edit 2; edit 5 is built on an accepted edit.
+#[test]
+fn edits_built_on_a_revoked_one() {
+    table("
+        measure 3            | ok 1
+        measure 12           | ok 2
+        rule 1 1 2 0         | ok 1
+        open                 | ok 0
+        split 1              | ok 2
+        edit 1 5 0 1 2 1     | ok 1
+        edit 2 6 0 1 3 3     | ok 2
+        edit 2 6 2 2 2 5     | ok 3
+        edit 2 6 3 2 2 5     | ok 4
+        edit 1 5 1 2 2 1     | ok 5
+        join                 | ok 0
+        send 1               | ok 2
+        send 2               | ok 3
+        replay 1             | ok 3
+        replay 2             | ok 4
+        replay 4             | no 36
+        left                 | ok 7
+        replay 3             | ok 4
+        left                 | ok 6
+        edit 2 6 2 2 2 5     | ok 6
+        left                 | ok 8
+        replay 4             | ok 4
+        replay 5             | ok 3
+        send 2               | ok 1
+        replay 6             | ok 4
+        left                 | ok 4
+        fate 3               | ok 4 3
+        fate 4               | ok 4 4
+        fate 5               | ok 3 5
+        fate 6               | ok 4 6
+        stop                 | ok 0
+        confirm 1            | ok 0
+        confirm 2            | ok 0
+        install              | ok 0
+        show 1               | ok 4 13
+        edit 1 6 3 2 2 5     | ok 7
+        show 1               | ok 4 18
+    ");
+    // Revoked for its range alone.
+    let lines = "measure 500000\nmeasure 0\nopen\nsplit 1\nedit 1 5 0 1 3 2\nedit 2 6 0 1 3 2\nedit 2 6 2 2 2 1\n\
+                 join\nsend 1\nsend 2\nreplay 1\nreplay 2\nreplay 3\n";
+    assert_eq!(text_of(lines).lines().rev().take(3).collect::<Vec<_>>(), ["ok 4", "ok 4", "ok 3"]);
+}
+
 #[test]
 fn refusals_of_the_join_in_their_order() {
     table(&format!("{}{}", EXAMPLE.split("    stop").next().unwrap(), "
