@@ -12,11 +12,12 @@ use lib.IntN.{ℤ, pos, negsuc}
 use Rattle.protocol.specs.Lists.{bit, isNone, oneTo, natural, count, all, snoc, nth, modify}
 use Rattle.protocol.specs.Plan.{Edit, fateNumber, isUnsent, isWaiting, isOpen, isSettled, Kept, Side, Mode, blank, whole, split, joining, closing, is, active, Content, made, absentSide, sideAt, lookup, unsentOf, pending, sidesThat}
 use Rattle.protocol.specs.Calls.{Call, measure, rule, open-plan, split-side, edit, join, send, replay, stop, confirm, install, show, fate-of, left, apart, checks, further, no25, editOf, ruleOf, changeOf, reset, onValues, hasArrived, hasConfirmed, markSent, replayable, outcome, nextPlace, after, gives}
-use Rattle.protocol.specs.History.{Entry, edited, History, lastSent, closed, budget, times, replayed, EachHolds, entered}
+use Rattle.protocol.specs.History.{Entry, edited, History, lastSent, closed, budget, editIn, times, replayed, EachHolds, entered}
 use Rattle.guarantee.specs.Guarantee.{InOrder}
 use Rattle.protocol.proofs.Laws.{on, decide, cases, yes-is, is-yes, is-no, both, and-in, which, or-right, or-left, not-not, range, in-range, same-no, Pass, count-to-zero, count-map, count-snoc, length-snoc, length-modify, nth-same, nth-other, all-snoc}
 use Rattle.protocol.proofs.Replays.{accepted-holds}
-use Rattle.guarantee.proofs.Kept.{editsOf, editsIn, edits-snoc, edits-sent, edits-settle, edit-found, settle-part, lookup-same, lookup-other, lookup-number, lookup-new, lookup-old, lookup-sent, open-sent, unsent-sent, unsent-other, Within, within-snoc, within-lookup, Rising, rising-le, rising-snoc, bounds, Named, named-sent, named-settle, named-snoc, Reported, reported-snoc, reported-sent, reported-settle, fresh-open, settled-count}
+use Rattle.guarantee.proofs.Kept.{editsOf, editsIn, edits-snoc, edits-sent, edits-settle, edit-found, settle-part, lookup-same, lookup-other, lookup-number, lookup-new, lookup-old, lookup-sent, open-sent, unsent-sent, unsent-other, Within, within-snoc, within-lookup, Rising, rising-le, rising-snoc, bounds, Named, named-sent, named-settle, named-snoc, Reported, reported-snoc, reported-sent, reported-settle, waiting-open, waiting-listed, fresh-open, settled-count}
+use Rattle.guarantee.proofs.Chains.{Chained, chained-snoc, chained-settle, told-revoked, revoked-onward}
 use Rattle.guarantee.proofs.Left.{unarrived, unconfirmed, sum, sendTo, pending-sent, pending-others, send-sum, settled-shut, unsent-settled, settled-settled, replayTo, replay-sum, stop-sum, confirmTo, arrived-confirmed, confirm-sum, newKept, editTo, pending-edited, arrived-edited, confirmed-edited, pending-not-edited, edit-sum, joinTo, side-joined, join-sum}
 use Rattle.guarantee.specs.Holding.{Holding}
 use Rattle.guarantee.proofs.Holding.{only, plan}
@@ -75,7 +76,7 @@ Consistent m d h = record {
   rules : d .rules ≡ h .rules;
   next : 0 < d .next;
   reported : Reported (d .kept) (h .settlings);
-  ordered : InOrder (h .settlings);
+  ordered : InOrder (h .settlings) × Chained (h .kept) (h .settlings);
   stage : Stage m d h;
 }
 
@@ -208,6 +209,28 @@ module _ (m : Mode) (d : Content) (h : History) (t : Parted d h) (a : Active m d
   replay-reported z waits told =
       rw (a .progress .places, edit-found (d .kept) (h .kept) (t .kept) (natural z))
       (reported-settle (natural z) (replayable d (natural z)) (d .kept) (h .settlings) (lookup (natural z) (d .kept) .edit) (lookup-number (natural z) (d .kept) waits) waits told)
+
+-- the edit comes behind the one that it names, and is revoked where that one was
+replay-ordered : (d : Content) (h : History) → Parted d h → Reported (d .kept) (h .settlings) → InOrder (h .settlings) × Chained (h .kept) (h .settlings) → (z : ℤ)
+    → T (isWaiting (lookup (natural z) (d .kept)))
+    → (lookup (natural z) (d .kept) .edit .earlier ≡ 0) ⊎ (0 < times (lookup (natural z) (d .kept) .edit .earlier) (h .settlings))
+    → (let h′ = entered (replay z) (pos (fateNumber (outcome (replayable d (natural z)))) ∷ []) h in InOrder (h′ .settlings) × Chained (h′ .kept) (h′ .settlings))
+unfolding entered
+replay-ordered d h t told old z waits follows =
+    let n = natural z in
+    let found = edit-found (d .kept) (h .kept) (t .kept) n in
+    let rising = rw (← (t .kept)) at (t .ground .rising) in
+    let once = ap (λ v. v .2) (rw (yes-is (isOpen (lookup n (d .kept))) (waiting-open (lookup n (d .kept)) waits)) at (told n)) in (
+      (rw found follows, old .0),
+      chained-settle (h .kept) (h .settlings) n (record { edit = editIn n (h .kept); given = fateNumber (outcome (replayable d n)) })
+          (ap (λ e. e .number) found ∙ lookup-number n (d .kept) waits)
+          (let b = bounds isWaiting 1 (d .kept) (d .next) n tt rising waits in omega arith)
+          once
+          (old .1)
+          (waiting-listed (d .kept) (h .kept) (t .kept) n waits)
+          (rw found follows)
+          (rw found (λ r. ap (λ b. fateNumber (outcome b)) (revoked-onward d n (told-revoked (d .kept) (h .settlings) told (lookup n (d .kept) .edit .earlier) r)))),
+    )
 
 -- ---- stop and confirm
 
@@ -414,7 +437,7 @@ module _ (d : Content) (h : History) where
     rules = t .rules;
     next = t .next;
     reported = λ n. refl;
-    ordered = tt;
+    ordered = (tt, λ n k. absurd (omega arith));
     stage = (
       record {
         ground = record { base = t .stage .0; rising = t .next; within = tt };
@@ -474,7 +497,7 @@ module _ (d : Content) (h : History) where
       rules = t .rules;
       next = omega arith;
       reported = reported-snoc (d .kept) (newKept made-edit true) (h .settlings) tt (t .reported);
-      ordered = t .ordered;
+      ordered = (t .ordered .0, chained-snoc (h .kept) (record { edit = made-edit; late = false }) (h .settlings) (t .ordered .1));
       stage = (
         edit-parted d h made-edit true f (t .stage .0) false,
         all-snoc isUnsent (d .kept) (newKept made-edit true) (t .stage .1) tt,
@@ -490,7 +513,7 @@ module _ (d : Content) (h : History) where
       rules = t .rules;
       next = omega arith;
       reported = reported-snoc (d .kept) (newKept made-edit false) (h .settlings) tt (t .reported);
-      ordered = t .ordered;
+      ordered = (t .ordered .0, chained-snoc (h .kept) (record { edit = made-edit; late = lastSent (natural s) (h .moves) }) (h .settlings) (t .ordered .1));
       stage = (
         edit-parted d h made-edit false f (t .stage .0) (lastSent (natural s) (h .moves)),
         edit-active d h made-edit f (t .stage .0) (t .stage .1),
@@ -555,7 +578,7 @@ consistent-after (replay n) m d h g t k =
       rules = t .rules;
       next = t .next;
       reported = replay-reported m d h (st .0) (st .1) (t .rules) n waits (t .reported);
-      ordered = (rw (edit-found (d .kept) (h .kept) (st .0 .kept) (natural n)) (earlier-settled m d h (st .0) (st .1) (t .reported) (natural n) (eqb→eq _ 0 (k .1 .0)) (k .1 .1 .1 .0)), t .ordered);
+      ordered = replay-ordered d h (st .0) (t .reported) (t .ordered) n waits (earlier-settled m d h (st .0) (st .1) (t .reported) (natural n) (eqb→eq _ 0 (k .1 .0)) (k .1 .1 .1 .0));
       stage = back m _ _ (k .0) (replay-active m d h (st .0) (st .1) (t .rules) n waits);
     }
 consistent-after stop m d h g t k =

@@ -17,6 +17,7 @@ use Rattle.guarantee.specs.Guarantee.{Able, Stuck, Underway, Completed, 
 use Rattle.protocol.proofs.Laws.{on, decide, cases, yes-is, no-is, is-yes, is-no, both, which, or-right, neither, is-none-yes, range, in-range, Fine, Pass, passed, pass, count-to-zero, count-to-some, count-to-none, count-snoc, length-snoc, all-nth}
 use Rattle.protocol.proofs.Refusals.{AnswerAgreed, answer-agreed}
 use Rattle.guarantee.proofs.Kept.{none-open, open-count, settled-count, none-unsent, first-waiting, fate-found, verdict, Reported}
+use Rattle.guarantee.proofs.Chains.{accepted-chain}
 use Rattle.guarantee.proofs.Left.{unarrived, unconfirmed, sum}
 use Rattle.guarantee.specs.Holding.{Holding}
 use Rattle.guarantee.proofs.Holding.{only, plan, stepped, holding-after, holding-start}
@@ -422,6 +423,9 @@ pub guaranteed : (p : Plan) (h : History) → Sound p h → Guarantee p h
 guaranteed p h sound =
     let g = sound .0 in
     let t = sound .1 in
+    let judged : (n : ℕ) → 0 < times n (h .settlings) → (settledAs n (h .settlings) .0 ≡ 3) ⊎ (settledAs n (h .settlings) .0 ≡ 4) =
+    λ n k. told-outcome p (h .settlings) (t .reported) n (settled-found p (h .settlings) (t .reported) n k)
+    in
     let when-whole : T (is whole (p .mode)) → Consistent whole (p .content) h = λ w. rw (only whole (p .mode) w) at t in
     record {
       mode = sym (t .mode);
@@ -441,15 +445,18 @@ guaranteed p h sound =
       exhausted = λ a cs k s. exhausted cs p h sound a k s;
       installed = λ y. rw (moves install p y) (just-installed (p .mode) (p .content) h t (if-taken install p y));
       once = λ n. at-most-once p (h .settlings) (t .reported) n;
+      kept = λ n k. t .ordered .1 n k .kept;
       told-fate = λ n k. told-fate p (h .settlings) (t .reported) n (settled-found p (h .settlings) (t .reported) n k);
-      ordered = t .ordered;
+      ordered = t .ordered .0;
+      passed-on = λ n k. t .ordered .1 n k .passes;
+      chain-accepted = accepted-chain (h .kept) (h .settlings) (t .ordered .1) judged;
       sides-hold = λ k s has. let i = range (length (p .content .sides)) s has in all-nth (λ x. holds (p .content .rules) (x .values)) absentSide (p .content .sides) s (g .sides k) (i .0) (i .1);
       base-holds = g .base;
       draft-holds = g .draft;
     }
 
 pub started : Sound start empty
-started = (holding-start, record { mode = refl; rules = refl; next = omega arith; reported = λ n. refl; ordered = tt; stage = refl })
+started = (holding-start, record { mode = refl; rules = refl; next = omega arith; reported = λ n. refl; ordered = (tt, λ n k. absurd (omega arith)); stage = refl })
 
 pub sound-run : (cs : List Call) (p : Plan) (h : History) → Sound p h → Sound (run cs (record { plan = p; history = h }) .plan) (run cs (record { plan = p; history = h }) .history)
 sound-run [] p h t = t

@@ -307,6 +307,16 @@ module _ (ks : List Kept) (es : List Entry) (same : editsOf ks ≡ editsIn es) w
   pub edit-found : (n : ℕ) → editIn n es ≡ lookup n ks .edit
   edit-found n = find-entry n es ∙ ap (find n) (sym same) ∙ find-kept n ks
 
+  -- an edit that waits is listed
+  pub waiting-listed : (n : ℕ) → T (isWaiting (lookup n ks)) → T (listed n es)
+  waiting-listed n w = rw (among-entry n es, ← same) (by ks w)
+    where
+      by : (ks : List Kept) → T (isWaiting (lookup n ks)) → T (among n (editsOf ks))
+      by [] w = absurd w
+      by (k ∷ ks) w =
+          let ih = by ks in
+          cases (eqb n (k .edit .number)) (λ t. rw t tt) (λ t. rw t (ih (rw t at w)))
+
   -- a listed edit is found, so where none is open it is settled
   pub none-open : (n : ℕ) → T (listed n es) → count isOpen ks ≡ 0 → T (not (isOpen (lookup n ks)))
   none-open n h z = by ks (rw (among-entry n es, ← same) at h) z

@@ -1,4 +1,5 @@
 pub mod Kept
+pub mod Chains
 pub mod Left
 pub mod Holding
 pub mod Consistent

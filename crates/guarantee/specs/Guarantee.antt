@@ -1,5 +1,5 @@
 -- Believed: Condition 3, and condition 2's order: one claim about every list of calls. Each field is one of its clauses. Assumes nothing.
-use Prim.Native.Nat.{ℕ, suc, _+_, _<_, _≤_}
+use Prim.Native.Nat.{ℕ, zero, suc, _+_, _<_, _≤_}
 use mathlib.Core.Path.{_≡_}
 use mathlib.Core.Logic.{_⊎_}
 use mathlib.Core.Bool.{not, cond, _||_}
@@ -10,13 +10,19 @@ use lib.IntN.{ℤ, pos}
 use Rattle.protocol.specs.Lists.{bit, oneTo, natural, all, snoc}
 use Rattle.protocol.specs.Plan.{Plan, blank, whole, split, is, active, holds, sideAt}
 use Rattle.protocol.specs.Calls.{Call, isRefusal, edit, install, show, fate-of, left, no, ok, leftIn, step, following, end}
-use Rattle.protocol.specs.History.{History, Settling, closed, budget, isLate, listed, times, settledAs, replayed, EachHolds}
+use Rattle.protocol.specs.History.{History, Entry, Settling, closed, budget, isLate, listed, editIn, times, settledAs, replayed, EachHolds}
 use Rattle.guarantee.specs.Runs.{closes, edits, reads, accepts, noting, quiet, closings, taken, fromBlank, Trace}
 
 -- Each settled edit names 0 or an edit settled before it (settlings stand newest first).
 abbrev pub InOrder : List Settling → Type 0
 InOrder [] = Unit {0}
 InOrder (x ∷ xs) = ((x .edit .earlier ≡ 0) ⊎ (0 < times (x .edit .earlier) xs)) × InOrder xs
+
+-- The edit that is k steps before n along its chain of earlier edits: the one that n names, the one that this names, and on; 0 where the chain has ended.
+abbrev pub earlierBy : ℕ → ℕ → List Entry → ℕ
+earlierBy zero n es = n
+earlierBy (suc k) zero es = zero
+earlierBy (suc k) (suc n) es = earlierBy k (editIn (suc n) es .earlier) es
 
 -- some closing move is accepted
 abbrev pub Able : Plan → Type 0
@@ -95,10 +101,17 @@ pub record Guarantee (p : Plan) (h : History) : Type 0 where
   pub installed : T (accepts p install) → Installed (following p install) h
   -- At all times: no edit is settled twice,
   pub once : (n : ℕ) → times n (h .settlings) ≤ 1
+  -- and none that is not kept,
+  pub kept : (n : ℕ) → 0 < times n (h .settlings) → T (listed n (h .kept))
   -- fate says of a settled edit what its replay gave, and its place,
   pub told-fate : (n : ℕ) → 0 < times n (h .settlings) → step (fate-of (pos n)) p .answer ≡ ok (pos (settledAs n (h .settlings) .0) ∷ pos (settledAs n (h .settlings) .1) ∷ [])
   -- and no edit is settled before the one that it names as earlier (condition 2).
   pub ordered : InOrder (h .settlings)
+  -- A settled edit whose earlier edit was revoked is itself revoked (02, S-2);
+  pub passed-on : (n : ℕ) → 0 < times n (h .settlings) → settledAs (editIn n (h .kept) .earlier) (h .settlings) .0 ≡ 4 → settledAs n (h .settlings) .0 ≡ 4
+  -- so an accepted edit has only accepted ones before it along its chain of earlier edits.
+  pub chain-accepted : (k n : ℕ) → settledAs n (h .settlings) .0 ≡ 3
+      → (earlierBy k n (h .kept) ≡ 0) ⊎ (settledAs (earlierBy k n (h .kept)) (h .settlings) .0 ≡ 3)
   -- From open on every rule holds on every side, and on the base and the draft for as long as there is one.
   pub sides-hold : T (not (is blank (p .mode))) → (s : ℕ) → T (oneTo (length (p .content .sides)) s) → T (holds (p .content .rules) (sideAt (p .content) s .values))
   pub base-holds : T (is split (p .mode) || active (p .mode)) → T (holds (p .content .rules) (p .content .base))
