@@ -2,7 +2,7 @@
 //!
 //! bench [ROUNDS]
 
-#[cfg(feature = "plans")]
+#[cfg(feature = "requests")]
 mod plans;
 mod sheets;
 
@@ -98,6 +98,6 @@ fn main() {
             row(&work.name, times);
         }
     }
-    #[cfg(feature = "plans")]
+    #[cfg(feature = "requests")]
     plans::print(rounds);
 }

@@ -1,7 +1,7 @@
 -- Settled edits along their chains of earlier edits. Assumes nothing.
 use Prim.Native.Nat.{ℕ, zero, suc, _<_}
 use mathlib.Core.Path.{_≡_, refl, sym, ap, _∙_}
-use mathlib.Core.Logic.{_⊎_, inl, inr, _≢_}
+use mathlib.Core.Logic.{_⊎_, inl, inr}
 use mathlib.Core.Bool.{false}
 use mathlib.Core.List.{List, [], _∷_}
 use native.Mathlib.Omega.{arith}
@@ -75,29 +75,26 @@ told-revoked ks xs told n r =
 
 -- ---- along the chain
 
-module _ (es : List Entry) (xs : List Settling) (c : Chained es xs) (judged : (n : ℕ) → 0 < times n xs → (settledAs n xs .0 ≡ 3) ⊎ (settledAs n xs .0 ≡ 4)) where
-  -- an accepted edit was settled
-  was-settled : (n : ℕ) → settledAs n xs .0 ≡ 3 → 0 < times n xs
-  was-settled n e = by xs e
-    where
-      by : (xs : List Settling) → settledAs n xs .0 ≡ 3 → 0 < times n xs
-      by [] e = absurd (omega arith)
-      by (x ∷ xs) e =
-          let ih = by xs in
-          cases (eqb n (x .edit .number)) (λ i. rw i (omega arith)) (λ i. rw i (ih (rw i at e)))
+-- an edit that was accepted was settled
+was-settled : (n : ℕ) (xs : List Settling) → settledAs n xs .0 ≡ 3 → 0 < times n xs
+was-settled n [] e = absurd (omega arith)
+was-settled n (x ∷ xs) e =
+    let ih = was-settled n xs in
+    cases (eqb n (x .edit .number)) (λ i. rw i (omega arith)) (λ i. rw i (ih (rw i at e)))
 
-  ended : (k : ℕ) → earlierBy k 0 es ≡ 0
-  ended zero = refl
-  ended (suc k) = refl
+ended : (k : ℕ) (es : List Entry) → earlierBy k 0 es ≡ 0
+ended zero es = refl
+ended (suc k) es = refl
 
-  pub accepted-chain : (k n : ℕ) → settledAs n xs .0 ≡ 3 → (earlierBy k n es ≡ 0) ⊎ (settledAs (earlierBy k n es) xs .0 ≡ 3)
-  accepted-chain zero n a = inr a
-  accepted-chain (suc k) zero a = inl refl
-  accepted-chain (suc k) (suc n) a =
-      let e = editIn (suc n) es .earlier in
-      let o = c (suc n) (was-settled (suc n) a) in
-      on (o .follows)
-      (λ z. inl (ap (λ m. earlierBy k m es) z ∙ ended k))
-      (λ t. on (judged e t)
-      (λ y. accepted-chain k e y)
-      (λ r. let w = o .passes r in absurd (omega arith)))
+pub accepted-chain : (es : List Entry) (xs : List Settling) → Chained es xs → ((n : ℕ) → 0 < times n xs → (settledAs n xs .0 ≡ 3) ⊎ (settledAs n xs .0 ≡ 4))
+    → (k n : ℕ) → settledAs n xs .0 ≡ 3 → (earlierBy k n es ≡ 0) ⊎ (settledAs (earlierBy k n es) xs .0 ≡ 3)
+accepted-chain es xs c judged zero n a = inr a
+accepted-chain es xs c judged (suc k) zero a = inl refl
+accepted-chain es xs c judged (suc k) (suc n) a =
+    let e = editIn (suc n) es .earlier in
+    let o = c (suc n) (was-settled (suc n) xs a) in
+    on (o .follows)
+    (λ z. inl (ap (λ m. earlierBy k m es) z ∙ ended k es))
+    (λ t. on (judged e t)
+    (λ y. accepted-chain es xs c judged k e y)
+    (λ r. let w = o .passes r in absurd (omega arith)))

@@ -54,7 +54,7 @@ pub fn earlier(h: Head, i: usize, standing: EditRecord) -> usize
 
 // ---- what it decides
 
-// Whether an edit, seen at a position from 1, has a fate.
+// Whether this is the fate of an edit, seen at a position from 1.
 fn has_fate(i: usize, e: EditRecord, fate: Fate) -> bool
     ensures { λ t. ⌜ t ≡ fateIs (fateOf fate) (keptAt 0 (recordOf i e) .fate) ⌝ }
 {
