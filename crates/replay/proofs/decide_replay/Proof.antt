@@ -8,6 +8,7 @@ use lib.ListN.{getD}
 use mir.Facts.{toZ-ofZ}
 use Rattle.exact.proofs.Ints.{fits32}
 use Rattle.protocol.specs.Plan.{active, isWaiting, isRevoked}
+use Rattle.protocol.specs.Calls.{fine, first}
 use Rattle.protocol.proofs.Laws.{cases}
 use Rattle.heads.specs.Heads.{modeOf}
 use Rattle.records.specs.declared.EditRecord.{EditRecord}
@@ -15,7 +16,7 @@ use Rattle.records.specs.Records.{keptAt, recordOf}
 use Rattle.rules.specs.Index.{testedBy}
 use Rattle.rules.specs.Table.{lowers, gaps, uppers}
 use Rattle.replay.specs.declared.Outcome.the-variants.{Settled}
-use Rattle.replay.specs.Replays.{draftOutcome, replayOutcome, pointOf}
+use Rattle.replay.specs.Replays.{replayChecks, draftOutcome, replayOutcome, pointOf}
 use borrow.Author.Needs.{needs}
 use Rattle.replay.proofs.decide_replay.Statement.{statement}
 use Rattle.replay.proofs.decide_replay.Tie as tie
@@ -41,6 +42,9 @@ Start-from-Else3 c = c .before .before .before .before .before
 abbrev Start-from-After-has-fate2 : tie.After-has-fate2 → tie.Start
 Start-from-After-has-fate2 c = c .before .before .before .before .before .before
 
+abbrev Else2-from-Else4 : tie.Else4 → tie.Else2
+Else2-from-Else4 c = c .before .before .before .before
+
 abbrev Else2-from-Then4 : tie.Then4 → tie.Else2
 Else2-from-Then4 c = c .before .before .before .before
 
@@ -56,9 +60,6 @@ Else4-from-After-try-draft c = c .before .before .before .before
 abbrev Else3-from-After-try-draft : tie.After-try-draft → tie.Else3
 Else3-from-After-try-draft c = c .before .before .before .before .before .before
 
-abbrev Else2-from-After-try-draft : tie.After-try-draft → tie.Else2
-Else2-from-After-try-draft c = c .before .before .before .before .before .before .before .before
-
 abbrev Start-from-After-try-draft : tie.After-try-draft → tie.Start
 Start-from-After-try-draft c = c .before .before .before .before .before .before .before .before .before .before .before
 
@@ -70,9 +71,6 @@ Else4-from-After-t23 c = c .before .before .before .before .before
 
 abbrev Else3-from-After-t23 : tie.After-t23 → tie.Else3
 Else3-from-After-t23 c = c .before .before .before .before .before .before .before
-
-abbrev Else2-from-After-t23 : tie.After-t23 → tie.Else2
-Else2-from-After-t23 c = c .before .before .before .before .before .before .before .before .before
 
 abbrev Start-from-After-t23 : tie.After-t23 → tie.Start
 Start-from-After-t23 c = c .before .before .before .before .before .before .before .before .before .before .before .before
@@ -90,8 +88,10 @@ waits c = sym (c .before .has-fate .ensures) ∙ not-false _ (c .if3 .left)
 earlier : (c : tie.After-has-fate2) → let a = (Start-from-After-has-fate2 c) .args in c .has-fate2 .result ≡ isWaiting (keptAt 0 (recordOf (a .j) (a .seen)))
 earlier c = c .has-fate2 .ensures
 
-settled : (c : tie.Else4) → let a = (Start-from-Else4 c) .args in isWaiting (keptAt 0 (recordOf (a .j) (a .seen))) ≡ false
-settled c = sym (earlier (c .before)) ∙ c .if4 .left
+-- every check passes
+checked : (c : tie.Else4) → let a = (Start-from-Else4 c) .args in
+    first (replayChecks (modeOf (a .h .mode)) (a .missing) (keptAt 0 (recordOf (a .i) (a .standing))) (keptAt 0 (recordOf (a .j) (a .seen)))) ≡ fine
+checked c = rw (joining ((Else2-from-Else4 c)), complete ((Else2-from-Else4 c)), waits (c .before .before), sym (earlier (c .before)) ∙ c .if4 .left)
 
 built : (c : tie.After-has-fate3) → let a = (Start-from-After-has-fate3 c) .args in c .has-fate3 .result ≡ isRevoked (keptAt 0 (recordOf (a .j) (a .seen)))
 built c = c .has-fate3 .ensures
@@ -141,7 +141,7 @@ unfolding replayOutcome
 returns-5 c =
     let a = (Start-from-After-t23 c) .args in
     let stands = found-waiting (a .i) (a .standing) (waits ((Else3-from-After-t23 c))) in
-    rw (joining ((Else2-from-After-t23 c)), complete ((Else2-from-After-t23 c)), waits ((Else3-from-After-t23 c)), settled ((Else4-from-After-t23 c)), sym (built ((After-has-fate3-from-After-t23 c))) ∙ c .before .before .if5 .taken)
+    rw (checked ((Else4-from-After-t23 c)), sym (built ((After-has-fate3-from-After-t23 c))) ∙ c .before .before .if5 .taken)
     (ap (Settled false) (toZ-ofZ (fits32 _ (c .t23 .given)) ∙ ap (λ k. getD (a .draft .now) k (pos 0)) (c .before .point .ensures .0 ∙ ap (λ e. pointOf (e .measure)) (sym stands))))
 
 try-draft-requires : tie.Need-try-draft-requires
@@ -151,7 +151,7 @@ returns-6 : tie.Need-returns-6
 unfolding replayOutcome
 returns-6 c =
     let a = (Start-from-After-try-draft c) .args in
-    rw (joining ((Else2-from-After-try-draft c)), complete ((Else2-from-After-try-draft c)), waits ((Else3-from-After-try-draft c)), settled ((Else4-from-After-try-draft c)), sym (built (c .before .before)) ∙ c .before .if5 .left)
+    rw (checked ((Else4-from-After-try-draft c)), sym (built (c .before .before)) ∙ c .before .if5 .left)
     (c .try-draft .ensures
     ∙ ap (λ e. draftOutcome (testedBy (a .sound) (a .index .now)) (a .h) (lowers (a .table .now)) (gaps (a .table .now)) (uppers (a .table .now)) (a .draft .now)
     (e .measure) (e .change) (getD (a .draft .now) (pointOf (e .measure)) (pos 0))) (sym (found-waiting (a .i) (a .standing) (waits ((Else3-from-After-try-draft c))))))
