@@ -16,7 +16,9 @@ use Rattle.protocol.specs.History.{Entry, edited, History, lastSent, closed, bu
 use Rattle.guarantee.specs.Guarantee.{InOrder}
 use Rattle.protocol.proofs.Laws.{on, decide, cases, yes-is, is-yes, is-no, both, and-in, which, or-right, or-left, not-not, range, in-range, same-no, Pass, count-to-zero, count-map, count-snoc, length-snoc, length-modify, nth-same, nth-other, all-snoc}
 use Rattle.protocol.proofs.Replays.{accepted-holds}
-use Rattle.guarantee.proofs.Kept.{editsOf, editsIn, edits-snoc, edits-sent, edits-settle, edit-found, settle-part, lookup-same, lookup-other, lookup-number, lookup-new, lookup-old, lookup-sent, open-sent, unsent-sent, unsent-other, Within, within-snoc, within-lookup, Rising, rising-le, rising-snoc, bounds, Named, named-sent, named-settle, named-snoc, Reported, reported-snoc, reported-sent, reported-settle, waiting-open, waiting-listed, fresh-open, settled-count}
+use Rattle.guarantee.proofs.Kept.{editsOf, editsIn, edits-snoc, edits-sent, edits-settle, edit-found, settle-part, lookup-same, lookup-other, lookup-number, lookup-new, lookup-old, lookup-sent}
+use Rattle.guarantee.proofs.Kept.{open-sent, unsent-sent, unsent-other, Within, within-snoc, within-lookup, Rising, rising-le, rising-snoc, bounds, Named, named-sent, named-settle, named-snoc}
+use Rattle.guarantee.proofs.Kept.{Reported, reported-snoc, reported-sent, reported-settle, waiting-open, waiting-listed, fresh-open, settled-count}
 use Rattle.guarantee.proofs.Chains.{Chained, chained-snoc, chained-settle, told-revoked, revoked-onward}
 use Rattle.guarantee.proofs.Left.{unarrived, unconfirmed, sum, sendTo, pending-sent, pending-others, send-sum, settled-shut, unsent-settled, settled-settled, replayTo, replay-sum, stop-sum, confirmTo, arrived-confirmed, confirm-sum, newKept, editTo, pending-edited, arrived-edited, confirmed-edited, pending-not-edited, edit-sum, joinTo, side-joined, join-sum}
 use Rattle.guarantee.specs.Holding.{Holding}
@@ -70,13 +72,17 @@ Stage split d h = Parted d h × T (all isUnsent (d .kept)) × (h .settlings ≡ 
 Stage joining d h = Parted d h × Active joining d h
 Stage closing d h = Parted d h × Active closing d h
 
+-- what holds of the settled edits in their order, and along their chains
+abbrev pub Ordered : History → Type 0
+Ordered h = InOrder (h .settlings) × Chained (h .kept) (h .settlings)
+
 abbrev pub Consistent : Mode → Content → History → Type 0
 Consistent m d h = record {
   mode : h .mode ≡ m;
   rules : d .rules ≡ h .rules;
   next : 0 < d .next;
   reported : Reported (d .kept) (h .settlings);
-  ordered : InOrder (h .settlings) × Chained (h .kept) (h .settlings);
+  ordered : Ordered h;
   stage : Stage m d h;
 }
 
@@ -211,10 +217,10 @@ module _ (m : Mode) (d : Content) (h : History) (t : Parted d h) (a : Active m d
       (reported-settle (natural z) (replayable d (natural z)) (d .kept) (h .settlings) (lookup (natural z) (d .kept) .edit) (lookup-number (natural z) (d .kept) waits) waits told)
 
 -- the edit comes behind the one that it names, and is revoked where that one was
-replay-ordered : (d : Content) (h : History) → Parted d h → Reported (d .kept) (h .settlings) → InOrder (h .settlings) × Chained (h .kept) (h .settlings) → (z : ℤ)
+replay-ordered : (d : Content) (h : History) → Parted d h → Reported (d .kept) (h .settlings) → Ordered h → (z : ℤ)
     → T (isWaiting (lookup (natural z) (d .kept)))
     → (lookup (natural z) (d .kept) .edit .earlier ≡ 0) ⊎ (0 < times (lookup (natural z) (d .kept) .edit .earlier) (h .settlings))
-    → (let h′ = entered (replay z) (pos (fateNumber (outcome (replayable d (natural z)))) ∷ []) h in InOrder (h′ .settlings) × Chained (h′ .kept) (h′ .settlings))
+    → Ordered (entered (replay z) (pos (fateNumber (outcome (replayable d (natural z)))) ∷ []) h)
 unfolding entered
 replay-ordered d h t told old z waits follows =
     let n = natural z in
@@ -490,35 +496,32 @@ module _ (d : Content) (h : History) where
           stage = (rw first (single (made (natural m) (changeOf kind k)) one (t .stage .0)), t .stage .1);
         })
 
-    edit-split : Consistent split d h → AfterConsistent (edit s client n m kind k) split d h
-    unfolding after entered gives
-    edit-split t = rw (t .mode) (record {
-      mode = refl;
+    -- it is kept: what does not depend on the mode
+    edit-kept : (m : Mode) (replied late : Bool) → Consistent m d h → Stage m (editTo d made-edit replied) (editEntered h made-edit late)
+        → Consistent m (editTo d made-edit replied) (editEntered h made-edit late)
+    edit-kept m replied late t stage = record {
+      mode = t .mode;
       rules = t .rules;
       next = omega arith;
-      reported = reported-snoc (d .kept) (newKept made-edit true) (h .settlings) tt (t .reported);
-      ordered = (t .ordered .0, chained-snoc (h .kept) (record { edit = made-edit; late = false }) (h .settlings) (t .ordered .1));
-      stage = (
-        edit-parted d h made-edit true f (t .stage .0) false,
-        all-snoc isUnsent (d .kept) (newKept made-edit true) (t .stage .1) tt,
-        t .stage .2,
-        (let z = count-snoc (λ e. e .late) (h .kept) (record { edit = made-edit; late = false }) in let y = t .stage .3 in omega arith),
-      );
-    })
+      reported = reported-snoc (d .kept) (newKept made-edit replied) (h .settlings) tt (t .reported);
+      ordered = (t .ordered .0, chained-snoc (h .kept) (record { edit = made-edit; late = late }) (h .settlings) (t .ordered .1));
+      stage = stage;
+    }
+
+    edit-split : Consistent split d h → AfterConsistent (edit s client n m kind k) split d h
+    unfolding after entered gives
+    edit-split t = rw (t .mode) (rw (t .mode) at (edit-kept split true false t (
+      edit-parted d h made-edit true f (t .stage .0) false,
+      all-snoc isUnsent (d .kept) (newKept made-edit true) (t .stage .1) tt,
+      t .stage .2,
+      (let z = count-snoc (λ e. e .late) (h .kept) (record { edit = made-edit; late = false }) in let y = t .stage .3 in omega arith),
+    )))
 
     edit-joining : Consistent joining d h → AfterConsistent (edit s client n m kind k) joining d h
     unfolding after entered gives
-    edit-joining t = rw (t .mode) (record {
-      mode = refl;
-      rules = t .rules;
-      next = omega arith;
-      reported = reported-snoc (d .kept) (newKept made-edit false) (h .settlings) tt (t .reported);
-      ordered = (t .ordered .0, chained-snoc (h .kept) (record { edit = made-edit; late = lastSent (natural s) (h .moves) }) (h .settlings) (t .ordered .1));
-      stage = (
-        edit-parted d h made-edit false f (t .stage .0) (lastSent (natural s) (h .moves)),
-        edit-active d h made-edit f (t .stage .0) (t .stage .1),
-      );
-    })
+    edit-joining t =
+        let late = lastSent (natural s) (h .moves) in
+        rw (t .mode) (rw (t .mode) at (edit-kept joining false late t (edit-parted d h made-edit false f (t .stage .0) late, edit-active d h made-edit f (t .stage .0) (t .stage .1))))
 
 -- ---- the stage of a joining or closing plan
 

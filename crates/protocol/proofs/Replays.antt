@@ -1,4 +1,4 @@
--- What is known of a replay that accepts. Other proofs take it from here, and do not see what else a replay looks at. Assumes nothing.
+-- What is known of a replay that accepts. Other proofs take it from here, and do not see what else a replay looks at; S-2's own law is guarantee's (proofs/Chains). Assumes nothing.
 use Prim.Native.Nat.{ℕ}
 use mathlib.Core.Bool.{not}
 use lib.Dec.{T}

@@ -66,9 +66,13 @@ asks n = fate-of (pos n)
 abbrev pair : ℕ → List Call
 pair f = draw 3 ∷ draw 12 ∷ drawRule 1 1 2 f ∷ open-plan ∷ []
 
+-- to its second edit
+abbrev parted : List Call
+parted = pair 0 ++ (splitOff 1 ∷ change 1 5 0 1 2 1 ∷ change 2 6 0 1 3 3 ∷ [])
+
 -- to its join
 abbrev joined : List Call
-joined = pair 0 ++ (splitOff 1 ∷ change 1 5 0 1 2 1 ∷ change 2 6 0 1 3 3 ∷ join ∷ [])
+joined = parted ++ (join ∷ [])
 
 -- to its stop
 abbrev stopped : List Call
@@ -86,11 +90,9 @@ sheetAnswers =
 abbrev lateEdit : List Call
 lateEdit = pair 0 ++ (splitOff 1 ∷ join ∷ sends 1 ∷ sends 2 ∷ change 1 1 0 1 2 1 ∷ [])
 
--- client 6 triples measure 1 and builds on it, twice; client 5 adds 1 to measure 1 and builds on that; after both sends edit 2 is revoked, as 12 is not below 12
+-- edits 3 and 4 are built on edit 2 and on one another, edit 5 on edit 1; edit 1 is accepted, edit 2 revoked
 abbrev built : List Call
-built =
-    pair 0 ++ (splitOff 1 ∷ change 1 5 0 1 2 1 ∷ change 2 6 0 1 3 3 ∷ change 2 6 2 2 2 5 ∷ change 2 6 3 2 2 5 ∷ change 1 5 1 2 2 1 ∷ join ∷ sends 1 ∷ sends 2
-    ∷ replays 1 ∷ replays 2 ∷ [])
+built = parted ++ (change 2 6 2 2 2 5 ∷ change 2 6 3 2 2 5 ∷ change 1 5 1 2 2 1 ∷ join ∷ sends 1 ∷ sends 2 ∷ replays 1 ∷ replays 2 ∷ [])
 
 -- ---- the table
 

@@ -286,14 +286,7 @@ fn earlier_edits() {
 /// Edit 2 is revoked. Edit 3, built on it, would do; edit 4 is built on edit 3, edit 6 on edit 2; edit 5 is built on an accepted edit.
 #[test]
 fn edits_built_on_a_revoked_one() {
-    table("
-        measure 3            | ok 1
-        measure 12           | ok 2
-        rule 1 1 2 0         | ok 1
-        open                 | ok 0
-        split 1              | ok 2
-        edit 1 5 0 1 2 1     | ok 1
-        edit 2 6 0 1 3 3     | ok 2
+    table(&format!("{}{}", EXAMPLE.split("    join").next().unwrap(), "
         edit 2 6 2 2 2 5     | ok 3
         edit 2 6 3 2 2 5     | ok 4
         edit 1 5 1 2 2 1     | ok 5
@@ -324,7 +317,7 @@ fn edits_built_on_a_revoked_one() {
         show 1               | ok 4 13
         edit 1 6 3 2 2 5     | ok 7
         show 1               | ok 4 18
-    ");
+    "));
     // Revoked for its range alone.
     let lines = "measure 500000\nmeasure 0\nopen\nsplit 1\nedit 1 5 0 1 3 2\nedit 2 6 0 1 3 2\nedit 2 6 2 2 2 1\n\
                  join\nsend 1\nsend 2\nreplay 1\nreplay 2\nreplay 3\n";
