@@ -220,6 +220,19 @@ module _ {A : Type 0} where
   all-nth p d (x ∷ xs) (suc zero) t i j = both (p x) (all p xs) t .0
   all-nth p d (x ∷ xs) (suc (suc k)) t i j = all-nth p d xs (suc k) (both (p x) (all p xs) t .1) (omega arith) (omega arith)
 
+  -- and back
+  pub nth-all : (p : A → Bool) (d : A) (xs : List A) → ((s : ℕ) → 0 < s → s ≤ length xs → T (p (nth d xs s))) → T (all p xs)
+  nth-all p d [] h = tt
+  nth-all p d (x ∷ xs) h = and-in (p x) (all p xs) (h 1 (omega arith) (omega arith)) (nth-all p d xs (λ s i j. later s i (h (suc s) (omega arith) (omega arith))))
+    where
+      later : (s : ℕ) → 0 < s → T (p (nth d (x ∷ xs) (suc s))) → T (p (nth d xs s))
+      later zero i t = absurd (omega arith)
+      later (suc s) i t = t
+
+  pub all-then : (p q : A → Bool) (xs : List A) → ((x : A) → T (p x) → T (q x)) → T (all p xs) → T (all q xs)
+  all-then p q [] h t = tt
+  all-then p q (x ∷ xs) h t = let b = both (p x) (all p xs) t in and-in (q x) (all q xs) (h x (b .0)) (all-then p q xs h (b .1))
+
   pub all-snoc : (p : A → Bool) (xs : List A) (x : A) → T (all p xs) → T (p x) → T (all p (snoc xs x))
   all-snoc p [] x t u = and-in (p x) true u tt
   all-snoc p (y ∷ xs) x t u = let b = both (p y) (all p xs) t in and-in (p y) _ (b .0) (all-snoc p xs x (b .1) u)

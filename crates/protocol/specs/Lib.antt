@@ -1,5 +1,6 @@
 pub mod Lists
 pub mod Plan
+pub mod Broken
 pub mod Calls
 pub mod History
 pub mod Trials

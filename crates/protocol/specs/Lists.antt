@@ -1,6 +1,6 @@
 -- Believed: counting, looking up and changing, over any list; ranges of whole numbers. Assumes nothing.
 use Prim.Native.Nat.{ℕ, zero, suc, _+_}
-use mathlib.Core.Bool.{Bool, true, false, _&&_, _||_}
+use mathlib.Core.Bool.{Bool, true, false, cond, _&&_, _||_}
 use mathlib.Core.List.{List, [], _∷_, _++_}
 use lib.ListN.{getD}
 use lib.Dec.{eqb, leb, ltb}
@@ -52,6 +52,16 @@ module _ {A : Type 0} where
   abbrev pub any : (A → Bool) → List A → Bool
   any p [] = false
   any p (x ∷ xs) = p x || any p xs
+
+  -- what passes a test, in order
+  abbrev pub passing : (A → Bool) → List A → List A
+  passing p [] = []
+  passing p (x ∷ xs) = cond (p x) (x ∷ passing p xs) (passing p xs)
+
+  -- the number of the first that fails a test; 0 if none does
+  abbrev pub firstNot : (A → Bool) → (A → ℕ) → List A → ℕ
+  firstNot p number [] = 0
+  firstNot p number (x ∷ xs) = cond (p x) (firstNot p number xs) (number x)
 
   -- the list with one element more
   abbrev pub snoc : List A → A → List A

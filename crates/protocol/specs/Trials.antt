@@ -2,11 +2,12 @@
 use Prim.Native.Nat.{ℕ, _+_, _-_}
 use mathlib.Core.Path.{_≡_, refl}
 use mathlib.Core.List.{List, [], _∷_, _++_, map}
-use lib.IntN.{pos}
+use lib.IntN.{ℤ, pos}
 use lib.ListN.{length, drop}
 use Rattle.protocol.specs.Lists.{neg, within}
-use Rattle.protocol.specs.Plan.{Plan, value, ruleHolds, holds, names, firmlyNamed, kindOf, isFactor, allowed, applied, made, fits, effective}
-use Rattle.protocol.specs.Calls.{Call, measure, rule, open-plan, split-side, edit, join, send, replay, stop, confirm, install, show, fate-of, left, Answer, no, ok, checks, further, replayable, after, gives, leftIn, step, start}
+use Rattle.protocol.specs.Plan.{Rule, Plan, value, ruleHolds, holds, names, firmlyNamed, kindOf, isFactor, allowed, applied, made, fits, effective}
+use Rattle.protocol.specs.Broken.{firstBroken, brokenRule}
+use Rattle.protocol.specs.Calls.{Call, measure, rule, open-plan, split-side, edit, join, send, replay, stop, confirm, install, show, fate-of, left, Answer, no, ok, ruleOf, checks, further, replayable, after, gives, leftIn, step, start}
 use Rattle.protocol.specs.History.{History, empty, entered, recorded, closed, budget}
 
 -- ---- a row: calls made from a blank plan, and the answers to the last of them
@@ -180,6 +181,21 @@ table =
 pub trials : map found table ≡ map (λ r. r .last) table
 unfolding table found answers step checks further after gives within value ruleHolds holds names firmlyNamed kindOf isFactor allowed applied made fits effective replayable
 trials = refl
+
+-- ---- which rule is broken (02, S-3)
+
+-- four rules, and measures that break none, each of them alone, two, three and all but the first of them
+abbrev crossed : List Rule
+crossed = ruleOf (pos 1) (pos 0) (pos 2) (pos 0) ∷ ruleOf (pos 1) (pos 10) (pos 3) (pos 0) ∷ ruleOf (pos 2) (neg 5) (pos 3) (pos 1) ∷ ruleOf (pos 3) (pos 0) (pos 4) (pos 0) ∷ []
+
+abbrev measures : ℕ → ℕ → ℕ → ℕ → List ℤ
+measures a b c d = pos a ∷ pos b ∷ pos c ∷ pos d ∷ []
+
+pub broken-rules : map (brokenRule crossed)
+    (measures 0 10 20 30 ∷ measures 9 9 20 30 ∷ measures 15 20 20 30 ∷ measures 0 25 20 30 ∷ measures 0 10 30 30 ∷ measures 20 15 20 30 ∷ measures 15 25 20 30 ∷ measures 5 30 5 5 ∷ [])
+    ≡ 0 ∷ 1 ∷ 2 ∷ 3 ∷ 4 ∷ 2 ∷ 3 ∷ 4 ∷ []
+unfolding brokenRule firstBroken ruleHolds value
+broken-rules = refl
 
 -- ---- the history beside the plan
 
