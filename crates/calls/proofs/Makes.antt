@@ -36,7 +36,7 @@ use Rattle.moves.specs.Frames.{frameFrom, movedTo, Moves}
 use Rattle.moves.specs.Calls.{moveCall, Counts}
 use Rattle.change.specs.declared.Change.{Change}
 use Rattle.edit.specs.declared.Ruling.{Ruling}
-use Rattle.edit.specs.declared.Ruling.the-variants.{Refused as Denied, Granted}
+use Rattle.edit.specs.declared.Ruling.the-variants.{Refused as Denied, Broken, Granted}
 use Rattle.edit.specs.Edits as editing
 use Rattle.edit.specs.Edits.{Decision, spotOf, slotOf, editHead, editRecord, editDecision, rulingFrom, editFrom, editIn}
 use Rattle.edit.proofs.Edits.{edit-decided, edit-meets}
@@ -186,6 +186,12 @@ module _ (l : Line) (h : Head) (base draft values : List ℤ) (arrived confirmed
       subst (λ x. Edits (ruledAs x) e h values t) (sym r-is) (subst (λ x. Edits (ruledAs (Denied k)) x h values t) (sym e-is)
       (record { bare = (refl, refl, refl, omega arith); answer = refl; head = refl; written = sym (set-getD values spot (pos 0)); keeps = λ es. refl; counts = refl }))
 
+  -- a broken rule is refused with 29; which it was is not told yet (S-7)
+  pub edit-broken : (rule : ℕ) {r : Ruling} {e : Effect} → r ≡ Broken rule → e ≡ plain (refusal 29) → Edits (ruledAs r) e h values t
+  edit-broken rule {r = r} {e = e} r-is e-is =
+      subst (λ x. Edits (ruledAs x) e h values t) (sym r-is) (subst (λ x. Edits (ruledAs (Broken rule)) x h values t) (sym e-is)
+      (record { bare = (refl, refl, refl, omega arith); answer = refl; head = refl; written = sym (set-getD values spot (pos 0)); keeps = λ es. refl; counts = refl }))
+
   -- in a whole plan an edit is not kept, in another it is
   pub edit-made : (ch : Change) (x : ℤ) {r : Ruling} {e : Effect} {h′ : Head} {values′ : List ℤ} → r ≡ Granted ch x → is whole (modeOf (h .mode)) ≡ true
       → e ≡ plain (number (h .next)) → h′ ≡ editHead h → values′ ≡ set values spot x → Edits (ruledAs r) e h′ values′ t
@@ -277,11 +283,11 @@ module _ (l : Line) (h : Head) (base draft values : List ℤ) (arrived confirmed
         counts = refl;
       }))
 
-  pub replay-settled : (b : Bool) (x : ℤ) {r : Outcome} {e : Effect} {slot : ℕ} {draft′ : List ℤ} {t′ : List ℕ} → r ≡ Settled b x
+  pub replay-settled : (b : Bool) (x : ℤ) (rule : ℕ) {r : Outcome} {e : Effect} {slot : ℕ} {draft′ : List ℤ} {t′ : List ℕ} → r ≡ Settled b x rule
       → e ≡ stored (number (cond b 3 4)) slot (replays.settledRecord (look .standing) b (min (settledIn t) 256 + 1)) → slot ≡ slotAt (look .named) → slot < 256
       → draft′ ≡ set draft point x → t′ ≡ oneSettled t → Settles (settledAs r) e draft′ t′
-  replay-settled b x {r = r} {e = e} {draft′ = draft′} {t′ = t′} r-is e-is slot-is few draft-is counts-is =
-      subst (λ y. Settles (settledAs y) e draft′ t′) (sym r-is) (subst (λ y. Settles (settledAs (Settled b x)) y draft′ t′) (sym e-is)
+  replay-settled b x rule {r = r} {e = e} {draft′ = draft′} {t′ = t′} r-is e-is slot-is few draft-is counts-is =
+      subst (λ y. Settles (settledAs y) e draft′ t′) (sym r-is) (subst (λ y. Settles (settledAs (Settled b x rule)) y draft′ t′) (sym e-is)
       (record {
         bare = (refl, refl, refl, few);
         answer = refl;

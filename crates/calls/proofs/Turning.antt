@@ -32,7 +32,7 @@ use Rattle.state.specs.Meets.{answerOf, refusal}
 use Rattle.state.specs.Spread.{MeetsSpread}
 use Rattle.state.proofs.View.{sides-length, sides-most, side-at}
 use Rattle.edit.specs.declared.Ruling.{Ruling}
-use Rattle.edit.specs.declared.Ruling.the-variants.{Refused as Denied, Granted}
+use Rattle.edit.specs.declared.Ruling.the-variants.{Refused as Denied, Broken, Granted}
 use Rattle.edit.specs.Edits.{Decision, spotOf, editRuling, editDecision, editIn}
 use Rattle.rules.specs.Rules.{testedIn, firmIn}
 use Rattle.draw.proofs.Draw.{rules-length}
@@ -154,6 +154,7 @@ edit-rules p sound s client n m kind k d e =
   where
     by : (r : Ruling) → editDecision (p .head) r (getD (p .values) (spotOf (natural s) (natural m)) (pos 0)) (natural s) (natural client) (natural n) (natural m) .head .rules ≡ p .head .rules
     by (Denied j) = refl
+    by (Broken j) = refl
     by (Granted c x) = refl
 
 -- a move on the frame makes no rule
@@ -271,11 +272,13 @@ module _ (p : Spread) (s client n m kind k : ℤ) {q : Spread} (d : Decision) (e
       yes-by : (r : Ruling) → let f = editDecision (p .head) r (getD (p .values) (spotOf (natural s) (natural m)) (pos 0)) (natural s) (natural client) (natural n) (natural m) in isAccepted
           (f .answer) ≡ true → f .kept ≡ not (is whole (modeOf (p .head .mode)))
       yes-by (Denied j) y = absurd (is-yes y)
+      yes-by (Broken j) y = absurd (is-yes y)
       yes-by (Granted c x) y = refl
 
       no-by : (r : Ruling) → let f = editDecision (p .head) r (getD (p .values) (spotOf (natural s) (natural m)) (pos 0)) (natural s) (natural client) (natural n) (natural m) in isAccepted
           (f .answer) ≡ false → f .kept ≡ false
       no-by (Denied j) y = refl
+      no-by (Broken j) y = refl
       no-by (Granted c x) y = absurd (is-yes (sym y))
 
       ruled : Ruling

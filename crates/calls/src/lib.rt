@@ -168,6 +168,7 @@ fn edit_in<'a>(
     let ruling = edit::decide_edit(l, h, table, index, values, look.named, standing, sound);
     match ruling {
         Ruling::Refused(k) => refusal(k),
+        Ruling::Broken(_) => refusal(29),
         Ruling::Granted(change, x) => {
             let spot = edit::spot(l.a, l.d);
             values[spot] = x;
@@ -234,7 +235,7 @@ fn replay_in<'a>(
     );
     match outcome {
         Outcome::Refused(k) => refusal(k),
-        Outcome::Settled(accepted, x) => {
+        Outcome::Settled(accepted, x, _) => {
             let point = replay::point_of(i, standing);
             draft[point] = x;
             let place = rows::capped(counts[counts::SETTLED], limit::EDITS) as u32 + 1;

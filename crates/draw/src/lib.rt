@@ -163,14 +163,16 @@ fn decide_rule(h: Head, a: i32, c: i32, b: i32, f: i32, old: i32) -> Drawing
 // ---- open
 
 // Every rule holds of the values drawn, or of a whole plan's.
-pub fn rules_hold<'a>(h: Head, table: &'a Table, values: &'a [i32]) -> bool
+pub fn rules_hold<'a>(h: Head, table: &'a Table, values: &'a [i32; limit::VALUES]) -> bool
     ensures { λ t. ⌜ t ≡ holdsIn (lowers (now (table .entry))) (gaps (now (table .entry))) (uppers (now (table .entry))) (min (h .rules) 64)
         (row (now (values .entry)) 0 (measuresIn h)) ⌝ }
 {
-    rules::all_hold(table, h.rules, values, 0, h.measures, 0, 0)
+    let size = rows::capped(h.measures, limit::MEASURES);
+    let vs = &values[..];
+    rules::broken_of_all(table, h.rules, &vs[0..size], 0, 0) == 0
 }
 
-fn open_refusal<'a>(h: Head, table: &'a Table, values: &'a [i32]) -> u32
+fn open_refusal<'a>(h: Head, table: &'a Table, values: &'a [i32; limit::VALUES]) -> u32
     ensures { λ r. ⌜ r ≡ refusalOf (first (openChecks h (lowers (now (table .entry))) (gaps (now (table .entry))) (uppers (now (table .entry))) (now (values .entry)))) ⌝ }
 {
     let mode = h.mode;
@@ -194,7 +196,7 @@ fn with_open(h: Head) -> Head
     r
 }
 
-fn decide_open<'a>(h: Head, table: &'a Table, values: &'a [i32], old: i32) -> Drawing
+fn decide_open<'a>(h: Head, table: &'a Table, values: &'a [i32; limit::VALUES], old: i32) -> Drawing
     ensures { λ r. ⌜ r ≡ openDecision h (lowers (now (table .entry))) (gaps (now (table .entry))) (uppers (now (table .entry))) (now (values .entry)) old ⌝ }
 {
     let k = open_refusal(h, table, values);

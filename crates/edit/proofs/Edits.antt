@@ -1,18 +1,19 @@
 -- An edit's decision, carried out, is the protocol's step. Assumes nothing.
 use Prim.Native.Nat.{ℕ, suc, min, _+_, _-_, _%_, _<_, _≤_}
 use native.Mathlib.Omega.{arith}
-use mathlib.Core.Bool.{Bool, true, false, not, _&&_, _||_}
+use mathlib.Core.Bool.{Bool, true, false, not, cond, _&&_, _||_}
 use mathlib.Core.Path.{_≡_, refl, sym, ap, ap₂, _∙_}
 use mathlib.Core.Logic.{_≢_}
 use mathlib.Core.List.{List}
 use lib.IntN.{ℤ, pos}
-use lib.Dec.{T, T-not, leb, nltb→le, eqb→eq}
+use lib.Dec.{T, T-not, eqb, leb, nltb→le, eqb→eq}
 use lib.ListN.{length, getD, set}
 use lib.Seq.{set-getD}
 use borrow.Author.Tests.{leb-false}
-use Rattle.protocol.specs.Lists.{natural, oneTo, modify, snoc}
+use Rattle.protocol.specs.Lists.{isNone, natural, oneTo, modify, snoc}
 use Rattle.protocol.specs.Plan as model
 use Rattle.protocol.specs.Plan.{is, blank, whole, split, joining, modeNumber, holds, firmlyNamed, allowed, applied, value, made, unsent, sideAt}
+use Rattle.protocol.specs.Broken.{brokenRule}
 use Rattle.protocol.specs.Calls.{Call, edit, Check, Verdict, fine, refused, first, apart, checks, further, onValues, after, gives, stepBy, step}
 use Rattle.protocol.proofs.Laws.{cases, yes-is, no-is, is-yes, which, range, Fine, Pass, passed}
 use Rattle.change.specs.declared.Change.{Change}
@@ -21,7 +22,7 @@ use Rattle.rows.specs.Rows.{span, row}
 use Rattle.rows.proofs.Spans.{length-span}
 use Rattle.rules.specs.Rules.{RuleTest, testedIn, firmIn}
 use Rattle.rules.specs.Index.{IndexedIf, FirmTest, testedBy, firmBy}
-use Rattle.rules.proofs.Rules.{tested-all, tested-sound, firm-is, made-with, row-set, row-apart}
+use Rattle.rules.proofs.Rules.{tested-all, tested-none, tested-sound, firm-is, made-with, row-set, row-apart}
 use Rattle.rules.proofs.Index.{tested-indexed, firm-indexed}
 use Rattle.records.specs.declared.EditRecord.{EditRecord}
 use Rattle.records.specs.declared.Fate.the-variants.{Unsent}
@@ -37,7 +38,7 @@ use Rattle.state.specs.Sizes.{Sized}
 use Rattle.state.proofs.View.{plan-same, sides-most, sides-length, side-at, sides-modify, lookup-named}
 use Rattle.records.proofs.Records.{log-snoc}
 use Rattle.reader.specs.declared.Line.{Line}
-use Rattle.edit.specs.Edits.{editChecks, ruled, changeOf, changeIn, editRuling, rulingFrom, Decision, editHead, editDecision, spotOf, slotOf, editFrom, editBy, editIn, stored}
+use Rattle.edit.specs.Edits.{editChecks, ruled, ruleFor, changeOf, changeIn, editRuling, rulingFrom, Decision, editHead, notEdited, editDecision, spotOf, slotOf, editFrom, editBy, editIn, stored}
 use Rattle.edit.proofs.Rulings.{made-change}
 
 -- a line's ruling is that of its numbers
@@ -60,15 +61,17 @@ single-apart h t = which (is split (modeOf (h .mode))) (is joining (modeOf (h .m
     (λ u. rw (eqb→eq (modeNumber (modeOf (h .mode))) 3 u))
 
 -- what the tests of the rules find counts only where the plan is drawn up, the side is one of its own and, for the firm ones, the measure is
-checks-found : (mode : model.Mode) (sides : ℕ) (named : model.Kept) (kept next : ℕ) (vs : List ℤ) (s : ℕ) (client n : ℤ) (m : ℕ) (ch : model.Change) (held held′ firm firm′ : Bool)
-    → (T (not (is blank mode)) → T (oneTo sides s) → held ≡ held′)
+ruled-same : (mode : model.Mode) (sides : ℕ) (named : model.Kept) (kept next : ℕ) (vs : List ℤ) (s : ℕ) (client n : ℤ) (m : ℕ) (ch : model.Change) (c : Change) (x : ℤ) (rule rule′ : ℕ)
+    (firm firm′ : Bool)
+    → (T (not (is blank mode)) → T (oneTo sides s) → rule ≡ rule′)
     → (T (not (is blank mode)) → T (oneTo (length vs) m) → firm ≡ firm′)
-    → first (editChecks held mode sides firm named kept next vs s client n m ch) ≡ first (editChecks held′ mode sides firm′ named kept next vs s client n m ch)
-checks-found mode sides named kept next vs s client n m ch held held′ firm firm′ h f = cases (is whole mode || apart mode)
+    → ruled (first (editChecks (isNone rule) mode sides firm named kept next vs s client n m ch)) c x rule
+    ≡ ruled (first (editChecks (isNone rule′) mode sides firm′ named kept next vs s client n m ch)) c x rule′
+ruled-same mode sides named kept next vs s client n m ch c x rule rule′ firm firm′ h f = cases (is whole mode || apart mode)
     (λ t. cases (oneTo sides s)
     (λ u. cases (oneTo (length vs) m)
-    (λ v. ap₂ (λ b f. first (editChecks b mode sides f named kept next vs s client n m ch)) (h (drawn mode (is-yes t)) (is-yes u)) (f (drawn mode (is-yes t)) (is-yes v)))
-    (λ v. rw (t, u, v)))
+    (λ v. ap₂ (λ r f. ruled (first (editChecks (isNone r) mode sides f named kept next vs s client n m ch)) c x r) (h (drawn mode (is-yes t)) (is-yes u)) (f (drawn mode (is-yes t)) (is-yes v)))
+    (λ v. ap (λ r. ruled (first (editChecks (isNone r) mode sides firm named kept next vs s client n m ch)) c x r) (h (drawn mode (is-yes t)) (is-yes u)) ∙ rw (t, u, v)))
     (λ u. rw (t, u)))
     (λ t. rw t)
   where
@@ -96,9 +99,9 @@ unfolding editRuling
 decision-same test test′ firmly firmly′ p s client n m kind k h f =
     let ch = changeOf (natural kind) k in
     let vs = row (p .values) (offsetOf (natural s)) (measuresIn (p .head)) in
-    ap (λ v. editDecision (p .head) (ruled v (changeIn (madeOf (natural kind) k)) (applied ch (value vs (natural m))))
-    (getD (p .values) (spotOf (natural s) (natural m)) (pos 0)) (natural s) (natural client) (natural n) (natural m))
-    (checks-found (modeOf (p .head .mode)) (sidesIn (p .head)) (keptAt 0 (namedIn p (natural n))) (keptIn (p .head)) (p .head .next) vs (natural s) client n (natural m) ch _ _ _ _ h
+    ap (λ r. editDecision (p .head) r (getD (p .values) (spotOf (natural s) (natural m)) (pos 0)) (natural s) (natural client) (natural n) (natural m))
+    (ruled-same (modeOf (p .head .mode)) (sidesIn (p .head)) (keptAt 0 (namedIn p (natural n))) (keptIn (p .head)) (p .head .next) vs (natural s) client n (natural m) ch
+    (changeIn (madeOf (natural kind) k)) (applied ch (value vs (natural m))) _ _ _ _ h
     (λ d o. let r = range (length vs) (natural m) o in f d (r .0) (omega (arith, r .1, row-length p s))))
 
 -- the decision that the code makes, with the rules' own index, is the one in the state
@@ -139,11 +142,13 @@ module _ (p : Spread) (z : Sized p) (s client n m kind k : ℤ) where
   abbrev vs : List ℤ
   vs = row (p .values) (offsetOf (natural s)) (measuresIn h)
 
-  abbrev held : Bool
-  held = testedIn false (natural m) (p .lower) (p .gap) (p .upper) (min (h .rules) 64) (applied ch (value vs (natural m))) vs
+  -- the number that the test of the rules gives
+  abbrev broken : ℕ
+  broken = testedIn false (natural m) (p .lower) (p .gap) (p .upper) (min (h .rules) 64) (applied ch (value vs (natural m))) vs
 
   abbrev Checks : List Check
-  Checks = editChecks held mode (sidesIn h) (firmIn (p .lower) (p .upper) (p .firm) (min (h .rules) 64) (natural m)) (keptAt 0 (namedIn p (natural n))) (keptIn h) (h .next) vs (natural s) client n
+  Checks = editChecks (isNone broken) mode (sidesIn h) (firmIn (p .lower) (p .upper) (p .firm) (min (h .rules) 64) (natural m)) (keptAt 0 (namedIn p (natural n))) (keptIn h) (h .next) vs (natural s)
+      client n
       (natural m) ch
 
   kept-length : length (keptOf h (p .edits)) ≡ keptIn h
@@ -162,7 +167,7 @@ module _ (p : Spread) (z : Sized p) (s client n m kind k : ℤ) where
       ap (λ ws. first (editChecks (holds (rulesOf p) (made (natural m) ch ws)) mode (sidesIn h) (firmlyNamed (rulesOf p) (natural m)) (keptAt 0 (namedIn p (natural n))) (keptIn h) (h .next) ws
       (natural s) client n (natural m) ch)) (ap (λ x. x .values) (side-is (is-yes t)))
       ∙ ap₂ (λ b f. first (editChecks b mode (sidesIn h) f (keptAt 0 (namedIn p (natural n))) (keptIn h) (h .next) vs (natural s) client n (natural m) ch))
-      (tested-all (p .lower) (p .gap) (p .upper) (p .firm) (min (h .rules) 64) (natural m) ch vs) (firm-is (p .lower) (p .gap) (p .upper) (p .firm) (min (h .rules) 64) (natural m)))
+      (tested-none (p .lower) (p .gap) (p .upper) (p .firm) (min (h .rules) 64) (natural m) ch vs) (firm-is (p .lower) (p .gap) (p .upper) (p .firm) (min (h .rules) 64) (natural m)))
       (λ t. rw t))
 
   abbrev change : Change
@@ -172,7 +177,7 @@ module _ (p : Spread) (z : Sized p) (s client n m kind k : ℤ) where
   x = applied ch (value vs (natural m))
 
   abbrev decided : Verdict → Decision
-  decided v = editDecision h (ruled v change x) (getD (p .values) (spotOf (natural s) (natural m)) (pos 0)) (natural s) (natural client) (natural n) (natural m)
+  decided v = editDecision h (ruled v change x broken) (getD (p .values) (spotOf (natural s) (natural m)) (pos 0)) (natural s) (natural client) (natural n) (natural m)
 
   abbrev next : Verdict → Spread
   next v = stored p (spotOf (natural s) (natural m)) (slotOf h) (decided v)
@@ -267,15 +272,38 @@ module _ (p : Spread) (z : Sized p) (s client n m kind k : ℤ) where
   unfolding after
   kept-next f = cases (is whole mode) (λ w. kept-whole w ∙ rw w) (λ w. kept-apart f w ∙ rw w)
 
+  abbrev old : ℤ
+  old = getD (p .values) (spotOf (natural s) (natural m)) (pos 0)
+
+  -- refused, it hands back what stands
+  not-edited : (j : ℕ) → decided (refused j) ≡ notEdited h old j (cond (eqb j 29) broken 0)
+  not-edited j = cases (eqb j 29) (λ t. rw t (ap (λ k. notEdited h old k broken) (sym (eqb→eq j 29 (is-yes t))))) (λ t. rw t)
+
   -- by the verdict on the checks
   by : (v : Verdict) → (Fine v → Pass Checks) → (answerOf (decided v .answer) ≡ stepBy v call (planOf p) .answer) × (planOf (next v) ≡ stepBy v call (planOf p) .plan) × SameIfRefused
       (decided v .answer) p (next v)
   unfolding gives after
   by (refused j) f =
-      let same : next (refused j) ≡ p = rw (set-getD (p .values) (spotOf (natural s) (natural m)) (pos 0)) in
-      (refl, ap planOf same, same)
+      let same : stored p (spotOf (natural s) (natural m)) (slotOf h) (notEdited h old j (cond (eqb j 29) broken 0)) ≡ p = rw (set-getD (p .values) (spotOf (natural s) (natural m)) (pos 0)) in
+      rw (not-edited j) (refl, ap planOf same, same)
   by fine f = let g = f tt in (refl, plan-same refl refl (let o = number g in omega arith) refl refl (sides-next g) (kept-next g), tt)
 
   pub edit-meets : let d = editIn false p s client n m kind k in MeetsSpread call p (record { state = stored p (spotOf (natural s) (natural m)) (slotOf h) d; answer = d .answer })
   unfolding step editRuling
   edit-meets = let b = by (first Checks) (passed Checks) in record { answer = rw checks-same (b .0); plan = rw checks-same (b .1); same = b .2 }
+
+  -- The rule that it names where it is refused with 29 is the one that the protocol's test gives (02, S-3), and it names none else.
+  pub edit-rule : let d = planOf p .content in
+      editIn false p s client n m kind k .rule ≡ ruleFor (first (checks call (planOf p))) (brokenRule (d .rules) (made (natural m) ch (sideAt d (natural s) .values)))
+  unfolding editRuling
+  edit-rule = rw checks-same (carried (first Checks) ∙ sides)
+    where
+      carried : (v : Verdict) → decided v .rule ≡ ruleFor v broken
+      carried fine = refl
+      carried (refused j) = ap (λ d. d .rule) (not-edited j)
+
+      sides : let d = planOf p .content in ruleFor (first Checks) broken ≡ ruleFor (first Checks) (brokenRule (d .rules) (made (natural m) ch (sideAt d (natural s) .values)))
+      sides = cases (oneTo (sidesIn h) (natural s))
+          (λ t. ap (ruleFor (first Checks)) (sym (tested-all (p .lower) (p .gap) (p .upper) (p .firm) (min (h .rules) 64) (natural m) ch vs)
+          ∙ ap (λ ws. brokenRule (rulesOf p) (made (natural m) ch ws)) (sym (ap (λ x. x .values) (side-is (is-yes t))))))
+          (λ t. cases (is whole mode || apart mode) (λ u. rw (u, t)) (λ u. rw u))

@@ -2,10 +2,10 @@
 use Prim.Native.Nat.{ℕ, _+_, _-_, _%_, min}
 use mathlib.Core.Bool.{Bool, false, not, cond, _&&_, _||_}
 use mathlib.Core.List.{List, [], _∷_}
-use lib.Dec.{leb}
+use lib.Dec.{eqb, leb}
 use lib.IntN.{ℤ, pos}
 use lib.ListN.{length, getD, set}
-use Rattle.protocol.specs.Lists.{natural, oneTo}
+use Rattle.protocol.specs.Lists.{isNone, natural, oneTo}
 use Rattle.protocol.specs.Plan as model
 use Rattle.protocol.specs.Plan.{is, whole, split, kindOf, applied, value, keptLimit, ruleLimit, numberLimit}
 use Rattle.protocol.specs.Calls.{Check, _unless_, _when_, Verdict, fine, refused, first, apart, no22, no24, no25, no28, no30}
@@ -28,7 +28,7 @@ use Rattle.reader.specs.declared.Line.{Line}
 use Rattle.heads.specs.Heads.{modeOf, sidesIn, measuresIn, offsetOf, keptIn, namedAt, namedSlot}
 use Rattle.records.specs.Records.{keptAt, noRecord, recordOf}
 use Rattle.edit.specs.declared.Ruling.{Ruling}
-use Rattle.edit.specs.declared.Ruling.the-variants.{Refused as Denied, Granted}
+use Rattle.edit.specs.declared.Ruling.the-variants.{Refused as Denied, Broken, Granted}
 
 -- ---- checks, in 01's order, from the parts of a plan that they look at; `held` says what the test of the rules found, `firm` whether a firm one names the measure
 
@@ -43,15 +43,17 @@ editChecks held mode sides firm named kept next vs s client n m ch =
 
 -- ---- what they find, with any tests of the rules
 
-abbrev pub ruled : Verdict → Change → ℤ → Ruling
-ruled fine c x = Granted c x
-ruled (refused k) c x = Denied k
+-- a refusal with 29 names the rule that the test found broken (02, S-3)
+abbrev pub ruled : Verdict → Change → ℤ → ℕ → Ruling
+ruled fine c x rule = Granted c x
+ruled (refused k) c x rule = cond (eqb k 29) (Broken rule) (Denied k)
 
 unfoldable pub changeRuling : RuleTest → FirmTest → Head → List ℕ → List ℤ → List ℕ → List Bool → List ℤ → ℕ → ℕ → Change → Ruling
 changeRuling test firmly h lower gap upper firm values at m c =
     let vs = row values at (measuresIn h) in
-    ruled (first (changeChecks (test m lower gap upper (min (h .rules) ruleLimit) (applied (viewChange c) (value vs m)) vs) (modeOf (h .mode)) (firmly lower upper firm (min (h .rules) ruleLimit) m)
-    (keptIn h) (h .next) vs m (viewChange c))) c (applied (viewChange c) (value vs m))
+    let x = applied (viewChange c) (value vs m) in
+    let rule = test m lower gap upper (min (h .rules) ruleLimit) x vs in
+    ruled (first (changeChecks (isNone rule) (modeOf (h .mode)) (firmly lower upper firm (min (h .rules) ruleLimit) m) (keptIn h) (h .next) vs m (viewChange c))) c x rule
 
 -- the change of a kind number and a constant
 abbrev pub changeOf : ℕ → ℤ → model.Change
@@ -64,9 +66,15 @@ changeIn NotMade = Set (pos 0)
 unfoldable pub editRuling : RuleTest → FirmTest → Head → List ℕ → List ℤ → List ℕ → List Bool → List ℤ → EditRecord → ℕ → ℤ → ℤ → ℕ → ℕ → ℤ → Ruling
 editRuling test firmly h lower gap upper firm values named s client n m kind k =
     let vs = row values (offsetOf s) (measuresIn h) in
-    ruled (first (editChecks (test m lower gap upper (min (h .rules) ruleLimit) (applied (changeOf kind k) (value vs m)) vs) (modeOf (h .mode)) (sidesIn h)
-    (firmly lower upper firm (min (h .rules) ruleLimit) m) (keptAt 0 named) (keptIn h) (h .next) vs s client n m (changeOf kind k)))
-    (changeIn (madeOf kind k)) (applied (changeOf kind k) (value vs m))
+    let x = applied (changeOf kind k) (value vs m) in
+    let rule = test m lower gap upper (min (h .rules) ruleLimit) x vs in
+    ruled (first (editChecks (isNone rule) (modeOf (h .mode)) (sidesIn h) (firmly lower upper firm (min (h .rules) ruleLimit) m) (keptAt 0 named) (keptIn h) (h .next) vs s client n m
+    (changeOf kind k))) (changeIn (madeOf kind k)) x rule
+
+-- the rule that a verdict names, of the one that the test gives
+abbrev pub ruleFor : Verdict → ℕ → ℕ
+ruleFor fine rule = 0
+ruleFor (refused k) rule = cond (eqb k 29) rule 0
 
 -- from the numbers of a line, with the edit that it names, seen at a position from 1
 abbrev pub rulingFrom : RuleTest → FirmTest → Head → List ℕ → List ℤ → List ℕ → List Bool → List ℤ → ℕ → EditRecord → Line → Ruling
@@ -75,13 +83,14 @@ rulingFrom test firmly h lower gap upper firm values i seen l =
 
 -- ---- what is decided and stored
 
--- the head, a value, and a record if it is kept; and the answer
+-- the head, a value, and a record if it is kept; the answer; and the broken rule for which it is refused, or 0
 pub record Decision : Type 0 where
   pub head : Head
   pub value : ℤ
   pub kept : Bool
   pub entry : EditRecord
   pub answer : Answer
+  pub rule : ℕ
 
 abbrev pub editHead : Head → Head
 editHead h =
@@ -102,8 +111,12 @@ abbrev pub editRecord : Head → ℕ → ℕ → ℕ → ℕ → Change → Edit
 editRecord h s client earlier m c =
     record { change = c; fate = Unsent; side = s % 256; client = client; earlier = earlier; measure = m % 256; place = 0; replied = is split (modeOf (h .mode)) }
 
+abbrev pub notEdited : Head → ℤ → ℕ → ℕ → Decision
+notEdited h old k rule = record { head = h; value = old; kept = false; entry = noRecord; answer = refusal k; rule = rule }
+
 abbrev pub editDecision : Head → Ruling → ℤ → ℕ → ℕ → ℕ → ℕ → Decision
-editDecision h (Denied k) old s client earlier m = record { head = h; value = old; kept = false; entry = noRecord; answer = refusal k }
+editDecision h (Denied k) old s client earlier m = notEdited h old k 0
+editDecision h (Broken rule) old s client earlier m = notEdited h old 29 rule
 editDecision h (Granted c x) old s client earlier m =
     record {
       head = editHead h;
@@ -111,6 +124,7 @@ editDecision h (Granted c x) old s client earlier m =
       kept = not (is whole (modeOf (h .mode)));
       entry = editRecord h s client earlier m c;
       answer = number (h .next);
+      rule = 0;
     }
 
 -- where a side's measure stands among all values, and where a new record goes

@@ -1,5 +1,5 @@
 // What an edit decides (01, "The calls"): its checks, and what there is to store after them. Read only, on what is lent.
-ghost use Prim.Native.Nat.{min, _<_};
+ghost use Prim.Native.Nat.{min, _<_, _≤_};
 ghost use lib.Dec.{leb};
 ghost use mathlib.Core.Bool.{_&&_, _||_};
 ghost use mathlib.Core.Path.{_≡_};
@@ -24,9 +24,10 @@ use records::Fate;
 use rules::Index;
 use rules::Table;
 
-// What the checks of an edit find: a refusal, or its change and the measure's new value.
+// What the checks of an edit find: a refusal; the number of a broken rule, for which it is refused with 29; or its change and the measure's new value.
 pub enum Ruling {
     Refused(u32),
+    Broken(u32),
     Granted(Change, i32),
 }
 
@@ -100,8 +101,33 @@ fn full(mode: Mode, kept: u32) -> bool
     false
 }
 
-// The checks on the change of measure m from its old value: 26, 27, 30, 28, 29. A caller that knows that all rules hold on the row says so (`sound`): then
-// the index that is lent is asked, which, if it is the rules', has those that name the measure.
+// The number of a rule that is broken, or 0, on the row of a side that begins at a place, where measure m counts as x. A caller that knows that all rules hold on
+// the row says so (`sound`): then the index that is lent is asked, which, if it is the rules', has those that name the measure, and the number is the same.
+fn broken<'a>(
+    table: &'a Table,
+    k: u32,
+    index: &'a Index,
+    values: &'a [i32; limit::VALUES],
+    at: usize,
+    n: u32,
+    m: u32,
+    x: i32,
+    sound: bool,
+) -> u32
+    requires { ⌜ at ≤ 224 ⌝ }
+    ensures { λ r. ⌜ r ≡ testedBy sound (now (index .entry)) m (lowers (now (table .entry))) (gaps (now (table .entry))) (uppers (now (table .entry)))
+        (min k 64) x (row (now (values .entry)) at (min n 32)) ⌝ }
+{
+    let size = rows::capped(n, limit::MEASURES);
+    let vs = &values[..];
+    let row = &vs[at..at + size];
+    if sound {
+        return rules::broken_by_index(index, row, m, x);
+    }
+    rules::broken_of_all(table, k, row, m, x)
+}
+
+// The checks on the change of measure m from its old value: 26, 27, 30, 28, 29.
 fn change_ruling<'a>(
     h: Head,
     table: &'a Table,
@@ -113,7 +139,7 @@ fn change_ruling<'a>(
     change: Change,
     sound: bool,
 ) -> Ruling
-    requires { ⌜ old ≡ value (row (now values) at (measuresIn h)) m ⌝ }
+    requires { ⌜ (old ≡ value (row (now values) at (measuresIn h)) m) × (at ≤ 224) ⌝ }
     ensures { λ r. ⌜ r ≡ changeRuling (testedBy sound (now (index .entry))) (firmBy sound (now (index .entry))) h (lowers (now (table .entry)))
         (gaps (now (table .entry))) (uppers (now (table .entry))) (firms (now (table .entry))) (now (values .entry)) at m change ⌝ }
 {
@@ -131,8 +157,9 @@ fn change_ruling<'a>(
     let Applied::InRange(x) = made else {
         return Ruling::Refused(28);
     };
-    if !rules::hold(table, h.rules, index, values, at, h.measures, m, x, sound) {
-        return Ruling::Refused(29);
+    let rule = broken(table, h.rules, index, values, at, h.measures, m, x, sound);
+    if rule != 0 {
+        return Ruling::Broken(rule);
     }
     Ruling::Granted(change, x)
 }

@@ -166,6 +166,10 @@ pub natural-below : (z : ℤ) → ltZ z (pos 0) ≡ true → natural z ≡ 0
 natural-below (pos n) e = omega (arith, ltb-true n 0 e)
 natural-below (negsuc n) e = refl
 
+pub natural-most : (z : ℤ) → natural z ≤ mag z
+natural-most (pos n) = omega arith
+natural-most (negsuc n) = omega arith
+
 pub natural-above : (z : ℤ) → ltZ z (pos 0) ≡ false → natAbs z ≡ natural z
 natural-above (pos n) e = refl
 natural-above (negsuc n) e = absurd (subst T e tt)

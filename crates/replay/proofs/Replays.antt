@@ -10,17 +10,18 @@ use lib.IntN.{ℤ, pos}
 use lib.Dec.{T}
 use lib.ListN.{length, getD, set}
 use lib.Seq.{set-getD}
-use Rattle.protocol.specs.Lists.{natural, oneTo, count}
+use Rattle.protocol.specs.Lists.{isNone, natural, oneTo, count}
 use Rattle.protocol.specs.Plan as model
-use Rattle.protocol.specs.Plan.{active, holds, isRevoked, isSettled, effective, fits, made, applied, value}
-use Rattle.protocol.specs.Calls.{Call, replay, Check, Verdict, fine, refused, first, checks, further, replayable, settled, outcome, update, nextPlace, after, gives, ok, stepBy, step}
+use Rattle.protocol.specs.Plan.{active, holds, isRevoked, isSettled, effective, fits, made, applied, value, lookup}
+use Rattle.protocol.specs.Broken.{brokenRule}
+use Rattle.protocol.specs.Calls.{Call, replay, Check, Verdict, fine, refused, first, checks, further, builtOnRevoked, replayable, settled, outcome, update, nextPlace, after, gives, ok, stepBy, step}
 use Rattle.protocol.proofs.Laws.{cases, is-yes, range, Fine, Pass, passed}
 use Rattle.change.specs.Change.{viewChange}
 use Rattle.rows.specs.Rows.{row}
 use Rattle.rows.proofs.Spans.{length-span}
 use Rattle.rules.specs.Rules.{RuleTest, testedIn}
 use Rattle.rules.specs.Index.{IndexedIf, testedBy}
-use Rattle.rules.proofs.Rules.{made-with, modify-out, tested-all, tested-sound, row-set}
+use Rattle.rules.proofs.Rules.{made-with, modify-out, tested-all, tested-none, tested-sound, row-set}
 use Rattle.rules.proofs.Index.{tested-indexed}
 use Rattle.records.specs.declared.EditRecord.{EditRecord}
 use Rattle.heads.specs.declared.Head.{Head}
@@ -35,7 +36,7 @@ use Rattle.state.specs.Sizes.{Sized}
 use Rattle.state.proofs.View.{plan-same, flags-unset, lookup-named}
 use Rattle.records.proofs.Records.{Placed, placed, log-modify}
 use Rattle.replay.specs.declared.Outcome.the-variants.{Settled}
-use Rattle.replay.specs.Replays.{Decision, replayChecks, draftIn, effectiveIn, draftOutcome, settledBy, unlessBuilt, replayOutcome, settledRecord, replayDecision, pointOf, earlierAt, standingIn, replayFrom, replayBy, replayIn, stored}
+use Rattle.replay.specs.Replays.{Decision, replayChecks, draftIn, effectiveIn, brokenIn, draftOutcome, settledBy, unlessBuilt, replayOutcome, settledRecord, ruleOnce, replayDecision, pointOf, earlierAt, standingIn, replayFrom, replayBy, replayIn, stored}
 
 -- what the test of the rules finds counts only where the plan is joining or closing: two tests that then find the same make the same decision
 decision-same : (test test′ : RuleTest) (p : Spread) (n : ℤ)
@@ -43,18 +44,19 @@ decision-same : (test test′ : RuleTest) (p : Spread) (n : ℤ)
     T (active (modeOf (p .head .mode))) → test (e .measure) (p .lower) (p .gap) (p .upper) (min (p .head .rules) 64) x vs ≡ test′ (e .measure) (p .lower) (p .gap) (p .upper)
     (min (p .head .rules) 64) x vs)
     → replayBy test p n ≡ replayBy test′ p n
-unfolding replayOutcome draftOutcome effectiveIn
+unfolding replayOutcome draftOutcome effectiveIn brokenIn
 decision-same test test′ p n h = cases (active (modeOf (p .head .mode)))
     (λ t.
     let e = namedIn p (natural n) in
     let vs = draftIn (p .head) (p .draft) in
     let old = getD (p .draft) (pointOf (e .measure)) (pos 0) in
     ap (λ y.
-    let b = fits (e .measure) (viewChange (e .change)) vs && y in
+    let b = fits (e .measure) (viewChange (e .change)) vs && isNone y in
     replayDecision
     (settledBy (first (replayChecks (modeOf (p .head .mode)) (unsetIn (p .arrived) (sidesIn (p .head))) (keptAt 0 e) (keptAt 0 (namedIn p (e .earlier)))))
     (unlessBuilt (keptAt 0 (namedIn p (e .earlier))) old
-    (Settled b (cond (b && oneTo (min (p .head .drafted) 32) (e .measure)) (applied (viewChange (e .change)) (value vs (e .measure))) old))))
+    (Settled b (cond (b && oneTo (min (p .head .drafted) 32) (e .measure)) (applied (viewChange (e .change)) (value vs (e .measure))) old)
+    (cond (fits (e .measure) (viewChange (e .change)) vs) y 0))))
     (standingIn p n) old (count isSettled (keptOf (p .head) (p .edits)) + 1))
     (h (is-yes t)))
     (λ t. rw t)
@@ -135,7 +137,11 @@ module _ (p : Spread) (z : Sized p) (n : ℤ) where
   effect : replayable (planOf p .content) (natural n) ≡ b
   unfolding replayable effective effectiveIn
   effect = rw (lookup-named p (natural n), lookup-named p (e .earlier))
-      (ap (λ t. not lost && (fits (e .measure) ch vs && t)) (tested-all (p .lower) (p .gap) (p .upper) (p .firm) (min (h .rules) 64) (e .measure) ch vs))
+      (ap (λ t. not lost && (fits (e .measure) ch vs && t)) (tested-none (p .lower) (p .gap) (p .upper) (p .firm) (min (h .rules) 64) (e .measure) ch vs))
+
+  -- the rule that it breaks
+  abbrev broken : ℕ
+  broken = cond lost 0 (brokenIn (testedIn false) (p .lower) (p .gap) (p .upper) (min (h .rules) 64) (e .measure) ch vs)
 
   abbrev old : ℤ
   old = getD (p .draft) (pointOf (e .measure)) (pos 0)
@@ -196,7 +202,7 @@ module _ (p : Spread) (z : Sized p) (n : ℤ) where
           ∙ sym (q .5 (settled b (nextPlace (keptOf h (p .edits)))))
 
   abbrev decided : Verdict → Decision
-  decided v = replayDecision (settledBy v (Settled b x)) standing old place
+  decided v = replayDecision (settledBy v (Settled b x broken)) standing old place
 
   abbrev next : Verdict → Spread
   next v = stored p (pointOf (e .measure)) (namedSlot h n) (decided v)
@@ -224,10 +230,22 @@ module _ (p : Spread) (z : Sized p) (n : ℤ) where
       )
 
   -- what the code finds
-  found-as : unlessBuilt (keptAt 0 (namedIn p (e .earlier))) old (draftOutcome (testedIn false) h (p .lower) (p .gap) (p .upper) (p .draft) (e .measure) (e .change) old) ≡ Settled b x
+  found-as : unlessBuilt (keptAt 0 (namedIn p (e .earlier))) old (draftOutcome (testedIn false) h (p .lower) (p .gap) (p .upper) (p .draft) (e .measure) (e .change) old) ≡ Settled b x broken
   unfolding draftOutcome
   found-as = cases lost (λ t. rw t) (λ t. rw t)
 
   pub replay-meets : MeetsSpread call p (record { state = stored p (pointOf (e .measure)) (namedSlot h n) (replayIn false p n); answer = replayIn false p n .answer })
   unfolding step replayOutcome
   replay-meets = let r = by (first Checks) (passed Checks) in rw found-as (record { answer = rw checks-same (r .0); plan = rw checks-same (r .1); same = r .2 })
+
+  -- The rule that it names where it is settled is the one that the protocol's test of the draft gives (02, S-3); none where it was not tested, and where it is refused.
+  pub replay-rule : let d = planOf p .content in let k = lookup (natural n) (d .kept) .edit in
+      replayIn false p n .rule ≡ ruleOnce (first (checks call (planOf p)))
+      (cond (builtOnRevoked d (natural n)) 0 (cond (fits (k .measure) (k .change) (d .draft)) (brokenRule (d .rules) (made (k .measure) (k .change) (d .draft))) 0))
+  unfolding replayOutcome brokenIn
+  replay-rule = rw (found-as, checks-same, lookup-named p (natural n), lookup-named p (e .earlier)) (by-verdict (first Checks)
+      ∙ ap (λ r. ruleOnce (first Checks) (cond lost 0 (cond (fits (e .measure) ch vs) r 0))) (sym (tested-all (p .lower) (p .gap) (p .upper) (p .firm) (min (h .rules) 64) (e .measure) ch vs)))
+    where
+      by-verdict : (v : Verdict) → decided v .rule ≡ ruleOnce v broken
+      by-verdict fine = refl
+      by-verdict (refused j) = refl

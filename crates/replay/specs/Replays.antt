@@ -38,14 +38,20 @@ draftIn h draft = row draft 0 (min (h .drafted) measureLimit)
 -- whether a change takes effect, with the rules of three arrays and any test of them
 unfoldable pub effectiveIn : RuleTest → List ℕ → List ℤ → List ℕ → ℕ → ℕ → model.Change → List ℤ → Bool
 unfolding fits
-effectiveIn test lower gap upper k m ch vs = fits m ch vs && test m lower gap upper k (applied ch (value vs m)) vs
+effectiveIn test lower gap upper k m ch vs = fits m ch vs && isNone (test m lower gap upper k (applied ch (value vs m)) vs)
+
+-- the rule that it breaks; 0 if it breaks none, and where its result is out of range, which is not tested (02, S-3)
+unfoldable pub brokenIn : RuleTest → List ℕ → List ℤ → List ℕ → ℕ → ℕ → model.Change → List ℤ → ℕ
+unfolding fits
+brokenIn test lower gap upper k m ch vs = cond (fits m ch vs) (test m lower gap upper k (applied ch (value vs m)) vs) 0
 
 -- the value at the measure's place: what the change makes, if it takes effect on a measure of the draft
 unfoldable pub draftOutcome : RuleTest → Head → List ℕ → List ℤ → List ℕ → List ℤ → ℕ → Change → ℤ → Outcome
 draftOutcome test h lower gap upper draft m c old =
     let vs = draftIn h draft in
-    let b = effectiveIn test lower gap upper (min (h .rules) ruleLimit) m (viewChange c) vs in
-    Settled b (cond (b && oneTo (min (h .drafted) measureLimit) m) (applied (viewChange c) (value vs m)) old)
+    let k = min (h .rules) ruleLimit in
+    let b = effectiveIn test lower gap upper k m (viewChange c) vs in
+    Settled b (cond (b && oneTo (min (h .drafted) measureLimit) m) (applied (viewChange c) (value vs m)) old) (brokenIn test lower gap upper k m (viewChange c) vs)
 
 abbrev pub settledBy : Verdict → Outcome → Outcome
 settledBy fine o = o
@@ -53,7 +59,7 @@ settledBy (refused k) o = Denied k
 
 -- an edit built on a revoked one is revoked, and the value stays (02, S-2)
 abbrev pub unlessBuilt : model.Kept → ℤ → Outcome → Outcome
-unlessBuilt earlier old o = cond (isRevoked earlier) (Settled false old) o
+unlessBuilt earlier old o = cond (isRevoked earlier) (Settled false old 0) o
 
 unfoldable pub replayOutcome : RuleTest → Head → List ℕ → List ℤ → List ℕ → List ℤ → ℕ → EditRecord → EditRecord → ℤ → Outcome
 unfolding draftOutcome
@@ -63,11 +69,12 @@ replayOutcome test h lower gap upper draft missing e earlier old =
 
 -- ---- what is decided and stored
 
--- a value of the draft, a record, and the answer
+-- a value of the draft, a record, the answer, and the broken rule for which it is revoked, or 0
 pub record Decision : Type 0 where
   pub amount : ℤ
   pub entry : EditRecord
   pub answer : Answer
+  pub rule : ℕ
 
 abbrev pub settledFate : Bool → Fate
 settledFate b = cond b Accepted Revoked
@@ -77,8 +84,13 @@ settledRecord e b place =
     record { change = e .change; fate = settledFate b; side = e .side; client = e .client; earlier = e .earlier; measure = e .measure; place = place; replied = e .replied }
 
 abbrev pub replayDecision : Outcome → EditRecord → ℤ → ℕ → Decision
-replayDecision (Denied k) standing old place = record { amount = old; entry = standing; answer = refusal k }
-replayDecision (Settled b x) standing old place = record { amount = x; entry = settledRecord standing b place; answer = number (cond b 3 4) }
+replayDecision (Denied k) standing old place = record { amount = old; entry = standing; answer = refusal k; rule = 0 }
+replayDecision (Settled b x rule) standing old place = record { amount = x; entry = settledRecord standing b place; answer = number (cond b 3 4); rule = rule }
+
+-- the rule of a verdict: none where the replay is refused
+abbrev pub ruleOnce : Verdict → ℕ → ℕ
+ruleOnce fine rule = rule
+ruleOnce (refused k) rule = 0
 
 abbrev pub pointOf : ℕ → ℕ
 pointOf m = min (m - 1) lastMeasure

@@ -1,11 +1,12 @@
 // What a replay decides (01, "The calls"): its checks, its outcome, and the record that it settles. Read only, on what is lent.
-ghost use Prim.Native.Nat.{_<_, _≤_};
+ghost use Prim.Native.Nat.{min, _<_, _≤_};
 ghost use mathlib.Core.Path.{_≡_};
 ghost use mathlib.Core.Bool.{cond};
 ghost use lib.IntN.{pos};
 ghost use lib.ListN.{getD};
 ghost use Rattle.protocol.specs.Plan.{fateIs};
 ghost use Rattle.records.specs.Records.{fateOf, keptAt, recordOf};
+ghost use Rattle.rows.specs.Rows.{row};
 ghost use Rattle.replay.specs.Replays.{draftOutcome, settledFate, settledRecord, pointOf, earlierAt, outcomeFrom};
 ghost use Rattle.rules.specs.Index.{testedBy};
 ghost use Rattle.rules.specs.Table.{lowers, gaps, uppers};
@@ -18,10 +19,11 @@ use records::Fate;
 use rules::Index;
 use rules::Table;
 
-// What the checks of a replay find: a refusal, or whether the edit is accepted and the value that the draft then has at its place.
+// What the checks of a replay find: a refusal, or whether the edit is accepted, the value that the draft then has at its place, and the number of the rule that
+// it breaks: 0 if it breaks none or was not tested.
 pub enum Outcome {
     Refused(u32),
-    Settled(bool, i32),
+    Settled(bool, i32, u32),
 }
 
 // ---- where a replay looks
@@ -73,8 +75,31 @@ fn counted(here: bool, old: i32) -> i32
     0
 }
 
-// A change tried on the draft: whether it takes effect, and the value at its place then. A caller that knows that all rules hold on the
-// draft says so (`sound`): then it asks the index that is lent, which, if it is the rules', has those that name the measure.
+// The number of a rule that is broken, or 0, on the draft where measure m counts as x. A caller that knows that all rules hold on the draft says so (`sound`):
+// then the index that is lent is asked, which, if it is the rules', has those that name the measure, and the number is the same.
+fn broken<'a>(
+    table: &'a Table,
+    k: u32,
+    index: &'a Index,
+    draft: &'a [i32; limit::MEASURES],
+    n: u32,
+    m: u32,
+    x: i32,
+    sound: bool,
+) -> u32
+    ensures { λ r. ⌜ r ≡ testedBy sound (now (index .entry)) m (lowers (now (table .entry))) (gaps (now (table .entry))) (uppers (now (table .entry)))
+        (min k 64) x (row (now (draft .entry)) 0 (min n 32)) ⌝ }
+{
+    let size = rows::capped(n, limit::MEASURES);
+    let vs = &draft[..];
+    let row = &vs[0..size];
+    if sound {
+        return rules::broken_by_index(index, row, m, x);
+    }
+    rules::broken_of_all(table, k, row, m, x)
+}
+
+// A change tried on the draft: whether it takes effect, the value at its place then, and the rule that it breaks.
 fn try_draft<'a>(
     h: Head,
     table: &'a Table,
@@ -92,15 +117,16 @@ fn try_draft<'a>(
     let here = rows::one_to(rows::capped(h.drafted, limit::MEASURES), m);
     let made = change::apply(change, counted(here, old));
     let Applied::InRange(x) = made else {
-        return Outcome::Settled(false, old);
+        return Outcome::Settled(false, old, 0);
     };
-    if rules::hold(table, h.rules, index, draft, 0, h.drafted, m, x, sound) {
-        if here {
-            return Outcome::Settled(true, x);
-        }
-        return Outcome::Settled(true, old);
+    let rule = broken(table, h.rules, index, draft, h.drafted, m, x, sound);
+    if rule != 0 {
+        return Outcome::Settled(false, old, rule);
     }
-    Outcome::Settled(false, old)
+    if here {
+        return Outcome::Settled(true, x, 0);
+    }
+    Outcome::Settled(true, old, 0)
 }
 
 // What a replay decides, from how many first logs are missing, and the edit and the one that it names as earlier, each seen at a position from 1:
@@ -136,7 +162,7 @@ pub fn decide_replay<'a>(
     let m = standing.measure as u32;
     if has_fate(j, seen, Fate::Revoked) {
         let at = point(m);
-        return Outcome::Settled(false, draft[at]);
+        return Outcome::Settled(false, draft[at], 0);
     }
     let change = standing.change;
     try_draft(h, table, index, draft, m, change, sound)

@@ -1,16 +1,18 @@
 -- Laws of spans: lists read off a function of the index. Assumes nothing.
-use Prim.Native.Nat.{ℕ, zero, suc, _+_, _-_, _<_, _≤_}
+use Prim.Native.Nat.{ℕ, zero, suc, _+_, _-_, _<_, _≤_, min}
 use native.Mathlib.Omega.{arith}
 use mathlib.Core.Bool.{Bool, true, false, _&&_, _||_}
 use mathlib.Core.Path.{_≡_, refl, sym, ap, ap₂, _∙_, subst}
 use mathlib.Core.Logic.{_≢_}
-use mathlib.Core.List.{List, [], _∷_, map}
+use mathlib.Core.List.{List, [], _∷_, map, reverse, reverse-append}
 use borrow.Author.Tests.{ltb-true, ltb-false}
 use lib.Dec.{ltb}
-use lib.ListN.{length, getD, set, replicate}
+use lib.IntN.{ℤ, pos}
+use lib.ListN.{length, getD, set, replicate, take, drop}
+use lib.Seq.{drop-cons, take-all, take-length}
 use Rattle.protocol.specs.Lists.{bit, count, all, any, snoc, nth, modify}
 use Rattle.protocol.proofs.Laws.{cases, bit-most}
-use Rattle.rows.specs.Rows.{span}
+use Rattle.rows.specs.Rows.{span, row}
 
 module _ {A : Type 0} where
   pub length-span : (i n : ℕ) (f : ℕ → A) → length (span i n f) ≡ n
@@ -47,6 +49,15 @@ module _ {A : Type 0} where
   span-snoc i (suc n) f =
       let e : suc i + n ≡ i + suc n = omega arith in
       ap {B = List A} (λ xs. f i ∷ xs) (span-snoc (suc i) n f ∙ ap (λ k. snoc (span (suc i) n f) (f k)) e)
+
+  -- what is left of a walk over n, from the last one back
+  pub back-next : (i n : ℕ) (f : ℕ → A) → 0 < n → reverse (span i n f) ≡ f (i + (n - 1)) ∷ reverse (span i (n - 1) f)
+  back-next i n f h =
+      let e : n ≡ suc (n - 1) = omega arith in
+      ap (λ k. reverse (span i k f)) e ∙ ap reverse (span-snoc i (n - 1) f) ∙ reverse-append (span i (n - 1) f) (f (i + (n - 1)) ∷ [])
+
+  pub back-over : (i n : ℕ) (f : ℕ → A) → n ≤ 0 → reverse (span i n f) ≡ []
+  back-over i n f h = let e : n ≡ 0 = omega arith in ap (λ k. reverse (span i k f)) e
 
   pub nth-span : (d : A) (i n : ℕ) (f : ℕ → A) (s : ℕ) → s < n → nth d (span i n f) (suc s) ≡ f (i + s)
   nth-span d i zero f s h = absurd (omega arith)
@@ -172,3 +183,25 @@ any-span p q i (suc n) f g h = ap₂ (λ a b. a || b) (h i) (any-span p q (suc i
 pub count-span : {A B : Type 0} (p : A → Bool) (q : B → Bool) (i n : ℕ) (f : ℕ → A) (g : ℕ → B) → ((k : ℕ) → p (f k) ≡ q (g k)) → count p (span i n f) ≡ count q (span i n g)
 count-span p q i zero f g h = refl
 count-span p q i (suc n) f g h = ap₂ (λ a b. bit a + b) (h i) (count-span p q (suc i) n f g h)
+
+-- ---- rows
+
+-- as much of a list as it has
+pub take-least : {A : Type 0} (n : ℕ) (xs : List A) → take (min (length xs) n) xs ≡ take n xs
+take-least n xs = cases (ltb (length xs) n)
+    (λ t. let h = ltb-true (length xs) n t in let e : min (length xs) n ≡ length xs = omega arith in ap (λ k. take k xs) e ∙ take-length xs ∙ sym (take-all n xs (omega arith)))
+    (λ t. let h = ltb-false (length xs) n t in let e : min (length xs) n ≡ n = omega arith in ap (λ k. take k xs) e)
+
+-- a row, cut out of its array
+part-row : (vs : List ℤ) (f w : ℕ) → f + w ≤ length vs → take w (drop f vs) ≡ row vs f w
+part-row vs f zero h = refl
+part-row vs f (suc w) h =
+    ap (take (suc w)) (drop-cons vs f (pos 0) (omega arith))
+    ∙ ap {B = List ℤ} (λ xs. getD vs f (pos 0) ∷ xs) (part-row vs (suc f) w (omega arith))
+
+-- lent as a part of its array
+pub lent-row : (vs : List ℤ) (f w : ℕ) → f + w ≤ length vs → take (f + w - f) (drop f vs) ≡ row vs f w
+lent-row vs f w h = let e : f + w - f ≡ w = omega arith in ap (λ n. take n (drop f vs)) e ∙ part-row vs f w h
+
+pub front-row : (vs : List ℤ) (w : ℕ) → w ≤ length vs → take (w - 0) vs ≡ row vs 0 w
+front-row vs w h = let e : w - 0 ≡ w = omega arith in ap (λ n. take n vs) e ∙ part-row vs 0 w (omega arith)

@@ -1,19 +1,16 @@
 -- The order of two numbers that both move, and what a gap is to be less than. Assumes nothing.
 use Prim.Native.Nat.{ℕ, zero, suc, _+_, _≤_}
 use native.Mathlib.Omega.{arith}
-use mathlib.Core.Bool.{true, false, cond}
-use mathlib.Core.Logic.{_≢_}
-use mathlib.Core.Path.{_≡_, refl, sym, ap, ap₂, subst, _∙_}
-use lib.Dec.{T, eqb, leb·suc-suc}
+use mathlib.Core.Bool.{cond}
+use mathlib.Core.Path.{_≡_, refl, sym, ap, ap₂, _∙_}
+use lib.Dec.{eqb, leb·suc-suc}
 use lib.IntN.{ℤ, pos, negsuc, sucℤ, predℤ, negℤ, _+ℤ_, _-ℤ_, suc-pred, +ℤ-idl, +ℤ-idr, +ℤ-comm, +ℤ-sucℤ, +ℤ-predℤ, -ℤ-+ℤ-cancel}
 use lib.Signed.{mag, ltZ}
 use mir.Syntax.{w32, w64}
 use mir.Val.{SFits}
-use borrow.Author.Tests.{ltb-true, lt-ltb, le-ltb, eq-eqb, ne-eqb}
-use Rattle.exact.specs.Signs.{beyond}
+use borrow.Author.Tests.{lt-ltb, le-ltb}
 use Rattle.exact.proofs.Ints.{mag-add}
-use Rattle.protocol.specs.Lists.{natural}
-use Rattle.rules.specs.Index.{sideHolds}
+use Rattle.protocol.proofs.Laws.{cases}
 
 lt-suc : (a b : ℤ) → ltZ (sucℤ a) (sucℤ b) ≡ ltZ a b
 lt-suc (pos a) (pos b) = leb·suc-suc (suc a) b
@@ -45,18 +42,13 @@ gap-over y g = ap (λ z. ltZ z y) (+ℤ-idl g)
 gap-under : (y g : ℤ) → ltZ (y +ℤ g) (pos 0) ≡ ltZ g (pos 0 -ℤ y)
 gap-under y g = ap₂ ltZ (+ℤ-comm y g) (sym (-ℤ-+ℤ-cancel (pos 0) y)) ∙ lt-moved g (pos 0 -ℤ y) y
 
--- a rule whose other measure is none of the row
-pub far-own : (y o g : ℤ) → natural o + beyond o ≡ 33 → ltZ g (pos 0) ≡ sideHolds (λ k. pos 0) y o g
-far-own y (pos p) g e = rw (eq-eqb p 33 (omega (arith, e))) (sym (own-gap y g))
-far-own y (negsuc p) g e = rw (eq-eqb p 33 (omega (arith, e))) (sym (own-gap y g))
+-- a rule whose other measure is none of the row, seen from its upper measure and from its lower one
+module _ (p : ℕ) (y g : ℤ) where
+  pub far-upper : ltZ g (cond (eqb p 33) (pos 0) y) ≡ ltZ (cond (eqb p 33) y (pos 0) +ℤ g) y
+  far-upper = cases (eqb p 33) (λ t. rw t (sym (own-gap y g))) (λ t. rw t (sym (gap-over y g)))
 
-pub far-over : (y o g : ℤ) → natural o + beyond o ≢ 33 → ltZ o (pos 0) ≡ true → ltZ g y ≡ sideHolds (λ k. pos 0) y o g
-far-over y (pos p) g ne t = absurd (let h = ltb-true p 0 t in omega arith)
-far-over y (negsuc p) g ne t = let e : 0 + p ≡ p = omega arith in rw (ne-eqb p 33 (λ z. ne (e ∙ z))) (sym (gap-over y g))
-
-pub far-under : (y o g : ℤ) → natural o + beyond o ≢ 33 → ltZ o (pos 0) ≡ false → ltZ g (pos 0 -ℤ y) ≡ sideHolds (λ k. pos 0) y o g
-far-under y (pos p) g ne t = let e : p + 0 ≡ p = omega arith in rw (ne-eqb p 33 (λ z. ne (e ∙ z))) (sym (gap-under y g))
-far-under y (negsuc p) g ne t = absurd (subst T t tt)
+  pub far-lower : ltZ g (cond (eqb p 33) (pos 0) (pos 0 -ℤ y)) ≡ ltZ (y +ℤ g) (cond (eqb p 33) y (pos 0))
+  far-lower = cases (eqb p 33) (λ t. rw t (sym (own-gap y g))) (λ t. rw t (sym (gap-under y g)))
 
 -- a number taken from 0
 mag-neg : (y : ℤ) → mag (negℤ y) ≤ suc (mag y)

@@ -1,7 +1,7 @@
 -- The index as it is made: namings put one behind another, and their number. Assumes nothing.
 use Prim.Native.Nat.{ℕ, zero, suc, _+_, _-_, _*_, _<_, _≤_, min}
 use native.Mathlib.Omega.{arith}
-use mathlib.Core.Bool.{Bool, true, false, not, _&&_, _||_, and-false}
+use mathlib.Core.Bool.{Bool, true, false, _&&_, _||_, and-false}
 use mathlib.Core.Path.{_≡_, refl, sym, ap, ap₂, _∙_, subst}
 use mathlib.Core.Logic.{_≢_}
 use mathlib.Core.List.{List, [], _∷_, map}
@@ -10,12 +10,12 @@ use lib.Dec.{eqb, ltb}
 use native.Mathlib.Numerals.{add-one}
 use lib.IntN.{ℤ, pos}
 use lib.ListN.{length, getD, set, length-set}
-use Rattle.protocol.specs.Lists.{bit, natural, oneTo, countTo, count, any, snoc}
+use Rattle.protocol.specs.Lists.{bit, natural, oneTo, countTo, count, any, snoc, passing}
 use Rattle.protocol.proofs.Laws.{cases, in-range, yes-is, is-no, count-snoc, count-to-none}
 use Rattle.rows.specs.Rows.{span}
 use Rattle.rows.proofs.Spans.{Counted, count-begin, count-next, count-over, span-same, span-snoc, getD-set, getD-other}
 use Rattle.rules.specs.Rules.{namesPair, namesAt, dueAt, firmAt, firmIn}
-use Rattle.rules.specs.Index.{passing, Naming, namingOf, namingsOf, namingAt, withNaming, firstAt, lastAt, namingsIn, flagIn, isMade, Indexed, NoneAbove, Added, otherOf}
+use Rattle.rules.specs.Index.{Naming, namingOf, namingsOf, namingAt, withNaming, firstAt, lastAt, namingsIn, flagIn, isMade, Indexed, NoneAbove, Added, otherOf}
 use Rattle.rules.proofs.Index.{passing-same, passing-yes, passing-no, none-passing, map-snoc}
 
 -- ---- a naming written anew

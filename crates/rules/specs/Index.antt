@@ -1,22 +1,17 @@
 -- Scaffolding: the index: from a measure to the rules that name it, as an array of numbers; and the tests that use it. Assumes nothing.
-use Prim.Native.Nat.{ℕ, _+_, _-_, _*_, _<_, _≤_, min}
+use Prim.Native.Nat.{ℕ, suc, _+_, _-_, _*_, _<_, _≤_, min}
 use mathlib.Core.Bool.{Bool, true, false, cond}
-use mathlib.Core.List.{List, [], _∷_, map}
+use mathlib.Core.List.{List, map, reverse}
 use mathlib.Core.Path.{_≡_}
 use lib.Dec.{eqb, leb}
 use lib.IntN.{ℤ, pos, negsuc, _+ℤ_}
 use lib.Signed.{ltZ}
 use lib.ListN.{length, getD, set}
-use Rattle.protocol.specs.Lists.{natural, oneTo, count, all}
+use Rattle.protocol.specs.Lists.{natural, oneTo, count, passing, firstNot}
 use Rattle.protocol.specs.Plan as model
 use Rattle.protocol.specs.Plan.{measureLimit}
 use Rattle.rows.specs.Rows.{span}
 use Rattle.rules.specs.Rules.{withValue, namesAt, dueAt, RuleTest, testedIn, firmIn}
-
--- what passes a test, in order
-abbrev pub passing : {A : Type 0} → (A → Bool) → List A → List A
-passing p [] = []
-passing p (x ∷ xs) = cond (p x) (x ∷ passing p xs) (passing p xs)
 
 -- ---- a rule as it stands at a measure that it names
 
@@ -52,6 +47,10 @@ sideHolds f y (negsuc p) g = ltZ (otherAt f y p +ℤ g) y
 
 abbrev pub namingHolds : (ℕ → ℤ) → ℤ → Naming → Bool
 namingHolds f y k = sideHolds f y (k .other) (k .gap)
+
+-- the rule's number, from 1
+abbrev pub numberOf : Naming → ℕ
+numberOf k = suc (natural (k .rule))
 
 -- ---- the array
 
@@ -108,10 +107,10 @@ pub record Added (lower : List ℕ) (gap : List ℤ) (upper : List ℕ) (end m n
 abbrev pub listedAs : ℕ → ℕ
 listedAs m = cond (leb m measureLimit) m 0
 
--- the rules that the index has for measure m, tested
-unfoldable pub indexedIn : List ℤ → ℕ → ℤ → List ℤ → Bool
+-- the rules that the index has for measure m, tested in the protocol's order: last drawn first
+unfoldable pub indexedIn : List ℤ → ℕ → ℤ → List ℤ → ℕ
 unfolding model.value
-indexedIn index m x vs = all (namingHolds (model.value vs) (model.value (withValue m x vs) m)) (namingsIn index (listedAs m))
+indexedIn index m x vs = firstNot (namingHolds (model.value vs) (model.value (withValue m x vs) m)) numberOf (reverse (namingsIn index (listedAs m)))
 
 -- What is tested with an index at hand, be it the rules' own or not: what it has for the measure, where all rules held before (`sound`), else all rules.
 unfoldable pub testedBy : Bool → List ℤ → RuleTest

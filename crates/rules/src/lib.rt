@@ -1,34 +1,30 @@
-// The rules of a plan as one table of numbers, an index from each measure to the rules that name it, and their test on a row of values that lies in a larger array.
+// The rules of a plan as one table of numbers, an index from each measure to the rules that name it, and their test on a row of values.
 // Everything is lent.
 ghost use mathlib.Core.Path.{_≡_};
-ghost use mathlib.Core.Bool.{true, false, _&&_};
+ghost use mathlib.Core.Bool.{true, false, cond, _&&_};
 ghost use Prim.Native.Nat.{_+_, _-_, _<_, _≤_, min};
-ghost use lib.IntN.{ℤ, pos, _+ℤ_};
-ghost use lib.ListN.{length, getD};
+ghost use lib.IntN.{pos, _+ℤ_};
+ghost use lib.Dec.{eqb};
+ghost use lib.ListN.{length, getD, take};
 ghost use lib.Signed.{ltZ};
-ghost use Rattle.protocol.specs.Lists.{natural, count, bit as bitOf};
+ghost use Rattle.protocol.specs.Lists.{count, bit as bitOf};
 ghost use Rattle.protocol.specs.Plan.{value};
-ghost use Rattle.exact.specs.Signs.{beyond};
-ghost use Rattle.rows.specs.Rows.{span, row};
+ghost use Rattle.rows.specs.Rows.{span};
 ghost use Rattle.rules.specs.Table.{lowers, gaps, uppers, firms, withRule};
 ghost use Rattle.rules.specs.Rules.{withValue, pairHolds, namesPair, namesAt, testedIn, firmIn};
-ghost use Rattle.rules.specs.Index.{placeOf, otherOf, withNaming, isMade, NoneAbove, Added, Indexed, listedAs, sideHolds, indexedIn, testedBy, firmBy};
+ghost use Rattle.rules.specs.Index.{placeOf, otherOf, withNaming, isMade, NoneAbove, Added, Indexed, listedAs, sideHolds, indexedIn, firmBy};
 use protocol::limit;
 
-// The value of measure m in the row of n values that begins at a place; 0 where there is none.
-fn value_at(values: &[i32], at: usize, n: usize, m: u32) -> i32
-    ensures { λ r. ⌜ r ≡ value (row (now (values .entry)) at n) m ⌝ }
+// The value of measure m in a row; 0 where there is none.
+fn value_at(row: &[i32], m: u32) -> i32
+    ensures { λ r. ⌜ r ≡ value (now (row .entry)) m ⌝ }
 {
     if m == 0 {
         return 0;
     }
     let i = (m - 1) as usize;
-    if i < n {
-        if at < values.len() {
-            if i < values.len() - at {
-                return values[at + i];
-            }
-        }
+    if i < row.len() {
+        return row[i];
     }
     0
 }
@@ -77,18 +73,18 @@ pub fn put_rule(table: &mut Table, k: u32, a: i32, c: i32, b: i32, f: i32)
     table[4 * i + 3] = f;
 }
 
-// ---- the rules on a row, where one measure counts as another number
+// ---- a row where one measure counts as another number
 
-// Measure k of the row of n values that begins at a place, where measure m, if it is one of them, counts as x.
-fn value_with(values: &[i32], at: usize, n: usize, m: u32, x: i32, k: u32) -> i32
-    ensures { λ r. ⌜ r ≡ value (withValue m x (row (now (values .entry)) at n)) k ⌝ }
+// Measure k of a row where measure m, if it is one of its measures, counts as x.
+fn value_with(row: &[i32], m: u32, x: i32, k: u32) -> i32
+    ensures { λ r. ⌜ r ≡ value (withValue m x (now (row .entry))) k ⌝ }
 {
     if k == m {
-        if rows::one_to(n, m) {
+        if rows::one_to(row.len(), m) {
             return x;
         }
     }
-    value_at(values, at, n, k)
+    value_at(row, k)
 }
 
 fn less_by(low: i32, g: i32, high: i32) -> bool
@@ -248,142 +244,89 @@ fn listed(m: u32) -> usize
     0
 }
 
-// How many of n values from a place on an array of so many has.
-fn room(len: usize, at: usize, n: usize) -> usize
-    ensures { λ r. ⌜ r ≡ min n (len - at) ⌝ }
+// The size of a row of 32 measures at most.
+fn size_of(len: usize) -> usize
+    ensures { λ r. ⌜ r ≡ min len 32 ⌝ }
 {
-    let k = rows::rest(len, at);
-    if n < k {
-        return n;
+    if len < limit::MEASURES {
+        return len;
     }
-    k
+    limit::MEASURES
 }
 
-// The place of a rule's other measure, as the index has it or put below 0.
-fn place_in(o: i32) -> usize
-    ensures { λ r. ⌜ r ≡ natural o + beyond o ⌝ }
-{
-    if o < 0 {
-        return exact::behind(o) as usize;
-    }
-    exact::number(o) as usize
-}
-
-// What the gap is to be less than, so that a rule holds that names a measure, which counts as y, if its other measure is none of the row: it counts as 0, or, at
-// place 33, as y.
-fn far_limit(p: usize, y: i32, o: i32) -> i64
-    requires { ⌜ p ≡ natural o + beyond o ⌝ }
-    ensures { λ r. ⌜ ((g : ℤ) → ltZ g r ≡ sideHolds (λ k. pos 0) y o g) ⌝ }
+// What the gap of a rule is to be less than if its other measure is none of the row: z, where that counts as 0; or 0 at place 33, for the measure itself.
+fn far_limit(p: usize, z: i64) -> i64
+    ensures { λ r. ⌜ r ≡ cond (eqb p 33) (pos 0) z ⌝ }
 {
     if p == 33 {
         return 0;
     }
+    z
+}
+
+// Whether a rule holds that names a measure, which counts as y: from its other measure and its gap, as the index has them, on a row. Nearly all tests are made
+// here. That each side has its own way to the end, and the far ones another test, is for speed: 14 to 16 instructions a rule (docs/DECISIONS.md).
+fn naming_holds(row: &[i32], y: i32, o: i32, g: i32) -> bool
+    requires { ⌜ length (now row) ≤ 32 ⌝ }
+    ensures { λ t. ⌜ t ≡ sideHolds (value (now (row .entry))) y o g ⌝ }
+{
     if o < 0 {
-        return y as i64;
-    }
-    -(y as i64)
-}
-
-// Whether a rule holds that names a measure, which counts as y: from its other measure and its gap, as the index has them, on the row of n values that begins at a
-// place. Nearly all tests are made here, and one look at n is all that they need. It stays so short that a compiler puts it into the callers of `hold`.
-fn naming_holds(values: &[i32], at: usize, n: usize, y: i32, o: i32, g: i32) -> bool
-    requires { ⌜ (n ≤ 32) × (n ≤ length (now values) - at) ⌝ }
-    ensures { λ t. ⌜ t ≡ sideHolds (value (row (now (values .entry)) at n)) y o g ⌝ }
-{
-    let p = place_in(o);
-    if p < n {
-        let v = values[at + p];
-        if o < 0 {
-            return less_by(v, g, y);
+        let p = exact::behind(o) as usize;
+        if p < row.len() {
+            return less_by(row[p], g, y);
         }
-        return less_by(y, g, v);
+        return (g as i64) < far_limit(p, y as i64);
     }
-    (g as i64) < far_limit(p, y, o)
+    let p = exact::number(o) as usize;
+    if p < row.len() {
+        return less_by(y, g, row[p]);
+    }
+    (g as i64) < far_limit(p, -(y as i64))
 }
 
-// Whether each rule holds that the index has for measure m, which counts as x. Any numbers may stand there.
-fn namings_hold<'a>(
-    index: &'a Index,
-    values: &'a [i32],
-    at: usize,
-    n: usize,
-    m: u32,
-    x: i32,
-) -> bool
-    requires { ⌜ n ≤ 32 ⌝ }
-    ensures { λ t. ⌜ t ≡ indexedIn (now (index .entry)) m x (row (now (values .entry)) at n) ⌝ }
+// The number of a broken rule among those that the index has for measure m, which counts as x, on a row of which the first 32 count: the first, last drawn first
+// (02, S-3); 0 if none is broken. Any numbers may stand there; with the rules' own index (`Indexed`) these are the rules that name m, so that where all held
+// before the number is that of `broken_of_all`. It stays so short that a compiler puts it into both its callers, which choose by what they know of the rules.
+pub fn broken_by_index<'a>(index: &'a Index, lent: &'a [i32], m: u32, x: i32) -> u32
+    ensures { λ r. ⌜ r ≡ indexedIn (now (index .entry)) m x (take 32 (now (lent .entry))) ⌝ }
 {
-    let y = value_with(values, at, n, m, x, m);
-    let size = room(values.len(), at, n);
+    let row = &lent[0..size_of(lent.len())];
+    let y = value_with(row, m, x, m);
     let p = listed(m);
+    let first = exact::number(index[p]) as usize;
     let last = rows::capped(exact::number(index[p + 1]), 128);
-    let mut k = exact::number(index[p]) as usize;
-    while k < last {
-        if !naming_holds(values, at, size, y, index[129 + 3 * k], index[130 + 3 * k]) {
-            return false;
+    let mut left = rows::rest(last, first);
+    while 0 < left {
+        left -= 1;
+        let k = first + left;
+        if !naming_holds(row, y, index[129 + 3 * k], index[130 + 3 * k]) {
+            return exact::number(index[128 + 3 * k]) + 1;
         }
-        k += 1;
     }
-    true
+    0
 }
 
-fn pair_holds(values: &[i32], at: usize, n: usize, m: u32, x: i32, a: u32, g: i32, b: u32) -> bool
-    ensures { λ t. ⌜ t ≡ pairHolds (value (withValue m x (row (now (values .entry)) at n))) a g b ⌝ }
+fn pair_holds(row: &[i32], m: u32, x: i32, a: u32, g: i32, b: u32) -> bool
+    ensures { λ t. ⌜ t ≡ pairHolds (value (withValue m x (now (row .entry)))) a g b ⌝ }
 {
-    less_by(
-        value_with(values, at, n, m, x, a),
-        g,
-        value_with(values, at, n, m, x, b),
-    )
+    less_by(value_with(row, m, x, a), g, value_with(row, m, x, b))
 }
 
-// Whether each of the first k rules holds on the row of at most 32 values that begins at a place, where measure m counts as x.
-pub fn all_hold<'a>(
-    table: &'a Table,
-    k: u32,
-    values: &'a [i32],
-    at: usize,
-    n: u32,
-    m: u32,
-    x: i32,
-) -> bool
-    ensures { λ t. ⌜ t ≡ testedIn false m (lowers (now (table .entry))) (gaps (now (table .entry))) (uppers (now (table .entry))) (min k 64) x (row (now (values .entry)) at (min n 32)) ⌝ }
+// The number of a broken rule among the first k, on a row where measure m counts as x: the first, last drawn first (02, S-3); 0 if none is broken.
+pub fn broken_of_all<'a>(table: &'a Table, k: u32, row: &'a [i32], m: u32, x: i32) -> u32
+    ensures { λ r. ⌜ r ≡ testedIn false m (lowers (now (table .entry))) (gaps (now (table .entry))) (uppers (now (table .entry))) (min k 64) x (now (row .entry)) ⌝ }
 {
-    let end = rows::capped(k, limit::RULES);
-    let size = rows::capped(n, limit::MEASURES);
-    let mut i: usize = 0;
-    while i < end {
-        let a = lower_of(table, i);
-        let b = upper_of(table, i);
-        let g = gap_of(table, i);
-        if !pair_holds(values, at, size, m, x, a, g, b) {
-            return false;
+    let mut i = rows::capped(k, limit::RULES);
+    while 0 < i {
+        let a = lower_of(table, i - 1);
+        let b = upper_of(table, i - 1);
+        let g = gap_of(table, i - 1);
+        if !pair_holds(row, m, x, a, g, b) {
+            return i as u32;
         }
-        i += 1;
+        i -= 1;
     }
-    true
-}
-
-// Whether each rule that needs a test holds, on such a row. The caller that knows that all held before says so (`sound`) and lends an index: then those
-// that it has for m are tested, which with the rules' own (`Indexed`) are the ones that name m.
-pub fn hold<'a>(
-    table: &'a Table,
-    k: u32,
-    index: &'a Index,
-    values: &'a [i32],
-    at: usize,
-    n: u32,
-    m: u32,
-    x: i32,
-    sound: bool,
-) -> bool
-    ensures { λ t. ⌜ t ≡ testedBy sound (now (index .entry)) m (lowers (now (table .entry))) (gaps (now (table .entry))) (uppers (now (table .entry)))
-        (min k 64) x (row (now (values .entry)) at (min n 32)) ⌝ }
-{
-    if sound {
-        return namings_hold(index, values, at, rows::capped(n, limit::MEASURES), m, x);
-    }
-    all_hold(table, k, values, at, n, m, x)
+    0
 }
 
 // ---- firm rules

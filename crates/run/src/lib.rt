@@ -74,7 +74,7 @@ fn tell(
 }
 
 // The rules of a plan hold once it is open, and every call keeps it so (`sound`): of a blank one this is known, and a whole one is tested.
-pub fn is_sound<'a>(h: Head, table: &'a Table, values: &'a [i32]) -> bool
+pub fn is_sound<'a>(h: Head, table: &'a Table, values: &'a [i32; limit::VALUES]) -> bool
     ensures { λ t. ⌜ t ≡ soundIn h (lowers (now (table .entry))) (gaps (now (table .entry))) (uppers (now (table .entry))) (now (values .entry)) ⌝ }
 {
     let mode = h.mode;

@@ -13,7 +13,7 @@ use Rattle.state.specs.declared.Answer.the-variants as Answer
 use Rattle.edit.specs.Edits.{spotOf}
 use Rattle.counts.specs.Tallies.{oneUnsent}
 use Rattle.calls.specs.Makes.{stored}
-use Rattle.calls.proofs.Makes.{lent, Readied, made-anew, at-hand, edit-making, edit-refused, edit-made, edit-kept}
+use Rattle.calls.proofs.Makes.{lent, Readied, made-anew, at-hand, edit-making, edit-refused, edit-broken, edit-made, edit-kept}
 use borrow.Author.Needs.{needs}
 use Rattle.calls.proofs.edit_in.Statement.{statement}
 use Rattle.calls.proofs.edit_in.Tie as tie
@@ -64,6 +64,18 @@ After-from-numbers-from-After-refusal c = c .before .before .before .before .bef
 
 abbrev Start-from-After-refusal : tie.After-refusal → tie.Start
 Start-from-After-refusal c = c .before .before .before .before .before .before .before .before .before .before .before .before .before
+
+abbrev After-decide-edit-from-After-refusal2 : tie.After-refusal2 → tie.After-decide-edit
+After-decide-edit-from-After-refusal2 c = c .before .before .before
+
+abbrev Joined1-from-After-refusal2 : tie.After-refusal2 → tie.Joined1
+Joined1-from-After-refusal2 c = c .before .before .before .before .before .before .before
+
+abbrev After-from-numbers-from-After-refusal2 : tie.After-refusal2 → tie.After-from-numbers
+After-from-numbers-from-After-refusal2 c = c .before .before .before .before .before .before .before .before .before .before
+
+abbrev Start-from-After-refusal2 : tie.After-refusal2 → tie.Start
+Start-from-After-refusal2 c = c .before .before .before .before .before .before .before .before .before .before .before .before
 
 abbrev After-struct-told-from-After-struct-told2 : tie.After-struct-told2 → tie.After-struct-told
 After-struct-told-from-After-struct-told2 c = c .before
@@ -200,6 +212,12 @@ enum-known-ruling c = search needs
 refusal-requires : tie.Need-refusal-requires
 refusal-requires c κs = search needs
 
+enum-told : tie.Need-enum-told
+enum-told c = search needs
+
+refusal-requires-2 : tie.Need-refusal-requires-2
+refusal-requires-2 c κs = search needs
+
 enum-known-ruling-2 : tie.Need-enum-known-ruling-2
 enum-known-ruling-2 c = search needs
 
@@ -279,6 +297,18 @@ returns-2 c =
 
 returns-3 : tie.Need-returns-3
 returns-3 c =
+    let s = Start-from-After-refusal2 c in
+    let a = s .args in
+    let l = a .l in
+    let h = After-from-numbers-from-After-refusal2 c .from-numbers .result in
+    λ base draft confirmed. lent (After-from-numbers-from-After-refusal2 c .from-numbers .ensures) refl (sym (After-from-numbers-from-After-refusal2 c .from-numbers .ensures))
+    (edit-making l h base draft (a .values .now) (a .arrived .now) confirmed (a .table .now) (a .index .now) (a .look) (a .counts .now) (a .sound) (s .pre)
+    (readied (Joined1-from-After-refusal2 c)) (After-decide-edit-from-After-refusal2 c .decide-edit .result) (After-decide-edit-from-After-refusal2 c .decide-edit .ensures)
+    (edit-broken l h base draft (a .values .now) (a .arrived .now) confirmed (a .table .now) (a .index .now) (a .look) (a .counts .now) (a .sound) (c .before .enum-told .given .0 .0)
+    (c .before .enum-told .given .1) (c .refusal2 .ensures)))
+
+returns-4 : tie.Need-returns-4
+returns-4 c =
     let s = ((Start-from-After-keeping c)) in
     let a = s .args in
     let l = a .l in
@@ -311,6 +341,8 @@ edit-in-spec =
     decide-edit-requires
     enum-known-ruling
     refusal-requires
+    enum-told
+    refusal-requires-2
     enum-known-ruling-2
     spot-requires
     mul-x
@@ -328,4 +360,5 @@ edit-in-spec =
     edit-record-requires
     keeping-requires
     returns-2
-    returns-3)
+    returns-3
+    returns-4)

@@ -182,7 +182,7 @@ returns-2 c =
     (replay-making l h base (a .draft .now) values arrived confirmed (a .table .now) (a .index .now) (a .look) (a .counts .now) (a .sound) (s .pre)
     (readied (Joined1-from-After-keeping c)) ((After-decide-replay-from-After-keeping c) .decide-replay .result) ((After-decide-replay-from-After-keeping c) .decide-replay .ensures)
     (replay-settled l h base (a .draft .now) values arrived confirmed (a .table .now) (a .index .now) (a .look) (a .counts .now) (a .sound) b x
-    ((After-outcome2-from-After-keeping c) .outcome2 .given .1)
+    ((After-outcome2-from-After-keeping c) .outcome2 .given .0 .1 .1 .0) ((After-outcome2-from-After-keeping c) .outcome2 .given .1)
     ((c .keeping .ensures)
     ∙ (λ j. stored (Answer.Given 1 (((After-fate-number-from-After-keeping c) .fate-number .ensures) j) 0 0) (c .before .before .slot .result)
     (((c .before .settled-record .ensures) ∙ (λ k. settledRecord (a .look .standing) b (((After-capped-from-After-keeping c) .capped .ensures) k + 1))) j)))

@@ -60,11 +60,11 @@ decide-open-requires c κs = search needs
 
 returns-3 : tie.Need-returns-3
 returns-3 c =
-    let s = (c .before .before .before .before .before .before) in
+    let s = (c .before .before .before .before .before) in
     let x = s .args in
     let op = x .op in
-    rw (ne-eqb op 1 ((c .before .before .before .if1 .left)), ne-eqb op 2 ((c .before .before .if2 .left)))
-    (((c .decide-open .ensures)) ∙ ap (openDecision (x .h) (lowers (x .table .now)) (gaps (x .table .now)) (uppers (x .table .now)) (x .values .now)) (stood (c .before .before .before .before)))
+    rw (ne-eqb op 1 ((c .before .before .if1 .left)), ne-eqb op 2 ((c .before .if2 .left)))
+    (((c .decide-open .ensures)) ∙ ap (openDecision (x .h) (lowers (x .table .now)) (gaps (x .table .now)) (uppers (x .table .now)) (x .values .now)) (stood (c .before .before .before)))
 
 pub decide-draw-spec : {M : Type 1} → statement M
 decide-draw-spec =

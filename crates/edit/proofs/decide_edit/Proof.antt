@@ -9,7 +9,7 @@ use mir.Val.{toZ, ofZ}
 use mir.Facts.{toZ-ofZ}
 use borrow.Author.Tests.{not-true, not-false}
 use Rattle.exact.proofs.Ints.{fits32}
-use Rattle.protocol.specs.Lists.{natural, oneTo}
+use Rattle.protocol.specs.Lists.{isNone, natural, oneTo}
 use Rattle.protocol.specs.Plan as model
 use Rattle.protocol.specs.Plan.{is, whole, applied, value}
 use Rattle.protocol.specs.Calls.{apart, no22, no25, first}
@@ -258,10 +258,12 @@ offset-requires : tie.Need-offset-requires
 offset-requires c κs = search needs
 
 change-ruling-requires : tie.Need-change-ruling-requires
-change-ruling-requires c κs =
-    toZ-ofZ (fits32 (getD
-    ((c .before .before .before .before .before .before .before .before .before .before .before .before .before .before .before .before .before .before .before .before .before .before .before
-    .before .before .before .before .before .before .before .before .args .values .now)) (c .before .before .spot .result) (pos 0)) (c .before .old .given)) ∙ stands c
+change-ruling-requires c κs = (
+  toZ-ofZ (fits32 (getD
+      ((c .before .before .before .before .before .before .before .before .before .before .before .before .before .before .before .before .before .before .before .before .before .before .before
+      .before .before .before .before .before .before .before .before .args .values .now)) (c .before .before .spot .result) (pos 0)) (c .before .old .given)) ∙ stands c,
+  c .offset .ensures .1,
+)
 
 returns-7 : tie.Need-returns-7
 unfolding editRuling changeRuling
@@ -281,9 +283,10 @@ returns-7 c =
     .before .before .before .before .before .before .before)) in
     let on = measured (c .before .before .before .before .before .before .before .before .before .before .before .before .before .before .before .before .before .before .before .before) in
     let tail : model.Change → Change
-    → Ruling = λ x e. ruled
-    (first (changeChecks (test n (lowers (a .table .now)) (gaps (a .table .now)) (uppers (a .table .now)) (min (a .h .rules) 64) (applied x (value vs n)) vs) (modeOf (a .h .mode))
-    (firmly (lowers (a .table .now)) (uppers (a .table .now)) (firms (a .table .now)) (min (a .h .rules) 64) n) (keptIn (a .h)) (a .h .next) vs n x)) e (applied x (value vs n)) in
+    → Ruling = λ x e.
+    let rule = test n (lowers (a .table .now)) (gaps (a .table .now)) (uppers (a .table .now)) (min (a .h .rules) 64) (applied x (value vs n)) vs in
+    ruled (first (changeChecks (isNone rule) (modeOf (a .h .mode)) (firmly (lowers (a .table .now)) (uppers (a .table .now)) (firms (a .table .now)) (min (a .h .rules) 64) n) (keptIn (a .h))
+    (a .h .next) vs n x)) e (applied x (value vs n)) rule in
     rw (
       yes31 (c .before .before .before .before .before .before .before .before .before .before .before .before .before .before .before .before .before .before .before .before .before .before
           .before .before .before .before .before .before .before .before),

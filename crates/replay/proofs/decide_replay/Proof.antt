@@ -142,7 +142,7 @@ returns-5 c =
     let a = (Start-from-After-t23 c) .args in
     let stands = found-waiting (a .i) (a .standing) (waits ((Else3-from-After-t23 c))) in
     rw (checked ((Else4-from-After-t23 c)), sym (built ((After-has-fate3-from-After-t23 c))) ∙ c .before .before .if5 .taken)
-    (ap (Settled false) (toZ-ofZ (fits32 _ (c .t23 .given)) ∙ ap (λ k. getD (a .draft .now) k (pos 0)) (c .before .point .ensures .0 ∙ ap (λ e. pointOf (e .measure)) (sym stands))))
+    (ap (λ y. Settled false y 0) (toZ-ofZ (fits32 _ (c .t23 .given)) ∙ ap (λ k. getD (a .draft .now) k (pos 0)) (c .before .point .ensures .0 ∙ ap (λ e. pointOf (e .measure)) (sym stands))))
 
 try-draft-requires : tie.Need-try-draft-requires
 try-draft-requires c κs = search needs

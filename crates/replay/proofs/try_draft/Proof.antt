@@ -1,9 +1,9 @@
 use Prim.Native.Nat.{ℕ, suc, zero, _+_, _-_, _≤_, min}
 use native.Mathlib.Omega.{arith}
-use mathlib.Core.Bool.{Bool, true, false, cond}
+use mathlib.Core.Bool.{true, false, cond}
 use mathlib.Core.Path.{_≡_, refl, sym, ap, _∙_, subst}
 use mathlib.Core.List.{List}
-use borrow.Author.Tests.{ltb-true, ltb-false}
+use borrow.Author.Tests.{ltb-true, ltb-false, ne-eqb}
 use lib.Dec.{T, ltb}
 use lib.IntN.{ℤ, pos}
 use lib.ListN.{getD}
@@ -11,7 +11,7 @@ use mir.Syntax.{w32}
 use mir.Val.{toZ, ofZ}
 use mir.Facts.{toZ-ofZ}
 use Rattle.exact.proofs.Ints.{fits32}
-use Rattle.protocol.specs.Lists.{oneTo}
+use Rattle.protocol.specs.Lists.{isNone, oneTo}
 use Rattle.protocol.specs.Plan.{inRange, fits, applied, value}
 use Rattle.protocol.specs.Plan as model
 use Rattle.protocol.proofs.Laws.{cases, is-yes, range, in-range}
@@ -22,7 +22,7 @@ use Rattle.rules.specs.Index.{testedBy}
 use Rattle.rules.specs.Table.{lowers, gaps, uppers}
 use Rattle.rules.proofs.Rules.{value-none, value-row, value-outside}
 use Rattle.replay.specs.declared.Outcome.the-variants.{Settled}
-use Rattle.replay.specs.Replays.{draftIn, effectiveIn, draftOutcome, pointOf}
+use Rattle.replay.specs.Replays.{draftIn, effectiveIn, brokenIn, draftOutcome, pointOf}
 use borrow.Author.Needs.{needs}
 use Rattle.replay.proofs.try_draft.Statement.{statement}
 use Rattle.replay.proofs.try_draft.Tie as tie
@@ -33,7 +33,7 @@ use Rattle.replay.proofs.counted.Reads as counted-reads
 use Rattle.replay.proofs.point.Reads as point-reads
 use Rattle.rows.proofs.capped.Reads as capped-reads
 use Rattle.rows.proofs.one_to.Reads as one-to-reads
-use Rattle.rules.proofs.hold.Reads as hold-reads
+use Rattle.replay.proofs.broken.Reads as broken-reads
 
 -- a measure's value in the draft is the one at its place, and 0 where there is none
 none-there : (draft : List ℤ) (n m : ℕ) → oneTo n m ≡ false → pos 0 ≡ value (row draft 0 n) m
@@ -87,26 +87,26 @@ module _ (c : tie.After-apply) where
       ∙ ap (λ y. rangedOf (applied ch y)) (toZ-ofZ (fits32 (v .result) (v .ok)) ∙ v .ensures ∙ (λ i. cond (here i) (old i) (pos 0)) ∙ there)
 
 -- it is in range, and the rules are tested where the measure counts as it
-module _ (c : tie.After-hold) where
+module _ (c : tie.After-broken) where
   abbrev trial : tie.After-apply
-  trial = c .before .before .before .before .before
+  trial = c .before .before .before .before
 
   abbrev x : ℤ
-  x = c .before .before .before .made .given .0 .0
+  x = c .before .before .made .given .0 .0
 
-  abbrev test : ℤ → List ℤ → Bool
+  abbrev test : ℤ → List ℤ → ℕ
   test =
       let a = start trial .args in
       testedBy (a .sound) (a .index .now) (a .m) (lowers (a .table .now)) (gaps (a .table .now)) (uppers (a .table .now)) (min (a .h .rules) 64)
 
   tried : (inRange (made trial) ≡ true) × (x ≡ made trial)
-  tried = ranged-in (made trial) x (sym (c .before .before .before .made .given .1) ∙ gives trial)
+  tried = ranged-in (made trial) x (sym (c .before .before .made .given .1) ∙ gives trial)
 
   same : toZ w32 (ofZ w32 x) ≡ made trial
-  same = toZ-ofZ (fits32 x (c .before .before .known-told .given .0 .1)) ∙ tried .1
+  same = toZ-ofZ (fits32 x (c .before .known-told .given .0 .1)) ∙ tried .1
 
-  tested : c .hold .result ≡ test (made trial) (vs trial)
-  tested = c .hold .ensures ∙ ap (λ y. test y (vs trial)) same
+  tested : c .broken .result ≡ test (made trial) (vs trial)
+  tested = c .broken .ensures ∙ ap (λ y. test y (vs trial)) same
 
 point-requires : tie.Need-point-requires
 point-requires c κs = search needs
@@ -136,29 +136,31 @@ enum-told : tie.Need-enum-told
 enum-told c = search needs
 
 returns : tie.Need-returns
-unfolding draftOutcome effectiveIn fits
+unfolding draftOutcome effectiveIn brokenIn fits
 returns c =
-    let p = (c .before .before) in
+    let p = c .before .before in
     rw (ranged-out (made p) (sym (c .enum-told .given .1) ∙ gives p), old p)
 
-hold-requires : tie.Need-hold-requires
-hold-requires c κs = search needs
+broken-requires : tie.Need-broken-requires
+broken-requires c κs = search needs
 
 returns-2 : tie.Need-returns-2
-unfolding draftOutcome effectiveIn fits
+unfolding draftOutcome effectiveIn brokenIn fits
 returns-2 c =
-    let p = c .before .before in
-    rw (tried p .0, sym (tested p) ∙ c .before .if1 .taken, sym (here (trial p)) ∙ c .if2 .taken) (ap (Settled true) (same p))
+    let p = c .before in
+    rw (tried p .0, ap isNone (sym (tested p)) ∙ ne-eqb _ 0 (c .if1 .taken)) (λ j. Settled false (old (trial p) j) (tested p j))
 
 returns-3 : tie.Need-returns-3
-unfolding draftOutcome effectiveIn fits
+unfolding draftOutcome effectiveIn brokenIn fits
 returns-3 c =
     let p = c .before .before in
-    rw (tried p .0, sym (tested p) ∙ c .before .if1 .taken, sym (here (trial p)) ∙ c .if2 .left) (ap (Settled true) (old (trial p)))
+    rw (tried p .0, sym (tested p) ∙ c .before .if1 .left, sym (here (trial p)) ∙ c .if2 .taken) (ap (λ y. Settled true y 0) (same p))
 
 returns-4 : tie.Need-returns-4
-unfolding draftOutcome effectiveIn fits
-returns-4 c = let p = c .before in rw (tried p .0, sym (tested p) ∙ c .if1 .left, old (trial p))
+unfolding draftOutcome effectiveIn brokenIn fits
+returns-4 c =
+    let p = c .before .before in
+    rw (tried p .0, sym (tested p) ∙ c .before .if1 .left, sym (here (trial p)) ∙ c .if2 .left) (ap (λ y. Settled true y 0) (old (trial p)))
 
 pub try-draft-spec : {M : Type 1} → statement M
 try-draft-spec =
@@ -174,7 +176,7 @@ try-draft-spec =
     enum-known-made
     enum-told
     returns
-    hold-requires
+    broken-requires
     returns-2
     returns-3
     returns-4)

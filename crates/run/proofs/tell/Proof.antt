@@ -3,7 +3,7 @@ use mathlib.Core.Path.{_≡_, ap, _∙_}
 use borrow.Author.Needs.{needs}
 use lib.ListN.{length}
 use Rattle.writer.specs.Writes.{lineOf, putIn, putLength}
-use Rattle.run.proofs.Putting.{lent-row}
+use Rattle.rows.proofs.Spans.{lent-row}
 use Rattle.run.proofs.tell.Statement.{statement}
 use Rattle.run.proofs.tell.Tie as tie
 use Rattle.run.proofs.tell.Reads as reads

@@ -27,9 +27,6 @@ same-length c = search needs
 returns : tie.Need-returns
 returns c = search needs
 
-slice-aggregate-is-sound : tie.Need-slice-aggregate-is-sound
-slice-aggregate-is-sound c = search needs
-
 is-sound-requires : tie.Need-is-sound-requires
 is-sound-requires c κs = search needs
 
@@ -79,4 +76,4 @@ returns-2 c =
 pub next-piece-spec : {M : Type 1} → statement M
 next-piece-spec =
     tie.close
-    (tie.spec refuse-piece-requires same-length returns slice-aggregate-is-sound is-sound-requires advance-requires of-requires same-length-2 returns-2)
+    (tie.spec refuse-piece-requires same-length returns is-sound-requires advance-requires of-requires same-length-2 returns-2)
