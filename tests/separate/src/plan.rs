@@ -115,12 +115,14 @@ pub(crate) struct Rule {
 }
 
 /// A rule seen from one of its two measures: with x the measure's own value and v the other's,
-/// it holds where sign * (x - v) + offset < 0.
+/// it holds where sign * (x - v) + offset < 0. Eight bytes without a gap, so that a new plan is cleared and opened faster.
 #[derive(Clone, Copy)]
 struct Bound {
     offset: i32,
-    sign: i32,
+    sign: i8,
     other: u8,
+    /// The rule's number.
+    rule: u16,
 }
 
 #[derive(Clone, Copy)]
@@ -204,7 +206,7 @@ impl Plan {
             chain: [NONE; SIDE_LIMIT],
             starts: [0; MEASURE_LIMIT + 1],
             rule: [Rule { low: 0, high: 0, firm: false, offset: 0 }; RULE_LIMIT],
-            bounds: [Bound { offset: 0, sign: 0, other: 0 }; 2 * RULE_LIMIT],
+            bounds: [Bound { offset: 0, sign: 0, other: 0, rule: 0 }; 2 * RULE_LIMIT],
             base: [0; MEASURE_LIMIT],
             draft: [0; MEASURE_LIMIT],
             values: [[0; MEASURE_LIMIT]; SIDE_LIMIT],
@@ -252,9 +254,7 @@ impl Plan {
         if self.measures == 0 {
             return Err(NoMeasure);
         }
-        let values = &self.values[0];
-        let rules = &self.rule[..self.rules as usize];
-        if rules.iter().any(|r| values[r.low as usize] + r.offset >= values[r.high as usize]) {
+        if self.broken_as_drawn() != 0 {
             return Err(RuleFails);
         }
         self.index_rules();
@@ -281,10 +281,10 @@ impl Plan {
             *end = *start;
         }
         self.starts[MEASURE_LIMIT] = at;
-        for r in rules {
+        for (rule, r) in (1..).zip(rules) {
             for (measure, sign, other) in [(r.low, 1, r.high), (r.high, -1, r.low)] {
                 let end = &mut ends[measure as usize];
-                self.bounds[*end as usize] = Bound { offset: r.offset, sign, other };
+                self.bounds[*end as usize] = Bound { offset: r.offset, sign, other, rule };
                 *end += 1;
             }
         }
@@ -371,7 +371,8 @@ impl Plan {
         if !in_range(value) {
             return Err(ResultRange);
         }
-        if !self.rules_hold(&self.values[side], measure, value) {
+        let broken = self.first_broken(&self.values[side], measure, value);
+        if broken != 0 {
             return Err(RuleBroken);
         }
         self.values[side][measure] = value;
@@ -444,7 +445,9 @@ impl Plan {
         let measure = measure as usize;
         let value = change.apply(self.draft[measure]);
         // An edit whose earlier edit was revoked is not tested (02, S-2).
-        let fate = if earlier != Fate::Revoked && in_range(value) && self.rules_hold(&self.draft, measure, value) {
+        let tested = earlier != Fate::Revoked && in_range(value);
+        let broken = if tested { self.first_broken(&self.draft, measure, value) } else { 0 };
+        let fate = if tested && broken == 0 {
             self.draft[measure] = value;
             Fate::Accepted
         } else {
@@ -600,12 +603,35 @@ impl Plan {
         })
     }
 
-    /// Whether a list of values that meets every rule still does once one of its measures changes. The rules
-    /// that do not name the measure hold as before.
-    fn rules_hold(&self, values: &Values, measure: usize, value: i32) -> bool {
+    /// The number that open's walk over all rules gives (02, S-3): that of the last drawn of those which the drawn values
+    /// break, 0 if none is broken.
+    pub fn broken_as_drawn(&self) -> u32 {
+        let values = &self.values[0];
+        let breaks = |r: &Rule| values[r.low as usize] + r.offset >= values[r.high as usize];
+        self.drawn_rules().iter().rposition(breaks).map_or(0, |at| at as u32 + 1)
+    }
+
+    /// The number that the walk gives for an edit of measure m of side s to a value (02, S-3). 0 where there is no such side
+    /// or measure, or the value is out of range: such an edit is refused untested.
+    pub fn broken_rule(&self, s: i32, m: i32, value: i32) -> u32 {
+        match (self.side_index(s), self.measure_index(m)) {
+            (Ok(side), Some(measure)) if in_range(value) => self.first_broken(&self.values[side], measure, value),
+            _ => 0,
+        }
+    }
+
+    /// The numbers of the rules that a list of values breaks once one of its measures changes, last drawn first. The list
+    /// meets every rule before, so those that do not name the measure hold as they did.
+    fn broken_rules<'a>(&'a self, values: &'a Values, measure: usize, value: i32) -> impl Iterator<Item = u32> + 'a {
         let from = self.starts[measure] as usize;
         let to = self.starts[measure + 1] as usize;
-        self.bounds[from..to].iter().all(|b| b.sign * (value - values[b.other as usize]) + b.offset < 0)
+        let breaks = move |b: &&Bound| b.sign as i32 * (value - values[b.other as usize]) + b.offset >= 0;
+        self.bounds[from..to].iter().rev().filter(breaks).map(|b| b.rule as u32)
+    }
+
+    /// The walk ends at the first of them; 0 if there is none (02, S-3).
+    fn first_broken(&self, values: &Values, measure: usize, value: i32) -> u32 {
+        self.broken_rules(values, measure, value).next().unwrap_or(0)
     }
 
     pub(crate) fn need(&self, mode_fits: bool) -> Result<(), Refusal> {

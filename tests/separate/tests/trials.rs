@@ -324,6 +324,120 @@ fn edits_built_on_a_revoked_one() {
     assert_eq!(text_of(lines).lines().rev().take(3).collect::<Vec<_>>(), ["ok 4", "ok 4", "ok 3"]);
 }
 
+/// A blank plan with these measures and these soft rules, each as a, c and b.
+fn drawn(values: &[i32], rules: &[[i32; 3]]) -> Plan {
+    let mut plan = Plan::new();
+    for &value in values {
+        plan.measure(value).unwrap();
+    }
+    for &[a, c, b] in rules {
+        plan.rule(a, c, b, 0).unwrap();
+    }
+    plan
+}
+
+/// The numbers of the rules that the values break, in rising order.
+fn broken(values: &[i32], rules: &[[i32; 3]]) -> Vec<u32> {
+    let value = |m: i32| values[m as usize - 1];
+    (1..).zip(rules).filter(|(_, &[a, c, b])| value(a) + c >= value(b)).map(|(number, _)| number).collect()
+}
+
+/// The values with another one of measure m.
+fn changed(values: &[i32], m: i32, value: i32) -> Vec<i32> {
+    let mut changed = values.to_vec();
+    changed[m as usize - 1] = value;
+    changed
+}
+
+/// Whether the walk over the rules gives the number where measure m gets the value, in a drawing that is opened and in an edit. The
+/// answers say no more than whether a rule is broken.
+fn walk_gives(number: u32, values: &[i32], rules: &[[i32; 3]], m: i32, value: i32) {
+    let mut plan = drawn(&changed(values, m, value), rules);
+    assert_eq!(plan.broken_as_drawn(), number, "measure {m} drawn as {value}");
+    assert_eq!(plan.open(), if number == 0 { Ok(()) } else { Err(Refusal::RuleFails) });
+    let mut plan = drawn(values, rules);
+    plan.open().unwrap();
+    assert_eq!(plan.broken_rule(1, m, value), number, "measure {m} set to {value}");
+    assert_eq!(plan.edit(1, 1, 0, m, 1, value), if number == 0 { Ok(1) } else { Err(Refusal::RuleBroken) });
+}
+
+/// 02, S-3, worked out by hand.
+#[test]
+fn last_drawn_of_the_broken_rules() {
+    let values = [100, 200, 300];
+    let rules = [[3, -400, 1], [1, 50, 2], [1, 0, 3], [1, 150, 3], [2, 0, 3]];
+    for (m, value, number) in [
+        (1, -100, 1),
+        (1, -99, 0),
+        (1, 149, 0),
+        (1, 150, 4), // and 2
+        (1, 300, 4), // and 2, 3
+        (2, 150, 2),
+        (2, 151, 0),
+        (2, 299, 0),
+        (2, 300, 5),
+        (3, 100, 5), // and 3, 4
+        (3, 200, 5), // and 4
+        (3, 250, 4),
+        (3, 251, 0),
+        (3, 499, 0),
+        (3, 500, 1),
+    ] {
+        walk_gives(number, &values, &rules, m, value);
+    }
+    // Only a drawing can break rules that have no measure in common.
+    let mut plan = drawn(&[5, 5, 5, 5], &[[3, -1, 4], [1, 0, 2], [3, 0, 4], [1, -1, 2]]);
+    assert_eq!((plan.broken_as_drawn(), plan.open()), (3, Err(Refusal::RuleFails)));
+    // Nothing is tested: no side yet, then no such side or measure, and values out of range.
+    let mut plan = drawn(&values, &rules);
+    assert_eq!(plan.broken_rule(1, 1, 150), 0);
+    plan.open().unwrap();
+    for (s, m, value) in [(0, 1, 150), (2, 1, 150), (1, 0, 150), (1, 4, 150), (1, 1, 1_000_001), (1, 1, i32::MIN)] {
+        assert_eq!(plan.broken_rule(s, m, value), 0, "side {s}, measure {m} to {value}");
+    }
+    // A side is tested by its own values.
+    plan.split(1).unwrap();
+    plan.edit(2, 1, 0, 2, 1, 299).unwrap();
+    assert_eq!([1, 2].map(|s| plan.broken_rule(s, 3, 280)), [0, 5]);
+}
+
+/// Xorshift: 0 to n - 1.
+fn below(state: &mut u64, n: i32) -> i32 {
+    *state ^= *state << 13;
+    *state ^= *state >> 7;
+    *state ^= *state << 17;
+    (*state >> 33) as i32 % n
+}
+
+/// 02, S-3: of all broken rules the highest number, on random plans that hold.
+#[test]
+fn highest_number_of_a_broken_rule() {
+    let mut state = 1;
+    let mut random = |n| below(&mut state, n);
+    // Changes that break no rule, one, and several.
+    let mut met = [0; 3];
+    for _ in 0..1_000 {
+        let measures = 2 + random(4);
+        let values: Vec<i32> = (0..measures).map(|_| random(100)).collect();
+        let count = random(65);
+        let rules: Vec<[i32; 3]> = (0..count)
+            .map(|_| {
+                let a = random(measures);
+                let b = (a + 1 + random(measures - 1)) % measures;
+                let room = random(40);
+                [a + 1, values[b as usize] - values[a as usize] - 1 - room, b + 1]
+            })
+            .collect();
+        for _ in 0..20 {
+            let (m, value) = (1 + random(measures), random(200) - 50);
+            let broken = broken(&changed(&values, m, value), &rules);
+            met[broken.len().min(2)] += 1;
+            walk_gives(broken.into_iter().max().unwrap_or(0), &values, &rules, m, value);
+        }
+    }
+    assert!(met.iter().all(|&count| count > 1_000), "{met:?}");
+}
+
 #[test]
 fn refusals_of_the_join_in_their_order() {
     table(&format!("{}{}", EXAMPLE.split("    stop").next().unwrap(), "
