@@ -231,7 +231,8 @@ impl Book {
 
 /// What a line of the sheet is for.
 enum Line {
-    Move(Call),
+    /// A call, and how many rules its change would break.
+    Move(Call, usize),
     Left,
     Whole,
     /// Fate of the edit of this index in the book.
@@ -249,6 +250,9 @@ pub struct Tally {
     /// Edits built on a revoked one, and those among them at least third in a chain of revoked ones.
     pub built: u64,
     pub deep: u64,
+    /// Edits refused as 29 for two rules or more, and edits revoked for as many.
+    pub refused_by_several: u64,
+    pub revoked_by_several: u64,
     pub prefixes: u64,
     /// Edits refused as 30.
     pub used_up: u64,
@@ -314,7 +318,7 @@ fn list(random: &mut Random, file: Option<Box<[u8]>>, plan: Plan) -> List {
             break;
         }
         call.write(&mut sheet);
-        lines.push(Line::Move(call));
+        lines.push(Line::Move(call, generator.broken));
         ask(&generator.plan, &mut sheet, &mut lines);
         if generator.plan.mode() == Mode::Whole && call.name == Name::Install {
             for i in 0..kept {
@@ -361,7 +365,8 @@ fn walk(list: &List, mut book: Book, random: &mut Random, tally: &mut Tally) -> 
         let numbers: Vec<i32> = words.filter_map(|word| word.parse().ok()).collect();
         let fail = |what: String| Err(format!("line {}: {}: {what}", at + 1, String::from_utf8_lossy(texts[at]).trim_end()));
         match line {
-            Line::Move(call) => {
+            Line::Move(call, broken) => {
+                let several = *broken > 1;
                 if fates_due > 0 {
                     return fail("the fates after the install were not all asked for".into());
                 }
@@ -378,11 +383,15 @@ fn walk(list: &List, mut book: Book, random: &mut Random, tally: &mut Tally) -> 
                         tally.revoked += !accepted as u64;
                         tally.built += (built > 0) as u64;
                         tally.deep += (built > 1) as u64;
+                        // One built on a revoked edit is not tested (02, S-2).
+                        tally.revoked_by_several += (several && !accepted && built == 0) as u64;
                     }
                     if call.name == Name::Install {
                         tally.installs += 1;
                         fates_due = book.edits.len();
                     }
+                } else if numbers == [29] {
+                    tally.refused_by_several += several as u64;
                 } else if numbers == [30] {
                     tally.used_up += 1;
                     if book.next <= LAST_NUMBER {

@@ -84,6 +84,16 @@ impl Call {
             Name::Fate | Name::Left => true,
         }
     }
+
+    /// How many rules the call's change would break in the model as it is.
+    pub fn breaks(&self, plan: &Plan) -> usize {
+        let [a, _, _, measure, kind, constant] = self.numbers;
+        match self.name {
+            Name::Edit => plan.broken_by_edit(a, measure, kind, constant),
+            Name::Replay => plan.broken_by_replay(a),
+            _ => 0,
+        }
+    }
 }
 
 pub fn write_number(out: &mut Vec<u8>, n: i32) {

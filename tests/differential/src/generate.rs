@@ -21,6 +21,8 @@ pub struct Style {
     pub spread: i32,
     /// Most room that a rule leaves when it is drawn.
     pub slack: i32,
+    /// Chance that a rule names the measures of the one before, so that a change breaks several at once.
+    pub crowded: usize,
     /// Chance that one rule of the drawing does not hold.
     pub failing: bool,
     /// Chance of a call that only reads.
@@ -53,6 +55,7 @@ impl Style {
             firm: random.pick(&[0, 0, 100, 300, 1000]),
             spread: random.pick(&[0, 5, 20, 1000, 50_000, 1_000_000]),
             slack: random.pick(&[0, 2, 10, 40, 1000, 100_000]),
+            crowded: random.pick(&[0, 0, 300, 900]),
             failing: random.chance(20),
             probe: random.pick(&[0, 50, 150, 400]),
             wild: random.pick(&[0, 10, 50, 200]),
@@ -73,6 +76,8 @@ pub struct Generator<'a> {
     random: &'a mut Random,
     style: Style,
     pub plan: Plan,
+    /// How many rules the last call's change would break as it came, whatever it was answered.
+    pub broken: usize,
     /// Values drawn, which the blank plan does not show.
     drawn: Vec<i32>,
     /// Moves still to try before the next phase.
@@ -101,6 +106,7 @@ impl<'a> Generator<'a> {
             splits_due: 0,
             opened: 0,
             plan,
+            broken: 0,
             drawn: Vec::new(),
             random,
             style,
@@ -133,6 +139,7 @@ impl<'a> Generator<'a> {
             self.useful()?
         };
         let before = self.plan.mode();
+        self.broken = call.breaks(&self.plan);
         let accepted = call.make(&mut self.plan);
         if accepted && before == Mode::Blank {
             match call.name {
@@ -344,8 +351,10 @@ impl<'a> Generator<'a> {
     }
 
     fn rule(&mut self) -> Call {
-        let a = self.some_measure();
-        let b = self.some_measure();
+        let (a, b) = match self.plan.rule_terms(self.plan.rules()) {
+            Some([a, _, b]) if self.random.chance(self.style.crowded) => (a, b),
+            _ => (self.some_measure(), self.some_measure()),
+        };
         let firm = self.random.chance(self.style.firm) as i32;
         if self.drawn.len() < 2 || a == b && self.random.chance(50) {
             return Call::new(Name::Rule, &[a, 0, b, firm]);

@@ -198,20 +198,31 @@ fn books(seed: u64, lists: u64) -> Verdict {
             tally.lists, tally.moves, tally.late, tally.used_up, tally.installs, tally.prefixes
         );
         println!("{} edits revoked, {} of them built on a revoked one, {} on one that was itself", tally.revoked, tally.built, tally.deep);
+        println!(
+            "several rules broken at once by {} edits refused as 29 and by {} edits revoked",
+            tally.refused_by_several, tally.revoked_by_several
+        );
     }
     let long = lists >= LISTS_TO_MEET_ALL;
     for (what, count) in [
         ("late edits", loaded.late),
         ("revoked edits", loaded.revoked),
         ("edits built on a revoked one", loaded.built),
+        ("edits refused for several rules", loaded.refused_by_several),
         ("edits refused as 30", loaded.used_up),
         ("installs", loaded.installs),
         ("closing moves tried", loaded.prefixes),
     ] {
         verdict.met(long, &format!("{what} on a loaded plan"), count, true);
     }
-    verdict.met(long, "edits built on a revoked one", blank.built, true);
-    verdict.met(long, "edits built on one that was itself", blank.deep, true);
+    for (what, count) in [
+        ("edits built on a revoked one", blank.built),
+        ("edits built on one that was itself", blank.deep),
+        ("edits refused for several rules", blank.refused_by_several),
+        ("edits revoked for several rules", blank.revoked_by_several),
+    ] {
+        verdict.met(long, what, count, true);
+    }
     verdict.met(long, "edits refused as 30 on a blank plan", blank.used_up, false);
     // However few the lists: 02, S-1, "Demand 3 covers loaded plans too".
     verdict.met(true, "lists with a book on a loaded plan", loaded.lists, true);

@@ -620,6 +620,29 @@ impl Plan {
         }
     }
 
+    /// How many rules an edit's change breaks on its side; 0 where there is no such side, measure or change.
+    pub fn broken_by_edit(&self, s: i32, m: i32, kind: i32, constant: i32) -> usize {
+        match (self.side_index(s), self.measure_index(m), Change::new(kind, constant)) {
+            (Ok(side), Some(measure), Some(change)) => self.count_broken(&self.values[side], measure, change),
+            _ => 0,
+        }
+    }
+
+    /// How many rules a kept edit's change breaks on the draft.
+    pub fn broken_by_replay(&self, n: i32) -> usize {
+        self.kept_index(n).map_or(0, |at| self.count_broken(&self.draft, self.edits[at].measure as usize, self.edits[at].change))
+    }
+
+    /// A result out of range is not tested.
+    fn count_broken(&self, values: &Values, measure: usize, change: Change) -> usize {
+        let value = change.apply(values[measure]);
+        if in_range(value) {
+            self.broken_rules(values, measure, value).count()
+        } else {
+            0
+        }
+    }
+
     /// The numbers of the rules that a list of values breaks once one of its measures changes, last drawn first. The list
     /// meets every rule before, so those that do not name the measure hold as they did.
     fn broken_rules<'a>(&'a self, values: &'a Values, measure: usize, value: i32) -> impl Iterator<Item = u32> + 'a {
