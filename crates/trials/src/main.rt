@@ -4,11 +4,13 @@
 // that is lent to show. Any other line is a title, and takes a blank plan.
 ghost use Prim.Native.Nat.{_+_, _-_, _*_, _<_, _≤_};
 ghost use lib.ListN.{length};
+use edit::Ruling;
 use plan::Answer;
 use plan::Answered;
 use plan::State;
 use protocol::call;
 use reader::Line;
+use replay::Outcome;
 
 // The line of an answer and of a row of values behind it, as on a sheet, but for its first bytes.
 fn tell(answer: Answer, row: &[i32], from: usize) {
@@ -53,7 +55,60 @@ fn call(p: State, l: Line) -> Answered {
     }
 }
 
-// A title, or a call with its answer.
+// The rule for which an edit is refused, as what it decides has it (02, S-3; no call gives it before S-7); 0 for none.
+fn broken_by_edit(p: State, l: Line) -> u32 {
+    let h = p.head;
+    let named = calls::first_look(l, h);
+    let slot = heads::slot(named);
+    let seen = p.edits[slot];
+    let index = [0i32; 512];
+    let ruling = edit::decide_edit(l, h, &p.table, &index, &p.values, named, seen, false);
+    match ruling {
+        Ruling::Refused(_) => 0,
+        Ruling::Broken(rule) => rule,
+        Ruling::Granted(_, _) => 0,
+    }
+}
+
+// The same of a replay that is accepted: no first log is missing.
+fn broken_by_replay(p: State, l: Line) -> u32 {
+    let h = p.head;
+    let named = calls::first_look(l, h);
+    let first_slot = heads::slot(named);
+    let standing = p.edits[first_slot];
+    let next = calls::second_look(l, h, named, standing);
+    let second_slot = heads::slot(next);
+    let seen = p.edits[second_slot];
+    let index = [0i32; 512];
+    let outcome = replay::decide_replay(
+        h,
+        &p.table,
+        &index,
+        &p.draft,
+        0,
+        named,
+        standing,
+        next,
+        seen,
+        false,
+    );
+    match outcome {
+        Outcome::Refused(_) => 0,
+        Outcome::Settled(_, _, rule) => rule,
+    }
+}
+
+fn broken(p: State, l: Line, accepted: bool) -> u32 {
+    if l.op == call::EDIT {
+        return broken_by_edit(p, l);
+    }
+    if l.op == call::REPLAY && accepted {
+        return broken_by_replay(p, l);
+    }
+    0
+}
+
+// A title, or a call with its answer, and with the rule if it breaks one.
 fn trial(p: State, l: Line, n: u32) -> State {
     if l.op == 0 {
         io::write_all(1, b"\n");
@@ -67,6 +122,11 @@ fn trial(p: State, l: Line, n: u32) -> State {
     let answer = r.answer;
     io::write_all(1, b"  ");
     tell(answer, &[], 0);
+    let rule = broken(p, l, state::accepted(answer));
+    if rule != 0 {
+        io::write_all(1, b"  rule");
+        tell(Answer::Given(1, rule, 0, 0), &[], 2);
+    }
     r.state
 }
 
