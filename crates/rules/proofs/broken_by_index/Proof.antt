@@ -213,7 +213,7 @@ returns c =
     let b = c .before .before .before in
     let i = start b .args .index .now in
     add-one (c .number3 .result) ∙ ap suc (numbered c)
-    ∙ walk-stop _ numberOf (walk b .before .loop .inv .1) (back-next _ (walk b .before .loop .left) (namingAt i) (walk b .loop-test .taken))
+    ∙ walk-stop _ numberOf (walk b .before .loop .inv .1) (back-next _ (walk b .before .loop .left) (namingAt i) (omega (arith, walk b .loop-test .taken)))
     (sym (tested b) ∙ not-true _ (c .before .before .if1 .taken))
     ∙ exactly (walk b .before .before .before .before .before .before .before .before .before .before .before)
 
@@ -226,7 +226,7 @@ loop-again c =
     let i = start b .args .index .now in
     let few = walk b .before .loop .inv .0 in (
       omega arith,
-      walk-next _ numberOf (walk b .before .loop .inv .1) (back-next _ (walk b .before .loop .left) (namingAt i) (walk b .loop-test .taken)) (sym (tested b) ∙ not-false _ (c .if1 .left)),
+      walk-next _ numberOf (walk b .before .loop .inv .1) (back-next _ (walk b .before .loop .left) (namingAt i) (omega (arith, walk b .loop-test .taken))) (sym (tested b) ∙ not-false _ (c .if1 .left)),
     )
 
 returns-2 : tie.Need-returns-2 Inv-loop μ-loop

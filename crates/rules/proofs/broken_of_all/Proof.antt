@@ -98,7 +98,7 @@ cast-result c = omega arith
 returns : tie.Need-returns Inv-loop μ-loop
 returns c =
     let l = c .before .before .before .before .before .before in
-    walk-stop _ _ (l .loop .inv .1) (last-first-next (l .loop .i) (c .before .before .before .before .before .loop-test .taken)) (sym (tested (c .before)) ∙ not-true _ (c .if1 .taken))
+    walk-stop _ _ (l .loop .inv .1) (last-first-next (l .loop .i) (omega (arith, c .before .before .before .before .before .loop-test .taken))) (sym (tested (c .before)) ∙ not-true _ (c .if1 .taken))
     ∙ exactly (l .before .before)
 
 sub-i : tie.Need-sub-i Inv-loop μ-loop
@@ -111,7 +111,7 @@ loop-again : tie.Need-loop-again Inv-loop μ-loop
 loop-again c =
     let l = c .before .before .before .before .before .before in
     let few = l .loop .inv .0 in
-    (omega arith, walk-next _ _ (l .loop .inv .1) (last-first-next (l .loop .i) (c .before .before .before .before .before .loop-test .taken)) (sym (tested (c .before)) ∙ not-false _ (c .if1 .left)))
+    (omega arith, walk-next _ _ (l .loop .inv .1) (last-first-next (l .loop .i) (omega (arith, c .before .before .before .before .before .loop-test .taken))) (sym (tested (c .before)) ∙ not-false _ (c .if1 .left)))
 
 returns-2 : tie.Need-returns-2 Inv-loop μ-loop
 returns-2 c =
