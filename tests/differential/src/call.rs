@@ -89,8 +89,8 @@ impl Call {
     pub fn breaks(&self, plan: &Plan) -> usize {
         let [a, _, _, measure, kind, constant] = self.numbers;
         match self.name {
-            Name::Edit => plan.broken_by_edit(a, measure, kind, constant),
-            Name::Replay => plan.broken_by_replay(a),
+            Name::Edit => plan.broken_by_edit(a, measure, kind, constant).len(),
+            Name::Replay => plan.broken_by_replay(a).len(),
             _ => 0,
         }
     }

@@ -10,4 +10,4 @@ mod sheet;
 pub use file::{screen_load, screen_save, screen_save_on, SLOT, SLOT_LIMIT};
 pub use plan::{Edit, Fate, Mode, Plan, Refusal};
 pub use plan::{KEPT_LIMIT, LAST_NUMBER, MEASURE_LIMIT, RULE_LIMIT, SIDE_LIMIT};
-pub use sheet::{answers, screen_run, SHEET_LIMIT};
+pub use sheet::{answers, run_on, screen_run, SHEET_LIMIT};

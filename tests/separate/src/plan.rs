@@ -620,26 +620,29 @@ impl Plan {
         }
     }
 
-    /// How many rules an edit's change breaks on its side; 0 where there is no such side, measure or change.
-    pub fn broken_by_edit(&self, s: i32, m: i32, kind: i32, constant: i32) -> usize {
+    /// The rules that an edit's change breaks on its side, last drawn first; none where there is no such side, measure or change.
+    pub fn broken_by_edit(&self, s: i32, m: i32, kind: i32, constant: i32) -> Vec<u32> {
         match (self.side_index(s), self.measure_index(m), Change::new(kind, constant)) {
-            (Ok(side), Some(measure), Some(change)) => self.count_broken(&self.values[side], measure, change),
-            _ => 0,
+            (Ok(side), Some(measure), Some(change)) => self.broken_by(&self.values[side], measure, change),
+            _ => Vec::new(),
         }
     }
 
-    /// How many rules a kept edit's change breaks on the draft.
-    pub fn broken_by_replay(&self, n: i32) -> usize {
-        self.kept_index(n).map_or(0, |at| self.count_broken(&self.draft, self.edits[at].measure as usize, self.edits[at].change))
+    /// The rules that a kept edit's change breaks on the draft, last drawn first, whatever became of its earlier edit.
+    pub fn broken_by_replay(&self, n: i32) -> Vec<u32> {
+        match self.kept_index(n) {
+            Some(at) => self.broken_by(&self.draft, self.edits[at].measure as usize, self.edits[at].change),
+            None => Vec::new(),
+        }
     }
 
     /// A result out of range is not tested.
-    fn count_broken(&self, values: &Values, measure: usize, change: Change) -> usize {
+    fn broken_by(&self, values: &Values, measure: usize, change: Change) -> Vec<u32> {
         let value = change.apply(values[measure]);
         if in_range(value) {
-            self.broken_rules(values, measure, value).count()
+            self.broken_rules(values, measure, value).collect()
         } else {
-            0
+            Vec::new()
         }
     }
 

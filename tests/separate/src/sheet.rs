@@ -20,7 +20,7 @@ pub fn screen_run(sheet: &[u8], area: &mut [u8]) -> u64 {
 }
 
 /// Answers a sheet on a plan, with what `screen_run` gives.
-pub(crate) fn run_on(plan: &mut Plan, sheet: &[u8], area: &mut [u8]) -> u64 {
+pub fn run_on(plan: &mut Plan, sheet: &[u8], area: &mut [u8]) -> u64 {
     let length = area.len();
     let mut writer = Writer { rest: area };
     let fitted = if sheet.len() > SHEET_LIMIT {

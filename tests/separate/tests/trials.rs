@@ -1,6 +1,6 @@
 //! The trials of the specification, each refusal, and the edges of the reader and the screen.
 
-use separate::{answers, screen_run, Fate, Mode, Plan, Refusal};
+use separate::{answers, run_on, screen_run, Fate, Mode, Plan, Refusal};
 
 /// Runs a table of input and output parted by a bar.
 fn table(text: &str) {
@@ -436,6 +436,76 @@ fn highest_number_of_a_broken_rule() {
         }
     }
     assert!(met.iter().all(|&count| count > 1_000), "{met:?}");
+}
+
+/// Makes one call of a sheet on a plan and gives its answer.
+fn made(plan: &mut Plan, call: &str) -> String {
+    let mut area = [0; 32];
+    let given = run_on(plan, call.as_bytes(), &mut area);
+    String::from_utf8_lossy(&area[..given as usize / 2]).trim_end().to_string()
+}
+
+/// Whether the earlier edit of a kept one was revoked.
+fn built_on_revoked(plan: &Plan, n: i32) -> bool {
+    plan.kept_edit(n).is_some_and(|edit| plan.fate(edit.earlier).0 == Fate::Revoked)
+}
+
+/// The rule that a call breaks which gets this answer, 0 if none (02, S-3). An edit that is refused for another reason, a refused
+/// replay, and one of an edit built on a revoked one (02, S-2) are not tested.
+fn rule_behind(answer: &str, plan: &Plan, call: &str) -> u32 {
+    let mut words = call.split(' ');
+    let name = words.next();
+    let numbers: Vec<i32> = words.map(|word| word.parse().unwrap()).collect();
+    let tested = answer.starts_with("ok ") || answer == "no 29";
+    let broken = match (name, &numbers[..]) {
+        (Some("edit"), &[s, _, _, m, kind, constant]) if tested => plan.broken_by_edit(s, m, kind, constant),
+        (Some("replay"), &[n]) if tested && !built_on_revoked(plan, n) => plan.broken_by_replay(n),
+        _ => Vec::new(),
+    };
+    broken.first().copied().unwrap_or(0)
+}
+
+/// Makes the call of a stored line so many times, and holds the last answer and the rule behind it against the stored ones.
+fn hold(plan: &mut Plan, line: &str, times: u32, rule: u32) {
+    let (call, answer) = line.split_once("  ").expect("an answer behind each call");
+    for _ in 1..times {
+        made(plan, call);
+    }
+    assert_eq!(rule_behind(answer, plan, call), rule, "the rule of {line}");
+    assert_eq!(made(plan, call), answer, "{call}");
+}
+
+fn number_at_end(line: &str) -> u32 {
+    line.rsplit(' ').next().unwrap().parse().unwrap()
+}
+
+/// What the proved program answered and which rule it named (02, S-3), which no answer says. Its source tells how the lines are read.
+#[test]
+fn stored_trials() {
+    let stored = std::fs::read_to_string(concat!(env!("CARGO_MANIFEST_DIR"), "/../../crates/trials/stdout")).unwrap();
+    let mut lines = stored.lines().peekable();
+    let mut plan = Plan::new();
+    let mut times = 1;
+    // The rules of edits and of replays.
+    let mut named = [0; 2];
+    while let Some(line) = lines.next() {
+        if line.starts_with('*') {
+            times = number_at_end(line);
+            continue;
+        }
+        if line.starts_with('#') {
+            plan = Plan::new();
+        } else if line.starts_with("show ") {
+            // Its buffer.
+            lines.next();
+        } else {
+            let rule = lines.next_if(|next| next.starts_with("  rule ")).map_or(0, number_at_end);
+            hold(&mut plan, line, times, rule);
+            named[line.starts_with("replay ") as usize] += (rule != 0) as u32;
+        }
+        times = 1;
+    }
+    assert!(named[0] + named[1] >= 10 && named[1] >= 1, "{named:?}");
 }
 
 #[test]
