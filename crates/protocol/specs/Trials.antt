@@ -184,7 +184,7 @@ trials = refl
 
 -- ---- which rule is broken (02, S-3)
 
--- four rules, and measures that break none, each of them alone, two, three and all but the first of them
+-- four rules; and measures that break none, each of them alone, the first two, the second and the third, all but the first
 abbrev crossed : List Rule
 crossed = ruleOf (pos 1) (pos 0) (pos 2) (pos 0) ∷ ruleOf (pos 1) (pos 10) (pos 3) (pos 0) ∷ ruleOf (pos 2) (neg 5) (pos 3) (pos 1) ∷ ruleOf (pos 3) (pos 0) (pos 4) (pos 0) ∷ []
 
