@@ -19,7 +19,7 @@ use Rattle.protocol.proofs.Laws.{cases, yes-is, no-is, is-yes, which, range, Fi
 use Rattle.change.specs.declared.Change.{Change}
 use Rattle.change.specs.Change.{madeOf}
 use Rattle.rows.specs.Rows.{span, row}
-use Rattle.rows.proofs.Spans.{length-span}
+use Rattle.rows.proofs.Spans.{length-span, row-most}
 use Rattle.rules.specs.Rules.{RuleTest, testedIn, firmIn}
 use Rattle.rules.specs.Index.{IndexedIf, FirmTest, testedBy, firmBy}
 use Rattle.rules.proofs.Rules.{tested-all, tested-none, tested-sound, firm-is, made-with, row-set, row-apart}
@@ -85,7 +85,7 @@ ruled-same mode sides named kept next vs s client n m ch c x rule rule′ firm f
 
 -- a row has 32 values at most
 row-length : (p : Spread) (s : ℤ) → length (row (p .values) (offsetOf (natural s)) (measuresIn (p .head))) ≤ 32
-row-length p s = let l = length-span (offsetOf (natural s)) (measuresIn (p .head)) (λ i. getD (p .values) i (pos 0)) in omega arith
+row-length p s = row-most (p .values) (offsetOf (natural s)) (p .head .measures) 32
 
 -- so tests of the rules that then find the same make the same decision
 decision-same : (test test′ : RuleTest) (firmly firmly′ : FirmTest) (p : Spread) (s client n m kind k : ℤ)

@@ -18,7 +18,7 @@ use Rattle.protocol.specs.Calls.{Call, replay, Check, Verdict, fine, refused, f
 use Rattle.protocol.proofs.Laws.{cases, is-yes, range, Fine, Pass, passed}
 use Rattle.change.specs.Change.{viewChange}
 use Rattle.rows.specs.Rows.{row}
-use Rattle.rows.proofs.Spans.{length-span}
+use Rattle.rows.proofs.Spans.{length-span, row-most}
 use Rattle.rules.specs.Rules.{RuleTest, testedIn}
 use Rattle.rules.specs.Index.{IndexedIf, testedBy}
 use Rattle.rules.proofs.Rules.{made-with, modify-out, tested-all, tested-none, tested-sound, row-set}
@@ -36,7 +36,7 @@ use Rattle.state.specs.Sizes.{Sized}
 use Rattle.state.proofs.View.{plan-same, flags-unset, lookup-named}
 use Rattle.records.proofs.Records.{Placed, placed, log-modify}
 use Rattle.replay.specs.declared.Outcome.the-variants.{Settled}
-use Rattle.replay.specs.Replays.{Decision, replayChecks, draftIn, effectiveIn, brokenIn, draftOutcome, settledBy, unlessBuilt, replayOutcome, settledRecord, ruleOnce, replayDecision, pointOf, earlierAt, standingIn, replayFrom, replayBy, replayIn, stored}
+use Rattle.replay.specs.Replays.{Decision, replayChecks, draftIn, effectiveIn, brokenIn, draftOutcome, settledBy, unlessBuilt, replayOutcome, settledRecord, ruleIfSettled, replayDecision, pointOf, earlierAt, standingIn, replayFrom, replayBy, replayIn, stored}
 
 -- what the test of the rules finds counts only where the plan is joining or closing: two tests that then find the same make the same decision
 decision-same : (test test′ : RuleTest) (p : Spread) (n : ℤ)
@@ -63,7 +63,7 @@ decision-same test test′ p n h = cases (active (modeOf (p .head .mode)))
 
 -- a draft has 32 values at most
 draft-length : (p : Spread) → length (draftIn (p .head) (p .draft)) ≤ 32
-draft-length p = let l = length-span 0 (min (p .head .drafted) 32) (λ i. getD (p .draft) i (pos 0)) in omega arith
+draft-length p = row-most (p .draft) 0 (p .head .drafted) 32
 
 -- how many first logs are missing counts only where the plan is joining or closing
 missing-same : (test : RuleTest) (h : Head) (lower : List ℕ) (gap : List ℤ) (upper : List ℕ) (draft : List ℤ) {missing missing′ : ℕ}
@@ -240,12 +240,12 @@ module _ (p : Spread) (z : Sized p) (n : ℤ) where
 
   -- The rule that it names where it is settled is the one that the protocol's test of the draft gives (02, S-3); none where it was not tested, and where it is refused.
   pub replay-rule : let d = planOf p .content in let k = lookup (natural n) (d .kept) .edit in
-      replayIn false p n .rule ≡ ruleOnce (first (checks call (planOf p)))
+      replayIn false p n .rule ≡ ruleIfSettled (first (checks call (planOf p)))
       (cond (builtOnRevoked d (natural n)) 0 (cond (fits (k .measure) (k .change) (d .draft)) (brokenRule (d .rules) (made (k .measure) (k .change) (d .draft))) 0))
   unfolding replayOutcome brokenIn
   replay-rule = rw (found-as, checks-same, lookup-named p (natural n), lookup-named p (e .earlier)) (by-verdict (first Checks)
-      ∙ ap (λ r. ruleOnce (first Checks) (cond lost 0 (cond (fits (e .measure) ch vs) r 0))) (sym (tested-all (p .lower) (p .gap) (p .upper) (p .firm) (min (h .rules) 64) (e .measure) ch vs)))
+      ∙ ap (λ r. ruleIfSettled (first Checks) (cond lost 0 (cond (fits (e .measure) ch vs) r 0))) (sym (tested-all (p .lower) (p .gap) (p .upper) (p .firm) (min (h .rules) 64) (e .measure) ch vs)))
     where
-      by-verdict : (v : Verdict) → decided v .rule ≡ ruleOnce v broken
+      by-verdict : (v : Verdict) → decided v .rule ≡ ruleIfSettled v broken
       by-verdict fine = refl
       by-verdict (refused j) = refl

@@ -88,9 +88,9 @@ replayDecision (Denied k) standing old place = record { amount = old; entry = st
 replayDecision (Settled b x rule) standing old place = record { amount = x; entry = settledRecord standing b place; answer = number (cond b 3 4); rule = rule }
 
 -- the rule of a verdict: none where the replay is refused
-abbrev pub ruleOnce : Verdict → ℕ → ℕ
-ruleOnce fine rule = rule
-ruleOnce (refused k) rule = 0
+abbrev pub ruleIfSettled : Verdict → ℕ → ℕ
+ruleIfSettled fine rule = rule
+ruleIfSettled (refused k) rule = 0
 
 abbrev pub pointOf : ℕ → ℕ
 pointOf m = min (m - 1) lastMeasure

@@ -14,6 +14,10 @@ use Rattle.protocol.specs.Lists.{bit, count, all, any, snoc, nth, modify}
 use Rattle.protocol.proofs.Laws.{cases, bit-most}
 use Rattle.rows.specs.Rows.{span, row}
 
+-- a list with one more, from its end
+pub reverse-snoc : {A : Type 0} (xs : List A) (x : A) → reverse (snoc xs x) ≡ x ∷ reverse xs
+reverse-snoc xs x = reverse-append xs (x ∷ [])
+
 module _ {A : Type 0} where
   pub length-span : (i n : ℕ) (f : ℕ → A) → length (span i n f) ≡ n
   length-span i zero f = refl
@@ -54,7 +58,7 @@ module _ {A : Type 0} where
   pub back-next : (i n : ℕ) (f : ℕ → A) → 0 < n → reverse (span i n f) ≡ f (i + (n - 1)) ∷ reverse (span i (n - 1) f)
   back-next i n f h =
       let e : n ≡ suc (n - 1) = omega arith in
-      ap (λ k. reverse (span i k f)) e ∙ ap reverse (span-snoc i (n - 1) f) ∙ reverse-append (span i (n - 1) f) (f (i + (n - 1)) ∷ [])
+      ap (λ k. reverse (span i k f)) e ∙ ap reverse (span-snoc i (n - 1) f) ∙ reverse-snoc (span i (n - 1) f) (f (i + (n - 1)))
 
   pub back-over : (i n : ℕ) (f : ℕ → A) → n ≤ 0 → reverse (span i n f) ≡ []
   back-over i n f h = let e : n ≡ 0 = omega arith in ap (λ k. reverse (span i k f)) e
@@ -185,6 +189,10 @@ count-span p q i zero f g h = refl
 count-span p q i (suc n) f g h = ap₂ (λ a b. bit a + b) (h i) (count-span p q (suc i) n f g h)
 
 -- ---- rows
+
+-- a row has no more values than it is given room for
+pub row-most : (vs : List ℤ) (at n most : ℕ) → length (row vs at (min n most)) ≤ most
+row-most vs at n most = let l = length-span at (min n most) (λ i. getD vs i (pos 0)) in omega arith
 
 -- as much of a list as it has
 pub take-least : {A : Type 0} (n : ℕ) (xs : List A) → take (min (length xs) n) xs ≡ take n xs

@@ -4,18 +4,19 @@ use native.Mathlib.Omega.{arith}
 use mathlib.Core.Bool.{Bool, true, false, cond, and-false}
 use mathlib.Core.Path.{_≡_, refl, sym, ap, ap₂, _∙_}
 use mathlib.Core.Logic.{_≢_}
-use mathlib.Core.List.{List, [], _∷_, map, reverse, reverse-append}
+use mathlib.Core.List.{List, [], _∷_, map, reverse}
 use borrow.Author.Tests.{eqb-true, eqb-false, eq-eqb, ne-eqb, leb-true, le-leb}
 use lib.Dec.{eqb, ltb, leb}
 use lib.IntN.{ℤ, pos, negsuc, _+ℤ_}
-use lib.ListN.{length, getD}
+use lib.ListN.{length, getD, take}
+use lib.Seq.{take-all}
 use lib.Signed.{ltZ}
 use Rattle.protocol.specs.Lists.{oneTo, snoc, passing, firstNot}
 use Rattle.protocol.specs.Plan.{Rule, value, ruleHolds}
 use Rattle.protocol.specs.Broken.{ruleAt, lastFirst, firstBroken}
 use Rattle.protocol.proofs.Laws.{cases, range, both, yes-is, is-yes}
 use Rattle.rows.specs.Rows.{span}
-use Rattle.rows.proofs.Spans.{span-snoc}
+use Rattle.rows.proofs.Spans.{span-snoc, reverse-snoc}
 use Rattle.rules.specs.Rules.{withValue, pairHolds, namesPair, namesAt, dueAt, isDue, plainRules, numbersIn, testedIn, firmIn}
 use Rattle.rules.proofs.Rules.{value-in, value-past, value-out, with-other, pair-at, due-at}
 use Rattle.rules.specs.Index.{Naming, placeOf, otherOf, otherAt, namingOf, namingsOf, namingHolds, numberOf, sideHolds, namingAt, firstAt, lastAt, namingsIn, flagIn, Indexed, IndexedIf, listedAs, indexedIn, testedBy, firmBy}
@@ -99,10 +100,6 @@ module _ (m : ℕ) (x : ℤ) (vs : List ℤ) (l : length vs ≤ 32) where
 listed-is : (m : ℕ) → m ≤ 32 → listedAs m ≡ m
 listed-is m q = rw (le-leb m 32 q)
 
--- a list with one more, from its end
-reverse-snoc : {A : Type 0} (xs : List A) (x : A) → reverse (snoc xs x) ≡ x ∷ reverse xs
-reverse-snoc xs x = reverse-append xs (x ∷ [])
-
 module _ (lower : List ℕ) (gap : List ℤ) (upper : List ℕ) (n : ℕ) where
   abbrev rules : List Rule
   rules = plainRules lower gap upper n
@@ -158,6 +155,16 @@ pub tested-indexed : (sound : Bool) (index : List ℤ) (m : ℕ) (lower : List �
 unfolding testedBy
 tested-indexed true index m lower gap upper firm n x vs l w = indexed-is lower gap upper n index firm m x vs l (w refl)
 tested-indexed false index m lower gap upper firm n x vs l w = refl
+
+-- a caller that asks the index where all held before, and tests all rules else, tests by what it knows
+module _ (sound : Bool) (index : List ℤ) (m : ℕ) (lower : List ℕ) (gap : List ℤ) (upper : List ℕ) (n : ℕ) {x x′ : ℤ} {vs vs′ : List ℤ} {r : ℕ} (x-is : x′ ≡ x) (vs-is : vs′ ≡ vs) where
+  pub asked-index : sound ≡ true → r ≡ indexedIn index m x′ (take 32 vs′) → length vs ≤ 32 → r ≡ testedBy sound index m lower gap upper n x vs
+  unfolding testedBy
+  asked-index e r-is l = rw e (r-is ∙ (λ j. indexedIn index m (x-is j) (take 32 (vs-is j))) ∙ ap (indexedIn index m x) (take-all 32 vs l))
+
+  pub asked-all : sound ≡ false → r ≡ testedIn false m lower gap upper n x′ vs′ → r ≡ testedBy sound index m lower gap upper n x vs
+  unfolding testedBy
+  asked-all e r-is = rw e (r-is ∙ (λ j. testedIn false m lower gap upper n (x-is j) (vs-is j)))
 
 -- and of the 32 measures it says whether a firm rule names them
 pub firm-indexed : (sound : Bool) (index : List ℤ) (lower : List ℕ) (gap : List ℤ) (upper : List ℕ) (firm : List Bool) (n m : ℕ) → 0 < m → m ≤ 32

@@ -1,7 +1,8 @@
 // The trials that are run and not proved (01, "Trials at the edges", and every refusal in the modes where it can occur), over the public
-// calls of the plan. Standard input has a call to a line, as on a sheet, and is written out with the answers. A `*` with a call behind it
-// is no call, but has a number for the next line: how often its call is made, of which the last is answered, or how long the buffer is
-// that is lent to show. Any other line is a title, and takes a blank plan.
+// calls of the plan. Standard input has a call to a line, as on a sheet, and is written out with the answers; behind an edit that is
+// refused for a broken rule, and a replay that revokes for one, a line has the rule. A `*` with a call behind it is no call, but has a
+// number for the next line: how often its call is made, of which the last is answered, or how long the buffer is that is lent to show.
+// Any other line is a title, and takes a blank plan.
 ghost use Prim.Native.Nat.{_+_, _-_, _*_, _<_, _≤_};
 ghost use lib.ListN.{length};
 use edit::Ruling;

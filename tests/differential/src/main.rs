@@ -79,6 +79,13 @@ impl Verdict {
         }
     }
 
+    /// Whether a run that is long enough met each of these, on what is said behind it.
+    fn met_each(&mut self, long: bool, counts: &[(&str, u64)], on: &str) {
+        for (what, count) in counts {
+            self.met(long, &format!("{what}{on}"), *count, true);
+        }
+    }
+
     fn add(&mut self, other: Verdict) {
         self.passed += other.passed;
         self.failed += other.failed;
@@ -204,7 +211,7 @@ fn books(seed: u64, lists: u64) -> Verdict {
         );
     }
     let long = lists >= LISTS_TO_MEET_ALL;
-    for (what, count) in [
+    let met = [
         ("late edits", loaded.late),
         ("revoked edits", loaded.revoked),
         ("edits built on a revoked one", loaded.built),
@@ -212,17 +219,15 @@ fn books(seed: u64, lists: u64) -> Verdict {
         ("edits refused as 30", loaded.used_up),
         ("installs", loaded.installs),
         ("closing moves tried", loaded.prefixes),
-    ] {
-        verdict.met(long, &format!("{what} on a loaded plan"), count, true);
-    }
-    for (what, count) in [
+    ];
+    verdict.met_each(long, &met, " on a loaded plan");
+    let met = [
         ("edits built on a revoked one", blank.built),
         ("edits built on one that was itself", blank.deep),
         ("edits refused for several rules", blank.refused_by_several),
         ("edits revoked for several rules", blank.revoked_by_several),
-    ] {
-        verdict.met(long, what, count, true);
-    }
+    ];
+    verdict.met_each(long, &met, " on a blank plan");
     verdict.met(long, "edits refused as 30 on a blank plan", blank.used_up, false);
     // However few the lists: 02, S-1, "Demand 3 covers loaded plans too".
     verdict.met(true, "lists with a book on a loaded plan", loaded.lists, true);
@@ -275,14 +280,13 @@ fn saved_plans(seed: u64, files: u64) -> Verdict {
             verdict.met(long, &format!("{name}, refusal {refusal}"), count, refusals.contains(&refusal));
         }
     }
-    for (what, count) in [
+    let met = [
         ("edits refused as 30", counts.used_up),
         ("sheets too long", counts.too_long),
         ("runs that ended", counts.ended),
         ("round trips", counts.round_trips),
-    ] {
-        verdict.met(long, what, count, true);
-    }
+    ];
+    verdict.met_each(long, &met, "");
     verdict
 }
 
