@@ -70,100 +70,67 @@ pub fn edits(measures: usize) -> String {
     text
 }
 
-/// Measures and rules of a plan that is joined.
-const JOINED: (usize, usize) = (8, 4);
-
-/// From a whole plan, splits to so many sides and keeps so many edits, of the sides in turn. `first` is the next number.
-fn parted(sides: usize, kept: usize, first: usize) -> String {
-    splits(sides) + &kept_edits((0..kept).map(|i| i % sides), first, true)
-}
-
-/// The same with the sides in no order: each edit's is drawn by a small generator, and every side has about as many.
-fn parted_in_no_order(sides: usize, kept: usize, first: usize) -> String {
-    let mut state = first as u64;
-    let of = (0..kept).map(|_| {
-        state = state.wrapping_mul(6_364_136_223_846_793_005).wrapping_add(1_442_695_040_888_963_407);
-        (state >> 33) as usize % sides
-    });
-    splits(sides) + &kept_edits(of, first, true)
-}
-
-fn splits(sides: usize) -> String {
-    "split 1\n".repeat(sides - 1)
-}
-
-/// Edits of these sides, counted from 0. A side goes through the measures again and again, and takes back what it did the time before.
-fn kept_edits(of: impl Iterator<Item = usize>, first: usize, chained: bool) -> String {
+/// From a whole plan, splits to so many sides and keeps so many edits. `first` is the next number.
+fn parted(sides: usize, kept: usize, first: usize, measures: usize) -> String {
     let mut text = String::new();
-    // How many edits each side has, and the number of its last.
-    let mut taken = [(0, 0); separate::SIDE_LIMIT];
-    for (i, side) in of.enumerate() {
-        let (count, last) = taken[side];
-        let constant = if (count / JOINED.0) % 2 == 0 { 3 } else { -3 };
+    for _ in 1..sides {
+        text += "split 1\n";
+    }
+    for i in 0..kept {
+        let constant = if (i / sides / measures) % 2 == 0 { 3 } else { -3 };
         // Every fourth edit names the one that its side took before, by the same client.
-        let after = if chained && i % 4 == 3 { last } else { 0 };
-        writeln!(text, "edit {} {} {after} {} 2 {constant}", side + 1, side + 1, count % JOINED.0 + 1).unwrap();
-        taken[side] = (count + 1, first + i);
+        let side = i % sides;
+        let after = if i % 4 == 3 && i >= sides { first + i - sides } else { 0 };
+        writeln!(text, "edit {} {} {after} {} 2 {constant}", side + 1, side + 1, i / sides % measures + 1).unwrap();
     }
     text
 }
 
-/// A line for each number.
-fn lines(name: &str, numbers: impl IntoIterator<Item = usize>) -> String {
-    numbers.into_iter().map(|n| format!("{name} {n}\n")).collect()
+/// One join from split to install.
+fn cycle(sides: usize, kept: usize, first: usize, measures: usize) -> String {
+    let mut text = parted(sides, kept, first, measures) + "join\n";
+    for s in 1..=sides {
+        writeln!(text, "send {s}").unwrap();
+    }
+    for n in first..first + kept {
+        writeln!(text, "replay {n}").unwrap();
+    }
+    text += "stop\n";
+    for s in 1..=sides {
+        writeln!(text, "confirm {s}").unwrap();
+    }
+    text + "install\n"
 }
 
-/// The join of a split plan, from its beginning to the install. The edits are replayed in rising number, the only order there is (02, S-4).
-fn joined(sides: usize, kept: usize, first: usize) -> String {
-    format!("join\n{}{}{}", lines("send", 1..=sides), lines("replay", first..first + kept), closed(sides))
-}
-
-fn closed(sides: usize) -> String {
-    format!("stop\n{}install\n", lines("confirm", 1..=sides))
-}
-
-/// One join, from split to install, in which every side but the last is far behind: each takes one late edit, and sends it when all but
-/// one of the last side's are settled. So the edit that may be replayed is far below those, and the one after it far above. Late edits
-/// name none, as none is replied before it is sent.
-fn behind(sides: usize, kept: usize, first: usize) -> String {
-    let start = splits(sides) + "join\n" + &lines("send", 1..=sides);
-    // Each of another measure, so that the measures rise together from join to join and the rules go on to hold.
-    let late: String = (1..sides).map(|s| format!("edit {s} {s} 0 {s} 2 3\n")).collect();
-    let later = kept_edits(std::iter::repeat_n(sides - 1, kept + 1 - sides), first + sides - 1, false);
-    let last = first + kept - 1;
-    let settled = lines("send", [sides]) + &lines("replay", first + sides - 1..last);
-    let sent: String = (1..sides).map(|s| format!("send {s}\nreplay {}\n", first + s - 1)).collect();
-    start + &late + &later + &settled + &sent + &lines("replay", [last]) + &closed(sides)
-}
-
-/// As many joins as a sheet has room for, each with so many edits and written by `one` from the next number on.
-fn cycles(kept: usize, one: impl Fn(usize) -> String) -> (String, String) {
-    let setup = drawn(JOINED.0, JOINED.1, false);
+/// As many joins as a sheet has room for.
+fn cycles(sides: usize, kept: usize, measures: usize, rules: usize) -> (String, String) {
+    let setup = drawn(measures, rules, false);
     let mut body = String::new();
     let mut first = 1;
     loop {
-        let next = one(first);
+        let next = cycle(sides, kept, first, measures);
         if setup.len() + body.len() + next.len() > LIMIT {
-            break;
+            return (setup, body);
         }
         body += &next;
         first += kept;
     }
-    // A join that was refused a line would be timed for less than it is called.
-    let answers = separate::answers((setup.clone() + &body).as_bytes());
-    assert!(answers.split(|&b| b == b'\n').all(|answer| !answer.starts_with(b"no")), "a line of a join is refused");
-    (setup, body)
-}
-
-/// Joins of so many sides, which take the edits in turn.
-fn joins(sides: usize, kept: usize) -> (String, String) {
-    cycles(kept, |first| parted(sides, kept, first) + &joined(sides, kept, first))
 }
 
 /// A joining plan with so many kept edits, half of them settled.
 fn joining(sides: usize, kept: usize) -> String {
-    let start = drawn(JOINED.0, JOINED.1, false) + &parted(sides, kept, 1);
-    start + "join\n" + &lines("send", 1..=sides) + &lines("replay", 1..=kept / 2)
+    let mut text = drawn(8, 4, false) + &parted(sides, kept, 1, 8) + "join\n";
+    for s in 1..=sides {
+        writeln!(text, "send {s}").unwrap();
+    }
+    for n in 1..=kept / 2 {
+        writeln!(text, "replay {n}").unwrap();
+    }
+    text
+}
+
+fn fates(kept: usize) -> String {
+    (1..=kept.max(1)).map(|n| format!("fate {n}\n")).collect()
 }
 
 const MALFORMED: &str = "measure 1234567890\nedit 1 5 0 1 2\nedit 1 5 0 1 2 1\r\nmesure 5\n\nedit  1 5 0 1 2 1\nreplay -0\nshow 1 2\n\
@@ -179,9 +146,8 @@ const KITCHENS: [(&str, &str); 6] = [
     ("three-sides", include_str!("../../examples/three-sides.sheet")),
 ];
 
-/// Kitchens in which an edit builds on a revoked one (02, S-2) or is not the lowest that waits when its replay is tried (S-4): a program
-/// without 02's requests answers them otherwise.
-const REQUESTED: [&str; 4] = ["door", "filler", "island", "three-sides"];
+/// Kitchens in which an edit builds on a revoked one: a program without 02's requests answers them otherwise.
+const BUILT: [&str; 3] = ["door", "filler", "island"];
 
 fn counted(count: usize, what: &str) -> String {
     format!("{count} {what}{}", if count == 1 { "" } else { "s" })
@@ -197,16 +163,14 @@ pub fn workloads() -> Vec<Workload> {
     let setup = drawn(32, 64, false);
     let body = filled(&setup, &edits(32), 1000);
     list.push(Workload::new("edit, 64 rules", setup, body));
-    let (setup, body) = joins(8, 256);
+    let (setup, body) = cycles(8, 256, 8, 4);
     list.push(Workload::new("joins, 8 sides, 256 edits", setup, body));
-    let (setup, body) = cycles(256, |first| parted_in_no_order(8, 256, first) + &joined(8, 256, first));
-    list.push(Workload::new("joins, 8 sides in no order, 256 edits", setup, body));
     let body = filled("", MALFORMED, 1000);
     list.push(Workload::new("malformed lines", String::new(), body));
     let setup = joining(8, 256);
     let body = filled(&setup, "left\n", 10_000);
     list.push(Workload::new("left, 256 kept edits", setup.clone(), body));
-    let body = filled(&setup, &lines("fate", 1..=256), 10_000);
+    let body = filled(&setup, &fates(256), 10_000);
     list.push(Workload::new("fate, 256 kept edits", setup, body));
     let mut setup: String = (0..32).map(|m| format!("measure {}\n", [0, 7, -45, 600, -7200, 45_000, 600_000, -1_000_000][m % 8])).collect();
     setup += "open\n";
@@ -235,7 +199,7 @@ pub fn growth() -> Vec<(&'static str, Vec<Workload>)> {
     };
     let mut kept = Vec::new();
     for count in [0, 64, 256] {
-        let setup = drawn(8, 4, false) + &parted(8, count.min(255), 1);
+        let setup = drawn(8, 4, false) + &parted(8, count.min(255), 1, 8);
         kept.push(Workload::new(&format!("edit naming the last, {} kept", count.min(255)), setup.clone(), filled(&setup, &refused(count.min(255)), 3000)));
     }
     for count in [0, 64, 256] {
@@ -244,15 +208,11 @@ pub fn growth() -> Vec<(&'static str, Vec<Workload>)> {
     }
     for count in [0, 64, 256] {
         let setup = joining(8, count);
-        kept.push(Workload::new(&format!("fate, {count} kept"), setup.clone(), filled(&setup, &lines("fate", 1..=count.max(1)), 10_000)));
+        kept.push(Workload::new(&format!("fate, {count} kept"), setup.clone(), filled(&setup, &fates(count), 10_000)));
     }
     for count in [0, 64, 256] {
-        let (setup, body) = joins(8, count);
+        let (setup, body) = cycles(8, count, 8, 4);
         kept.push(Workload::new(&format!("joins, {count} kept"), setup, body));
-    }
-    for count in [64, 256] {
-        let (setup, body) = cycles(count, |first| behind(8, count, first));
-        kept.push(Workload::new(&format!("joins with sends far behind, {count} kept"), setup, body));
     }
     let mut sides = Vec::new();
     for count in [1, 4, 8] {
@@ -269,7 +229,7 @@ pub fn growth() -> Vec<(&'static str, Vec<Workload>)> {
         sides.push(Workload::new(&format!("show, {}", counted(count, "side")), setup.clone(), filled(&setup, &format!("show {count}\n"), 3000)));
     }
     for count in [2, 4, 8] {
-        let (setup, body) = joins(count, 64);
+        let (setup, body) = cycles(count, 64, 8, 4);
         sides.push(Workload::new(&format!("joins, {count} sides, 64 edits"), setup, body));
     }
     let mut run = vec![
@@ -277,7 +237,7 @@ pub fn growth() -> Vec<(&'static str, Vec<Workload>)> {
         Workload::new("one line", String::new(), "left".into()),
         Workload::new("a plan drawn up, 32 measures, 64 rules", String::new(), drawn(32, 64, false)),
     ];
-    for (name, sheet) in KITCHENS.iter().filter(|(name, _)| cfg!(feature = "requests") || !REQUESTED.contains(name)) {
+    for (name, sheet) in KITCHENS.iter().filter(|(name, _)| cfg!(feature = "requests") || !BUILT.contains(name)) {
         run.push(Workload::new(&format!("examples/{name}, {} lines", sheet.lines().count()), String::new(), sheet.to_string()));
     }
     vec![("rules", rules), ("rules that name the measure", names), ("kept edits", kept), ("sides", sides), ("a whole run", run)]

@@ -218,11 +218,6 @@ impl Book {
         self.edits_where(|kept| kept.fate == fate)
     }
 
-    /// The only one that may be replayed (02, S-4). Unsent edits do not wait.
-    pub fn first_waiting(&self) -> Option<(i64, &Kept)> {
-        self.edits.iter().find(|(_, kept)| kept.fate == Fate::Waiting).map(|(&number, kept)| (number, kept))
-    }
-
     pub fn unsent_of(&self, side: i64) -> Vec<i64> {
         self.edits_where(|kept| kept.is_unsent_of(side))
     }

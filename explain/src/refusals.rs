@@ -1,4 +1,4 @@
-//! What each refusal means, whom it speaks to and what helps (01, "Who can be told no, and why"; 42 is from 02, S-4).
+//! What each refusal means, whom it speaks to and what helps (01, "Who can be told no, and why").
 
 pub struct Refusal {
     pub number: i64,
@@ -76,17 +76,12 @@ pub const REFUSALS: [Refusal; 30] = [
     no(33, RUNNER, "This side has sent, and has no new edit since.", "nothing to do here; go on with the next step."),
     no(34, RUNNER, "Not every side has sent since the join began.", "let each side send once, even one that has no edits."),
     no(35, RUNNER, "No edit with this number is waiting to be tried.", "ask `fate` what became of it."),
-    no(37, RUNNER, "Edits that were sent have not all been tried.", "replay those that wait, the lowest number first."),
+    no(36, RUNNER, "The edit it builds on has not been tried yet.", "replay that one first."),
+    no(37, RUNNER, "Edits that were sent have not all been tried.", "replay those that wait."),
     no(38, RUNNER, "This side has edits that it has not sent.", "let it send them, then confirm."),
     no(39, RUNNER, "This side has confirmed already.", "nothing to do here; go on with the next step."),
     no(40, RUNNER, "Not every side has confirmed.", "let each side confirm before the install."),
     no(41, HOST, "The area lent for the values is too short.", "lend room for 32 numbers; that is always enough."),
-    no(
-        42,
-        RUNNER,
-        "Of the edits that wait, the one with the lowest number is tried next, so that every desk gets the same kitchen.",
-        "replay that one now, and this one in its turn.",
-    ),
     no(51, HOST, "The line cannot be read, so nothing was done.", "write the line as the README lists it."),
     no(
         52,

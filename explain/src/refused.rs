@@ -58,13 +58,10 @@ impl Teller {
                 Some(Fate::Unsent) => format!("Edit {edit} has not been sent."),
                 Some(_) => format!("Edit {edit} has been tried already."),
             }),
+            (36, Call::Replay { edit }) => book.edits.get(&edit).map(|kept| format!("That is edit {}.", kept.edit.earlier)),
             (37, _) => listed("Waiting", &book.edits_with(Fate::Waiting)),
             (38, Call::Confirm { side }) => listed("Unsent", &book.unsent_of(side)),
             (40, _) => self.waited_for(&book.to_confirm()),
-            (42, Call::Replay { edit }) => {
-                let (first, kept) = book.first_waiting().filter(|(first, _)| *first < edit)?;
-                Some(format!("{}, waits and comes first.", capital(&self.edit(first, &kept.edit))))
-            }
             _ => None,
         }
     }

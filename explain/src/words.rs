@@ -8,7 +8,7 @@ use crate::saved::Saved;
 
 const JOIN: &str =
     "The join begins, from the plan as it was at the split. Every side sends its edits; then they are tried on the \
-                    joined plan, one at a time: of those that wait, the lowest number first.";
+                    joined plan, one at a time.";
 const STOP: &str = "No more edits are taken. What was not sent has to be sent and tried, and every side confirms.";
 
 /// The next number once every number has been given.
@@ -324,7 +324,7 @@ impl Teller {
         Some(format!("rule {} fails: {rule} ({} is not less than {}){more}", first.rule, mm(first.low), mm(first.high)))
     }
 
-    pub(crate) fn edit(&self, number: i64, edit: &Edit) -> String {
+    fn edit(&self, number: i64, edit: &Edit) -> String {
         format!("edit {number} {}, {}", self.by(edit), self.change(edit))
     }
 

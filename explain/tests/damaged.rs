@@ -1,7 +1,6 @@
 //! Whatever bytes a sheet, its answers and its names are of, the page is made, fits, and shows every line.
 
 use explain::call::CALLS;
-use explain::refusals::REFUSALS;
 use explain::{explain, explain_on, lines, Names, Saved};
 
 #[path = "../../tests/differential/src/random.rs"]
@@ -105,21 +104,6 @@ fn single_bytes_of_a_good_sheet() {
             bytes.truncate(end);
         }
         check(&sheet, &answers, Names::default());
-    }
-}
-
-/// Every refusal in the place of every answer.
-#[test]
-fn another_refusal() {
-    let sheet = include_bytes!("../../examples/island.sheet");
-    let stored = lines(include_bytes!("../../examples/island.answers"));
-    for at in 0..stored.len() {
-        for one in &REFUSALS {
-            let refused = format!("no {}", one.number);
-            let mut answers = stored.clone();
-            answers[at] = refused.as_bytes();
-            check(sheet, &answers.join(&b'\n'), Names::default());
-        }
     }
 }
 

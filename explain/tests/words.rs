@@ -1,4 +1,4 @@
-//! Words for cases that the examples do not have. The answers are those that documents 01 and 02 ask for, unless it is said.
+//! Words for cases that the examples do not have. The answers are those that document 01 asks for.
 
 use explain::call::Rule;
 use explain::{explain, explain_on, Names, Saved};
@@ -42,14 +42,14 @@ fn says(sheet: &str, parts: &[&str]) {
 fn an_edit_revoked_for_its_range() {
     let sheet = "measure 500000 | ok 1\nmeasure 500000 | ok 2\nrule 1 -600000 2 0 | ok 1\nopen | ok 0\nsplit 1 | ok 2\n\
                  edit 1 1 0 1 3 2 | ok 1\nedit 2 2 0 1 3 2 | ok 2\njoin | ok 0\n\
-                 send 1 | ok 1\nsend 2 | ok 1\nreplay 1 | ok 3\nreplay 2 | ok 4\nstop | ok 0\n\
+                 send 1 | ok 1\nsend 2 | ok 1\nreplay 2 | ok 3\nreplay 1 | ok 4\nstop | ok 0\n\
                  confirm 1 | ok 0\nconfirm 2 | ok 0\ninstall | ok 0";
     says(
         sheet,
         &[
-            "Revoked: edit 2 by client 2 (side 2), multiply measure 1 by 2. In the joined plan measure 1 would go from \
+            "Revoked: edit 1 by client 1 (side 1), multiply measure 1 by 2. In the joined plan measure 1 would go from \
              100000.0 mm to 200000.0 mm, out of range.",
-            "- edit 2 by client 2 (side 2), multiply measure 1 by 2; its result would be out of range",
+            "- edit 1 by client 1 (side 1), multiply measure 1 by 2; its result would be out of range",
         ],
     );
 }
@@ -58,7 +58,7 @@ fn an_edit_revoked_for_its_range() {
 #[test]
 fn edits_built_on_a_revoked_one() {
     let sheet = "measure 3 | ok 1\nmeasure 12 | ok 2\nrule 1 1 2 0 | ok 1\nopen | ok 0\nsplit 1 | ok 2\nedit 1 5 0 1 2 1 | ok 1\n\
-                 edit 2 6 0 1 3 3 | ok 2\nedit 2 6 2 2 2 6 | ok 3\nedit 2 6 3 1 2 7 | ok 4\nedit 1 5 1 2 2 1 | ok 5\njoin | ok 0\nsend 1 | ok 2\n\
+                 edit 2 6 0 1 3 3 | ok 2\nedit 2 6 2 2 2 5 | ok 3\nedit 2 6 3 1 2 7 | ok 4\nedit 1 5 1 2 2 1 | ok 5\njoin | ok 0\nsend 1 | ok 2\n\
                  send 2 | ok 3\nreplay 1 | ok 3\nreplay 2 | ok 4\nreplay 3 | ok 4\nreplay 4 | ok 4\nreplay 5 | ok 3\nfate 4 | ok 4 4\n\
                  edit 2 6 3 2 2 1 | ok 6\nsend 2 | ok 1\nreplay 6 | ok 4\nstop | ok 0\nconfirm 1 | ok 0\nconfirm 2 | ok 0\n\
                  install | ok 0\nedit 1 6 3 2 2 1 | ok 7";
@@ -66,15 +66,15 @@ fn edits_built_on_a_revoked_one() {
     has(
         &page,
         &[
-            "Revoked: edit 3 by client 6 (side 2), add 0.6 mm to measure 2. It builds on edit 2, which was revoked, so it is revoked \
+            "Revoked: edit 3 by client 6 (side 2), add 0.5 mm to measure 2. It builds on edit 2, which was revoked, so it is revoked \
              untried. The joined plan stays as it was.",
             "Revoked: edit 4 by client 6 (side 2), add 0.7 mm to measure 1. It builds on edit 3, which was revoked, so it is revoked",
             "Accepted: edit 5 by client 5 (side 1), add 0.1 mm to measure 2. In the joined plan measure 2 goes from 1.2 mm to 1.3 mm.",
             "add 0.7 mm to measure 1: revoked, number 4 of those settled.",
-            "- edit 2 by client 6 (side 2), multiply measure 1 by 3; it would break rule 1 - edit 3 by client 6 (side 2), add 0.6 mm \
+            "- edit 2 by client 6 (side 2), multiply measure 1 by 3; it would break rule 1 - edit 3 by client 6 (side 2), add 0.5 mm \
              to measure 2; it builds on edit 2, which was revoked - edit 4 by client 6 (side 2), add 0.7 mm to measure 1; it builds on \
              edit 3, which was revoked",
-            "from 1.8 mm to 1.9 mm. It builds on edit 3, which was revoked, so it will be revoked too. It comes while the join runs",
+            "from 1.7 mm to 1.8 mm. It builds on edit 3, which was revoked, so it will be revoked too. It comes while the join runs",
             "from 1.3 mm to 1.4 mm. It builds on edit 3. The plan is whole, so that is all.",
         ],
     );
@@ -87,39 +87,6 @@ fn an_edit_revoked_for_nothing_known() {
     let sheet = "measure 1 | ok 1\nopen | ok 0\nsplit 1 | ok 2\nedit 2 1 0 1 1 5 | ok 1\njoin | ok 0\nsend 1 | ok 0\nsend 2 | ok 1\n\
                  replay 1 | ok 4\nstop | ok 0\nconfirm 1 | ok 0\nconfirm 2 | ok 0\ninstall | ok 0";
     says(sheet, &["- edit 1 by client 1 (side 2), set measure 1 to 0.5 mm No measure differs from before the split."]);
-}
-
-/// The edit that comes first is neither settled nor unsent, as 4 is in the end, and need not be the one that is built on.
-#[test]
-fn a_replay_out_of_turn() {
-    let sheet = "measure 3 | ok 1\nmeasure 40 | ok 2\nopen | ok 0\nsplit 1 | ok 2\nedit 1 5 0 1 2 1 | ok 1\nedit 2 6 0 2 2 5 | ok 2\n\
-                 edit 1 5 1 1 4 2 | ok 3\njoin | ok 0\nsend 1 | ok 2\nsend 2 | ok 1\nreplay 2 | no 42\nreplay 1 | ok 3\n\
-                 edit 1 5 0 2 1 7 | ok 4\nedit 2 6 0 1 2 -2 | ok 5\nedit 2 6 0 2 3 2 | ok 6\nsend 2 | ok 2\nreplay 3 | no 42\n\
-                 replay 2 | ok 3\nreplay 6 | no 42\nreplay 3 | ok 3\nreplay 6 | no 42\nstop | no 37\nreplay 5 | ok 3\nreplay 6 | ok 3";
-    let page = page(sheet);
-    let firsts = page.split("so that every desk gets the same kitchen. ").skip(1).map(|rest| rest.split(" To ").next().unwrap());
-    assert_eq!(
-        firsts.collect::<Vec<_>>(),
-        [
-            "Edit 1 by client 5 (side 1), add 0.1 mm to measure 1, waits and comes first.",
-            "Edit 2 by client 6 (side 2), add 0.5 mm to measure 2, waits and comes first.",
-            "Edit 3 by client 5 (side 1), divide measure 1 by 2, waits and comes first.",
-            "Edit 5 by client 6 (side 2), take 0.2 mm off measure 1, waits and comes first.",
-        ],
-        "{page}"
-    );
-    has(&page, &["Waiting: edits 5, 6. To whoever runs the join: replay those that wait, the lowest number first."]);
-}
-
-/// Answers that no program would give: nothing is known to wait that is lower.
-#[test]
-fn a_replay_out_of_turn_for_nothing_known() {
-    let join = "measure 3 | ok 1\nopen | ok 0\nsplit 1 | ok 2\nedit 1 5 0 1 2 1 | ok 1\nedit 2 6 0 1 2 1 | ok 2\njoin | ok 0\n";
-    for lines in ["send 1 | ok 1\nsend 2 | ok 1\nreplay 1 | no 42", "send 2 | ok 1\nreplay 1 | no 42", "replay 2 | no 42"] {
-        let page = page(&format!("{join}{lines}"));
-        has(&page, &["the same kitchen. To whoever runs the join: replay that one now"]);
-        assert!(!page.contains("comes first"), "{page}");
-    }
 }
 
 #[test]

@@ -16,8 +16,7 @@ use Rattle.protocol.proofs.Refusals.{AnswerAgreed, answer-agreed}
 use Rattle.guarantee.specs.Runs.{is_ok}
 use Rattle.guarantee.specs.Guarantee.{Guarantee}
 use Rattle.guarantee.proofs.Holding.{only, plan}
-use Rattle.guarantee.proofs.Sound.{keeps, reading}
-use Rattle.guarantee.proofs.Guaranteed.{guaranteed}
+use Rattle.guarantee.proofs.Guaranteed.{guaranteed, keeps, reading}
 use Rattle.file.specs.Saved.{save_checks, save_by, save, saved}
 use Rattle.file.specs.Loaded.{next_number, file_refusals, untouched, read_checks, or_else, drawing, first_refusal, load_verdict, renumbered, load_by, load}
 use Rattle.file.specs.Promises.{whole_with, without_kept, values_of, rules_of}
@@ -28,7 +27,7 @@ use Rattle.acts.specs.Acts.{Act, call, loading, saving, closes_act, edits_act, r
 use Rattle.acts.specs.Acting.{Loaded, GuaranteeActs, ForEveryActs, ForEveryActTrace}
 use Rattle.acts.proofs.Fresh.{drawn_history, untouched-start}
 use Rattle.acts.proofs.Reached.{Reached, reached_start, drawn_whole, call-noted, none_done, save_keeps, from_blank_lem, traced, savable, load-shut}
-use Rattle.acts.proofs.Carried.{undone, load_keeps, active_open, carried_acts, exhausted_acts, settled_acts}
+use Rattle.acts.proofs.Carried.{undone, load_keeps, active_open, carried_acts, exhausted_acts}
 
 -- ---- refused and reading acts
 
@@ -203,7 +202,6 @@ acting p h t =
       stays = stays_act p h g;
       carried = λ k acts q. carried_acts acts p h t k q;
       exhausted = λ k acts m s. exhausted_acts acts p h t k m s;
-      settled_order = settled_acts p g.settled_order;
       loaded = λ f y. loaded_act f p h t y;
       shut = λ k f. load-shut f p k;
       saved-same = λ w acts u. saved_into p (from_blank_acts acts).plan h (from_blank_acts acts).history t (from_blank_lem acts) w u;

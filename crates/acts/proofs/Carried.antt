@@ -2,27 +2,23 @@
 use Prim.Native.Nat.{ℕ, ◌+◌}
 use mathlib.Core.Path.{◌≡◌, refl, sym, ap, ap₂, subst, ◌∙◌}
 use mathlib.Core.Logic.{◌⊎◌, inl, inr}
-use mathlib.Core.Bool.{Bool, true, not, cond, ◌&&◌, ◌||◌, and-false}
+use mathlib.Core.Bool.{Bool, true, not, ◌&&◌, ◌||◌, and-false}
 use mathlib.Core.List.{List, [], ◌∷◌, ◌++◌, append_assoc}
 use native.Mathlib.Omega.{arith}
 use lib.Dec.{T, T_not, not_T}
 use lib.ListN.{length, length-append}
-use Rattle.protocol.specs.Lists.{bit, all, through_last, snoc}
-use Rattle.protocol.specs.Plan.{Mode, blank, whole, split, joining, closing, is, active, Content, Plan}
-use Rattle.protocol.specs.Calls.{Call, measure, rule, open_plan, split-side, edit, join, send, replay, stop, confirm, install, show, fate_of_edit, left}
-use Rattle.protocol.specs.Calls.{Verdict, fine, refused, after, Answer, no, ok, left_in, step, following, end}
+use Rattle.protocol.specs.Lists.{bit, all, snoc}
+use Rattle.protocol.specs.Plan.{Mode, blank, whole, split, joining, closing, is, active, Plan}
+use Rattle.protocol.specs.Calls.{Call, install, Verdict, fine, refused, Answer, no, ok, left_in, step}
 use Rattle.protocol.specs.History.{History}
 use Rattle.protocol.proofs.Laws.{on, both, which, and_in, yes_is}
-use Rattle.guarantee.specs.Runs.{closes, edits, is_ok, accepts, quiet, closings, taken}
-use Rattle.guarantee.specs.Settled.{is_send, SettledOrder}
+use Rattle.guarantee.specs.Runs.{closes, edits, is_ok, accepts, quiet, closings}
 use Rattle.guarantee.specs.Guarantee.{Stuck}
-use Rattle.guarantee.proofs.Holding.{stepped}
-use Rattle.guarantee.proofs.Sound.{if_taken, stays_put}
-use Rattle.guarantee.proofs.Guaranteed.{which_closing, able_with, one_on, shut, not-editing}
+use Rattle.guarantee.proofs.Guaranteed.{which_closing, if_taken, stays_put, able_with, one_on, shut, not-editing}
 use Rattle.file.specs.Loaded.{load_verdict, load_by, load}
 use Rattle.file.specs.Saved.{save}
 use Rattle.acts.specs.Acts.{Act, call, loading, saving, closes_act, of_file, takes, following_act, done_by, work, work_of, noting_act, end_acts, quiet_acts, done_acts}
-use Rattle.acts.specs.Acting.{UnderwayActs, CompletedActs, changing_acts}
+use Rattle.acts.specs.Acting.{UnderwayActs, CompletedActs}
 use Rattle.acts.proofs.Reached.{Reached, reached_act, none_done, save_keeps, load-shut}
 
 -- ---- acts that do nothing
@@ -184,62 +180,3 @@ exhausted_acts (a ∷ acts) p h t k m s =
         done : (x : Answer) → T (is_ok x) → done_by x (install ∷ []) ≡ install ∷ []
         done (no k) z = absurd z
         done (ok xs) z = refl
-
--- ---- from open on a list of acts is the list of its calls
-
--- no call makes a plan blank
-open_after : (c : Call) (m : Mode) (d : Content) → T (not (is blank m)) → T (not (is blank (after c m d).mode))
-unfolding after
-open_after (measure v) m d k = k
-open_after (rule a c b f) m d k = k
-open_after open_plan m d k = tt
-open_after (split-side s) m d k = tt
-open_after (edit s client n x kind y) m d k = k
-open_after join m d k = tt
-open_after (send s) m d k = k
-open_after (replay n) m d k = k
-open_after stop m d k = tt
-open_after (confirm s) m d k = k
-open_after install m d k = tt
-open_after (show s room) m d k = k
-open_after (fate_of_edit n) m d k = k
-open_after left m d k = k
-
--- so a plan that is open stays open
-stays_open : (c : Call) (p : Plan) → T (not (is blank p.mode)) → T (not (is blank (following p c).mode))
-stays_open c p k = stepped (λ r. T (not (is blank r.plan.mode))) c p (λ t. open_after c p.mode p.content k) (λ n. k)
-
--- all but the loads and saves
-abbrev calls_of : List Act → List Call
-calls_of [] = []
-calls_of (call c ∷ acts) = c ∷ calls_of acts
-calls_of (loading f ∷ acts) = calls_of acts
-calls_of (saving room ∷ acts) = calls_of acts
-
--- the calls leave the plan that the acts leave, and the accepted ones are those whose work the acts do
-abbrev SameCalls : List Act → Plan → Type 0
-SameCalls acts p = (end (calls_of acts) p ≡ end_acts acts p) × (taken (calls_of acts) p ≡ done_acts acts p)
-
--- an act that does nothing may be left out
-left_out : (a : Act) (acts : List Act) (p : Plan) → Idle a p → SameCalls acts p → (end (calls_of acts) p ≡ end_acts (a ∷ acts) p) × (taken (calls_of acts) p ≡ done_acts (a ∷ acts) p)
-left_out a acts p i e = (e.0 ∙ ap (end_acts acts) (sym i.0), e.1 ∙ sym (ap₂ (λ xs ys. xs ++ ys) i.1 (ap (done_acts acts) i.0)))
-
--- so it is of every list from open on: its loads are refused and its saves leave the plan
-same-calls : (acts : List Act) (p : Plan) → T (not (is blank p.mode)) → SameCalls acts p
-same-calls [] p k = (refl, refl)
-same-calls (call c ∷ acts) p k = let ih = same-calls acts (following p c) (stays_open c p k) in (ih.0, by (step c p).answer ih.1)
-  where
-    by : (x : Answer) {xs ys : List Call} → xs ≡ ys → cond (is_ok x) (c ∷ xs) xs ≡ done_by x (c ∷ []) ++ ys
-    by (no n) e = e
-    by (ok vs) e = ap {B = List Call} (λ zs. c ∷ zs) e
-same-calls (loading f ∷ acts) p k = left_out (loading f) acts p (file_idle (loading f) p tt k) (same-calls acts p k)
-same-calls (saving room ∷ acts) p k = left_out (saving room) acts p (file_idle (saving room) p tt k) (same-calls acts p k)
-
--- Two lists of acts with the same work up to the last send install the same plan.
-pub settled_acts : (p : Plan) → SettledOrder p → T (not (is blank p.mode)) → (acts others : List Act) → through_last is_send (changing_acts acts p) ≡ through_last is_send (changing_acts others p)
-    → T (takes (end_acts acts p) (call install)) → T (takes (end_acts others p) (call install))
-    → following_act (end_acts acts p) (call install) ≡ following_act (end_acts others p) (call install)
-settled_acts p s k acts others same i j =
-    let a = same-calls acts p k in
-    let b = same-calls others p k in
-    rw (← a.0, ← b.0) (s.same-plan (calls_of acts) (calls_of others) (rw (a.1, b.1) same) (rw a.0 i) (rw b.0 j))

@@ -15,7 +15,7 @@ use Rattle.guarantee.specs.Holding.{Holding}
 use Rattle.guarantee.specs.Runs.{noting}
 use Rattle.guarantee.proofs.Holding.{stepped}
 use Rattle.guarantee.proofs.Consistent.{Consistent}
-use Rattle.guarantee.proofs.Sound.{Sound, sound_step, started}
+use Rattle.guarantee.proofs.Guaranteed.{Sound, sound_step, started}
 use Rattle.file.specs.Saved.{save_checks, save_by, save}
 use Rattle.file.specs.Loaded.{next_limit, slot_in, value_in, rule_in, measure_chain, rule_chain, next_number, read_checks, drawing, first_refusal, load_verdict, renumbered, load_by, load}
 use Rattle.file.specs.Savable.{Savable}

@@ -1,11 +1,9 @@
 -- Believed: condition 3 for loaded plans too (02, S-1): one claim about every list of acts. Each field is one of its clauses. Assumes nothing.
 use Rattle.std.specs.Prelude.{ℕ, suc, ◌+◌, ◌≡◌, ◌⊎◌, not, ◌||◌, List, [], ◌∷◌, ◌++◌, length, T, ℤ, pos}
-use Rattle.protocol.specs.Lists.{all, passing, through_last, snoc}
+use Rattle.protocol.specs.Lists.{all, snoc}
 use Rattle.protocol.specs.Plan.{Plan, blank, whole, is, active}
 use Rattle.protocol.specs.Calls.{Call, edit, install, show, no, ok, left_in, step}
 use Rattle.protocol.specs.History.{History}
-use Rattle.guarantee.specs.Runs.{reads}
-use Rattle.guarantee.specs.Settled.{is_send}
 use Rattle.guarantee.specs.Guarantee.{Able, Stuck, Guarantee}
 use Rattle.file.specs.Saved.{saved}
 use Rattle.file.specs.Loaded.{next_number, untouched, load}
@@ -27,10 +25,6 @@ pub record CompletedActs (acts : List Act) (p : Plan) : Type 0 where
   pub active_until : T (active (end_acts before p).mode)
   pub taken_then : T (takes (end_acts before p) (call install))
   pub exact : suc (closings_acts before p) ≡ left_in p
-
--- The calls whose work the list does, but for those that only read.
-abbrev pub changing_acts : List Act → Plan → List Call
-changing_acts acts p = passing (λ c. not (reads c)) (done_acts acts p)
 
 -- Just after file f was loaded.
 pub record Loaded (f : List ℕ) (p : Plan) (h : History) : Type 0 where
@@ -60,11 +54,6 @@ pub record GuaranteeActs (p : Plan) (h : History) : Type 0 where
   -- the number left, and install is the last.
   pub exhausted : T (active p.mode) → (acts : List Act) → T (all (λ a. closes_act a || of_file a) acts) → Stuck (end_acts acts p)
       → (length (done_acts acts p) ≡ left_in p) × ((before : List Call) × (done_acts acts p ≡ snoc before install))
-  -- From open on, what is installed does not hang on how a join is carried on behind the last send, whatever is loaded or saved in between (02, S-4): two lists of acts
-  -- that do the same calls' work up to the last send, and each lead to an install that is accepted, install the same plan.
-  pub settled_order : T (not (is blank p.mode)) → (acts others : List Act) → through_last is_send (changing_acts acts p) ≡ through_last is_send (changing_acts others p)
-      → T (takes (end_acts acts p) (call install)) → T (takes (end_acts others p) (call install))
-      → following_act (end_acts acts p) (call install) ≡ following_act (end_acts others p) (call install)
   -- What holds just after a load.
   pub loaded : (f : List ℕ) → T (takes p (loading f)) → Loaded f (following_act p (loading f)) (noting_act p h (loading f))
   -- From open on every load is refused with 31.

@@ -3,8 +3,7 @@ use Prim.Native.Nat.{ℕ, ◌+◌, ◌<◌, ◌≤◌, min}
 use native.Mathlib.Omega.{arith}
 use mathlib.Core.Path.{◌≡◌, refl, sym, ap, ◌∙◌, subst}
 use mathlib.Core.Bool.{Bool, true, false, not, cond, ◌&&◌, and-false}
-use mathlib.Core.List.{List, [], map}
-use mathlib.Core.Logic.{◌≢◌}
+use mathlib.Core.List.{List, []}
 use mathlib.Core.Option.{none, some}
 use lib.Dec.{T, eqb}
 use borrow.Author.Tests.{eqb-true}
@@ -12,21 +11,17 @@ use lib.IntN.{ℤ, pos}
 use lib.ListN.{length, get_or, set, length-set}
 use lib.Seq.{set-get_or}
 use Rattle.protocol.specs.Lists.{natural, one_to}
-use Rattle.protocol.specs.Plan.{is, whole, is_waiting, absent_edit, unsent_of}
-use Rattle.protocol.specs.Calls.{Call, edit, send, replay, mark_sent}
-use Rattle.guarantee.proofs.Left.{replay_to}
+use Rattle.protocol.specs.Plan.{is, whole, unsent_of}
+use Rattle.protocol.specs.Calls.{Call, edit, send, replay}
 use Rattle.protocol.proofs.Laws.{cases, range, is_yes}
 use Rattle.format.specs.Sheets.{step_of}
 use Rattle.rows.specs.Rows.{row}
-use Rattle.rows.proofs.Spans.{below}
 use Rattle.rules.specs.Index.{is_made, Indexed, tested_by, firm_by}
 use Rattle.rules.specs.Table.{lowers, gaps, uppers, firms, with_rule}
 use Rattle.heads.specs.declared.Head.{Head}
-use Rattle.heads.specs.Heads.{mode_of, sides_in, kept_in, index_of, named_at, slot_at, named_slot}
+use Rattle.heads.specs.Heads.{mode_of, sides_in, index_of, named_at, slot_at, named_slot}
 use Rattle.records.specs.declared.EditRecord.{EditRecord}
-use Rattle.records.specs.Records.{kept_at, kept_of, no_record, record_of}
-use Rattle.records.specs.Tags.{tag_of, revoked_tag, Tagged, first_waiting, waiting_from}
-use Rattle.records.proofs.Tagging.{tagged-stored, tagged_fewer, first-by_tag}
+use Rattle.records.specs.Records.{kept_of, no_record, record_of}
 use Rattle.state.specs.Spread.{Spread}
 use Rattle.state.specs.declared.Answer.{Answer}
 use Rattle.state.specs.declared.Answer.TheVariants.{Refused, Given}
@@ -48,8 +43,8 @@ use Rattle.edit.proofs.Edits.{edit_decided, edit_meets}
 use Rattle.replay.specs.declared.Outcome.{Outcome}
 use Rattle.replay.specs.declared.Outcome.TheVariants.{Refused as Barred, Settled}
 use Rattle.replay.specs.Replays as replays
-use Rattle.replay.specs.Replays.{earlier_at, point_of, outcome_from, replay_from, revoked_at}
-use Rattle.replay.proofs.Replays.{replay_decided, point_decided, replay_passed, replay-behind, replay_meets}
+use Rattle.replay.specs.Replays.{earlier_at, point_of, outcome_from, replay_from}
+use Rattle.replay.proofs.Replays.{replay_decided, point_decided, replay_meets}
 use Rattle.moves.specs.declared.Sending.{Sending}
 use Rattle.moves.specs.Moves.{send_decision, Marked}
 use Rattle.moves.proofs.Sends.{send_few}
@@ -59,7 +54,7 @@ use Rattle.draw.proofs.Draw.{MeetsDrawn, drawn_meets}
 use Rattle.query.specs.declared.Reading.{Reading}
 use Rattle.query.specs.Readings.{read_call, reading_of}
 use Rattle.query.proofs.Right.{alone-row, reading_in, reading_right, reading_bounds}
-use Rattle.counts.specs.Tallies.{Tallied, waiting_in, settled_in, left_noted, missing_in, lowest_in, one_unsent, all_sent, one_settled, move_tally}
+use Rattle.counts.specs.Tallies.{Tallied, waiting_in, settled_in, left_noted, missing_in, one_unsent, all_sent, one_settled, move_tally}
 use Rattle.state.specs.Spread.{is_accepted}
 use Rattle.counts.proofs.Tallies.{tally_after, missing_unset}
 use Rattle.reader.specs.declared.Line.{Line}
@@ -70,10 +65,9 @@ use Rattle.state.specs.Spread.{spread}
 use Rattle.state.specs.View.{view, state_of}
 use Rattle.calls.specs.declared.Effect.{Effect}
 use Rattle.calls.specs.declared.Look.{Look}
-use Rattle.calls.specs.Makes.{looks_at, asked_at, first_look, ReadyIn, TaggedIn, SentIf, Known, Makes, noted, Making, is_move, is_draw, plain, stored}
+use Rattle.calls.specs.Makes.{looks_at, asked_at, first_look, second_look, ReadyIn, Known, Makes, noted, Making, is_move, is_draw, plain, stored}
 use Rattle.calls.proofs.Turning.{line_edit, line_replay, line_send, line_moves, line_draws, Made, meets_made, edit-rules, move_rules, ready_still, edit-held, replay-held}
-use Rattle.calls.proofs.Turning.{if_accepted, tallied-made, settled_few, edit_counts, replay_counts, send_counts, move_counts, draw_counts, move_keeps, draw_keeps}
-use Rattle.calls.proofs.Turning.{revoked-by_tag, earlier_few, replayed-kept, sent-kept, sent-tagged, send-due}
+use Rattle.calls.proofs.Turning.{tallied-made, settled_few, edit_counts, send_counts, move_counts, draw_counts}
 
 -- ---- a refusal leaves the state as it was
 
@@ -102,13 +96,12 @@ move_counted op m = cases (eqb op 5)
 
 -- ---- from a call's contract on states
 
-module _ {l : Line} {p : State} {index : List ℤ} {look : Look} {t tags : List ℕ} {sound : Bool} (k : Known l p index look t tags sound) where
-  pub met : (c : Call) (q : State) (e : Effect) (t' : List ℕ) {tags' : List ℕ} {index' : List ℤ} → line_in l ≡ some c → (ReadyIn (spread p) index → ReadyIn (spread p) index')
+module _ {l : Line} {p : State} {index : List ℤ} {look : Look} {t : List ℕ} {sound : Bool} (k : Known l p index look t sound) where
+  pub met : (c : Call) (q : State) (e : Effect) (t' : List ℕ) {index' : List ℤ} → line_in l ≡ some c → (ReadyIn (spread p) index → ReadyIn (spread p) index')
       → MeetsSpread c (spread p) (record { state = spread q; answer = e.answer })
       → q.table ≡ p.table → e.from ≡ 0 → e.width ≡ 0
-      → t' ≡ cond (is_accepted e.answer) (tally_after c (view p) t) t → (TaggedIn tags p → TaggedIn tags' q) → Sized (spread q) → min q.head.rules 64 ≡ min p.head.rules 64
-      → Makes l p q t t' tags tags' index index' e
-  met c q e t' line ready m b f w counts tagged z n =
+      → t' ≡ cond (is_accepted e.answer) (tally_after c (view p) t) t → Sized (spread q) → min q.head.rules 64 ≡ min p.head.rules 64 → Makes l p q t t' index index' e
+  met c q e t' line ready m b f w counts z n =
       let made = meets_made c (spread p) (record { state = spread q; answer = e.answer }) m in
       record {
         answer = (λ i. with_row (answer_of e.answer) (row q.values (f i) (w i))) ∙ made.answer ∙ ap (λ o. (step_of o (view p)).answer) (sym line);
@@ -117,13 +110,12 @@ module _ {l : Line} {p : State} {index : List ℤ} {look : Look} {t tags : List 
         sized = z;
         long = ap length b ∙ k.long;
         tallied = λ x. subst (λ u. Tallied u (view q)) (sym counts) (tallied-made c made t x);
-        tagged = tagged;
         indexed = λ x. ready_still p q b n (ready x);
         bare = λ x. w;
       }
 
 -- a call that gives no row answers alone
-pub bare-answer : {l : Line} {p q : State} {t t' tags tags' : List ℕ} {index index' : List ℤ} {e : Effect} → Makes l p q t t' tags tags' index index' e → eqb l.op 12 ≡ false → answer_of e.answer ≡ (step_of (line_in l)
+pub bare-answer : {l : Line} {p q : State} {t t' : List ℕ} {index index' : List ℤ} {e : Effect} → Makes l p q t t' index index' e → eqb l.op 12 ≡ false → answer_of e.answer ≡ (step_of (line_in l)
     (view p)).answer
 bare-answer {q = q} {e = e} m x = sym (alone-row e.answer) ∙ sym (ap (λ n. with_row (answer_of e.answer) (row q.values e.from n)) (m.bare x)) ∙ m.answer
 
@@ -132,17 +124,20 @@ bare-answer {q = q} {e = e} m x = sym (alone-row e.answer) ∙ sym (ap (λ n. wi
 pub first_looked : (h : Head) (l : Line) {i : ℕ} → i ≡ first_look h l → looks_at l.op ≡ true → i ≡ asked_at h l
 first_looked h l e y = e ∙ ap (λ b. cond b (asked_at h l) 0) y
 
+pub second_looked : (h : Head) (l : Line) (named : ℕ) (standing : EditRecord) {i : ℕ} → i ≡ second_look h l named standing → eqb l.op 8 ≡ true → i ≡ earlier_at h named standing
+second_looked h l named standing e y = e ∙ ap (λ b. cond b (earlier_at h named standing) 0) y
+
 -- ---- heads and the effect in other words
 
-pub lent : {l : Line} {h h₁ : Head} {base draft values : List ℤ} {arrived confirmed : List Bool} {table index : List ℤ} {look : Look} {t tags : List ℕ} {sound : Bool} {e e₁ : Effect}
-    {h' h₂ : Head} {base' draft' values' : List ℤ} {arrived' confirmed' : List Bool} {table' index' : List ℤ} {t' tags' : List ℕ} → h ≡ h₁ → e₁ ≡ e → h₂ ≡ h'
-    → Making l h base draft values arrived confirmed table index look t tags sound e h' base' draft' values' arrived' confirmed' table' index' t' tags'
-    → Making l h₁ base draft values arrived confirmed table index look t tags sound e₁ h₂ base' draft' values' arrived' confirmed' table' index' t' tags'
-lent {l} {h} {h₁} {base} {draft} {values} {arrived} {confirmed} {table} {index} {look} {t} {tags} {sound} {e} {e₁} {h'} {h₂} {base'} {draft'} {values'} {arrived'} {confirmed'} {table'} {index'} {t'} {tags'} before
+pub lent : {l : Line} {h h₁ : Head} {base draft values : List ℤ} {arrived confirmed : List Bool} {table index : List ℤ} {look : Look} {t : List ℕ} {sound : Bool} {e e₁ : Effect}
+    {h' h₂ : Head} {base' draft' values' : List ℤ} {arrived' confirmed' : List Bool} {table' index' : List ℤ} {t' : List ℕ} → h ≡ h₁ → e₁ ≡ e → h₂ ≡ h'
+    → Making l h base draft values arrived confirmed table index look t sound e h' base' draft' values' arrived' confirmed' table' index' t'
+    → Making l h₁ base draft values arrived confirmed table index look t sound e₁ h₂ base' draft' values' arrived' confirmed' table' index' t'
+lent {l} {h} {h₁} {base} {draft} {values} {arrived} {confirmed} {table} {index} {look} {t} {sound} {e} {e₁} {h'} {h₂} {base'} {draft'} {values'} {arrived'} {confirmed'} {table'} {index'} {t'} before
     effect after m =
-    subst (λ x. Making l x base draft values arrived confirmed table index look t tags sound e₁ h₂ base' draft' values' arrived' confirmed' table' index' t' tags') before
-    (subst (λ x. Making l h base draft values arrived confirmed table index look t tags sound x h₂ base' draft' values' arrived' confirmed' table' index' t' tags') (sym effect)
-    (subst (λ x. Making l h base draft values arrived confirmed table index look t tags sound e x base' draft' values' arrived' confirmed' table' index' t' tags') (sym after) m))
+    subst (λ x. Making l x base draft values arrived confirmed table index look t sound e₁ h₂ base' draft' values' arrived' confirmed' table' index' t') before
+    (subst (λ x. Making l h base draft values arrived confirmed table index look t sound x h₂ base' draft' values' arrived' confirmed' table' index' t') (sym effect)
+    (subst (λ x. Making l h base draft values arrived confirmed table index look t sound e x base' draft' values' arrived' confirmed' table' index' t') (sym after) m))
 
 -- ---- the index that edit and replay ask
 
@@ -166,7 +161,7 @@ module _ (table : List ℤ) (n : ℕ) (sound : Bool) (index : List ℤ) where
 
 -- ---- the calls
 
-module _ (l : Line) (h : Head) (base draft values : List ℤ) (arrived confirmed : List Bool) (table : List ℤ) (index : List ℤ) (look : Look) (t tags : List ℕ) (sound : Bool) where
+module _ (l : Line) (h : Head) (base draft values : List ℤ) (arrived confirmed : List Bool) (table : List ℤ) (index : List ℤ) (look : Look) (t : List ℕ) (sound : Bool) where
   abbrev before : List EditRecord → State
   before edits = state_of h base draft values arrived confirmed table edits
 
@@ -178,63 +173,48 @@ module _ (l : Line) (h : Head) (base draft values : List ℤ) (arrived confirmed
   ruled_as r = edit_decision h r (get_or values spot (pos 0)) (natural l.a) (natural l.b) (natural l.c) (natural l.d)
 
   -- a decision is carried out: what is left, with the record that the owner stores
-  pub record Edits (d : Decision) (e : Effect) (h' : Head) (values' : List ℤ) (t' tags' : List ℕ) : Type 0 where
+  pub record Edits (d : Decision) (e : Effect) (h' : Head) (values' : List ℤ) (t' : List ℕ) : Type 0 where
     pub bare : (e.from ≡ 0) × (e.width ≡ 0) × (e.marked ≡ 0) × (e.slot < 256)
     pub answer : e.answer ≡ d.answer
     pub head : h' ≡ d.head
     pub written : values' ≡ set values spot d.value
     pub keeps : (edits : List EditRecord) → noted e edits ≡ cond d.kept (set edits (slot_of h) d.entry) edits
     pub counts : t' ≡ cond d.kept (one_unsent (natural l.a) (get_or arrived (index_of (natural l.a)) false) t) t
-    pub tagged : tags' ≡ cond d.kept (set tags (slot_of h) (tag_of (kept_at 0 d.entry))) tags
 
-  pub edit-refused : (k : ℕ) {r : Ruling} {e : Effect} → r ≡ Denied k → e ≡ plain (refusal k) → Edits (ruled_as r) e h values t tags
+  pub edit-refused : (k : ℕ) {r : Ruling} {e : Effect} → r ≡ Denied k → e ≡ plain (refusal k) → Edits (ruled_as r) e h values t
   edit-refused k {r = r} {e = e} r-is e-is =
-      subst (λ x. Edits (ruled_as x) e h values t tags) (sym r-is) (subst (λ x. Edits (ruled_as (Denied k)) x h values t tags) (sym e-is)
-      (record { bare = (refl, refl, refl, omega arith); answer = refl; head = refl; written = sym (set-get_or values spot (pos 0)); keeps = λ es. refl; counts = refl; tagged = refl }))
+      subst (λ x. Edits (ruled_as x) e h values t) (sym r-is) (subst (λ x. Edits (ruled_as (Denied k)) x h values t) (sym e-is)
+      (record { bare = (refl, refl, refl, omega arith); answer = refl; head = refl; written = sym (set-get_or values spot (pos 0)); keeps = λ es. refl; counts = refl }))
 
   -- a broken rule is refused with 29; which it was is not told yet (S-7)
-  pub edit-broken : (rule : ℕ) {r : Ruling} {e : Effect} → r ≡ Broken rule → e ≡ plain (refusal 29) → Edits (ruled_as r) e h values t tags
+  pub edit-broken : (rule : ℕ) {r : Ruling} {e : Effect} → r ≡ Broken rule → e ≡ plain (refusal 29) → Edits (ruled_as r) e h values t
   edit-broken rule {r = r} {e = e} r-is e-is =
-      subst (λ x. Edits (ruled_as x) e h values t tags) (sym r-is) (subst (λ x. Edits (ruled_as (Broken rule)) x h values t tags) (sym e-is)
-      (record { bare = (refl, refl, refl, omega arith); answer = refl; head = refl; written = sym (set-get_or values spot (pos 0)); keeps = λ es. refl; counts = refl; tagged = refl }))
+      subst (λ x. Edits (ruled_as x) e h values t) (sym r-is) (subst (λ x. Edits (ruled_as (Broken rule)) x h values t) (sym e-is)
+      (record { bare = (refl, refl, refl, omega arith); answer = refl; head = refl; written = sym (set-get_or values spot (pos 0)); keeps = λ es. refl; counts = refl }))
 
   -- in a whole plan an edit is not kept, in another it is
   pub edit-made : (ch : Change) (x : ℤ) {r : Ruling} {e : Effect} {h' : Head} {values' : List ℤ} → r ≡ Granted ch x → is whole (mode_of h.mode) ≡ true
-      → e ≡ plain (number h.next) → h' ≡ edit_head h → values' ≡ set values spot x → Edits (ruled_as r) e h' values' t tags
+      → e ≡ plain (number h.next) → h' ≡ edit_head h → values' ≡ set values spot x → Edits (ruled_as r) e h' values' t
   edit-made ch x {r = r} {e = e} {h' = h'} {values' = values'} r-is w e-is h-is values-is =
-      subst (λ y. Edits (ruled_as y) e h' values' t tags) (sym r-is) (subst (λ y. Edits (ruled_as (Granted ch x)) y h' values' t tags) (sym e-is)
-      (record { bare = (refl, refl, refl, omega arith); answer = refl; head = h-is; written = values-is; keeps = λ es. rw w; counts = rw w; tagged = rw w }))
+      subst (λ y. Edits (ruled_as y) e h' values' t) (sym r-is) (subst (λ y. Edits (ruled_as (Granted ch x)) y h' values' t) (sym e-is)
+      (record { bare = (refl, refl, refl, omega arith); answer = refl; head = h-is; written = values-is; keeps = λ es. rw w; counts = rw w }))
 
-  pub edit-kept : (ch : Change) (x : ℤ) {r : Ruling} {e : Effect} {h' : Head} {values' : List ℤ} {t' tags' : List ℕ} → r ≡ Granted ch x → is whole (mode_of h.mode) ≡ false
+  pub edit-kept : (ch : Change) (x : ℤ) {r : Ruling} {e : Effect} {h' : Head} {values' : List ℤ} {t' : List ℕ} → r ≡ Granted ch x → is whole (mode_of h.mode) ≡ false
       → e ≡ stored (number h.next) (slot_of h) (edit_record h (natural l.a) (natural l.b) (natural l.c) (natural l.d) ch) → h' ≡ edit_head h → values' ≡ set values spot x
-      → t' ≡ one_unsent (natural l.a) (get_or arrived (index_of (natural l.a)) false) t
-      → tags' ≡ set tags (slot_of h) (tag_of (kept_at 0 (edit_record h (natural l.a) (natural l.b) (natural l.c) (natural l.d) ch))) → Edits (ruled_as r) e h' values' t' tags'
-  edit-kept ch x {r = r} {e = e} {h' = h'} {values' = values'} {t' = t'} {tags' = tags'} r-is w e-is h-is values-is counts-is tags-is =
-      subst (λ y. Edits (ruled_as y) e h' values' t' tags') (sym r-is) (subst (λ y. Edits (ruled_as (Granted ch x)) y h' values' t' tags') (sym e-is)
-      (record { bare = (refl, refl, refl, omega arith); answer = refl; head = h-is; written = values-is; keeps = λ es. rw w; counts = rw w counts-is; tagged = rw w tags-is }))
+      → t' ≡ one_unsent (natural l.a) (get_or arrived (index_of (natural l.a)) false) t → Edits (ruled_as r) e h' values' t'
+  edit-kept ch x {r = r} {e = e} {h' = h'} {values' = values'} {t' = t'} r-is w e-is h-is values-is counts-is =
+      subst (λ y. Edits (ruled_as y) e h' values' t') (sym r-is) (subst (λ y. Edits (ruled_as (Granted ch x)) y h' values' t') (sym e-is)
+      (record { bare = (refl, refl, refl, omega arith); answer = refl; head = h-is; written = values-is; keeps = λ es. rw w; counts = rw w counts-is }))
 
-  -- the tags go with the kept edits
-  edit-tagged : (r : Ruling) (edits : List EditRecord) → length edits ≡ 256 → Tagged tags (kept_in h) edits
-      → let d = ruled_as r in Tagged (cond d.kept (set tags (slot_of h) (tag_of (kept_at 0 d.entry))) tags) (kept_in d.head) (cond d.kept (set edits (slot_of h) d.entry) edits)
-  edit-tagged (Denied k) edits size g = g
-  edit-tagged (Broken rule) edits size g = g
-  edit-tagged (Granted ch x) edits size g = cases (is whole (mode_of h.mode))
-      (λ w. rw w g)
-      (λ w. rw w (tagged-stored g (min (min h.kept 255 + 1) 256) (slot_of h) _ _ (omega arith) size refl (λ j a ne. lower j a ne)))
-    where
-      lower : (j : ℕ) → j < min (min h.kept 255 + 1) 256 → j ≢ slot_of h → j < kept_in h
-      lower j a ne = let b = below (slot_of h) j ne (omega arith) in omega arith
-
-  pub edit_making : l.op ≡ 5 → {index' : List ℤ} → Readied table (min h.rules 64) sound index index' → (r : Ruling) {e : Effect} {h' : Head} {values' : List ℤ} {t' tags' : List ℕ}
+  pub edit_making : l.op ≡ 5 → {index' : List ℤ} → Readied table (min h.rules 64) sound index index' → (r : Ruling) {e : Effect} {h' : Head} {values' : List ℤ} {t' : List ℕ}
       → r ≡ ruling_from (tested_by sound index') (firm_by sound index') h (lowers table) (gaps table) (uppers table) (firms table) values look.named look.standing l
-      → Edits (ruled_as r) e h' values' t' tags'
-      → Making l h base draft values arrived confirmed table index look t tags sound e h' base draft values' arrived confirmed table index' t' tags'
-  edit_making op {index' = index'} ready r {e = e} {h' = h'} {values' = values'} {t' = t'} {tags' = tags'} r-is s = record {
+      → Edits (ruled_as r) e h' values' t'
+      → Making l h base draft values arrived confirmed table index look t sound e h' base draft values' arrived confirmed table index' t'
+  edit_making op {index' = index'} ready r {e = e} {h' = h'} {values' = values'} {t' = t'} r-is s = record {
     slot = s.bare.3;
     marked = (let z = s.bare.2 in omega (arith, z));
     from = (let z = s.bare.0 in omega (arith, z));
     width = (let z = s.bare.1 in omega (arith, z));
-    due = λ edits k ne. absurd (ne s.bare.2);
     made = λ edits after k m.
         let p = spread (before edits) in
         let d = ruled_as r in
@@ -260,8 +240,6 @@ module _ (l : Line) (h : Head) (base draft values : List ℤ) (arrived confirmed
         met k (edit l.a l.b l.c l.d l.e l.f) q e t' (line_edit l op) ready.still here refl s.bare.0 s.bare.1
         (s.counts ∙ edit_counts p l.a l.b l.c l.d l.e l.f d dec made t
         ∙ ap (λ a. cond (is_accepted a) (tally_after (edit l.a l.b l.c l.d l.e l.f) (view (before edits)) t) t) (sym s.answer))
-        (λ g. subst (λ x. Tagged tags' (kept_in x) after) (sym s.head) (subst (λ x. Tagged x (kept_in d.head) after) (sym s.tagged)
-        (subst (Tagged _ (kept_in d.head)) (sym after_is) (edit-tagged r edits k.sized.edits g))))
         (record {
           base = k.sized.base;
           draft = k.sized.draft;
@@ -285,17 +263,16 @@ module _ (l : Line) (h : Head) (base draft values : List ℤ) (arrived confirmed
   settled_as r = replays.replay_decision r look.standing (get_or draft point (pos 0)) (min (settled_in t) 256 + 1)
 
   -- it is carried out
-  pub record Settles (d : replays.Decision) (e : Effect) (draft' : List ℤ) (t' tags' : List ℕ) : Type 0 where
+  pub record Settles (d : replays.Decision) (e : Effect) (draft' : List ℤ) (t' : List ℕ) : Type 0 where
     pub bare : (e.from ≡ 0) × (e.width ≡ 0) × (e.marked ≡ 0) × (e.slot < 256)
     pub answer : e.answer ≡ d.answer
     pub written : draft' ≡ set draft point d.amount
     pub keeps : (edits : List EditRecord) → look.standing ≡ get_or edits (slot_at look.named) no_record → noted e edits ≡ set edits (slot_at look.named) d.entry
-    pub counts : t' ≡ cond (is_accepted d.answer) (one_settled (min (settled_in t) 256 + 1) (waiting_from tags' look.named h) t) t
-    pub tagged : tags' ≡ cond (is_accepted d.answer) (set tags (slot_at look.named) (tag_of (kept_at 0 d.entry))) tags
+    pub counts : t' ≡ cond (is_accepted d.answer) (one_settled t) t
 
-  pub replay-refused : (k : ℕ) {r : Outcome} {e : Effect} → r ≡ Barred k → e ≡ plain (refusal k) → Settles (settled_as r) e draft t tags
+  pub replay-refused : (k : ℕ) {r : Outcome} {e : Effect} → r ≡ Barred k → e ≡ plain (refusal k) → Settles (settled_as r) e draft t
   replay-refused k {r = r} {e = e} r-is e-is =
-      subst (λ x. Settles (settled_as x) e draft t tags) (sym r-is) (subst (λ x. Settles (settled_as (Barred k)) x draft t tags) (sym e-is)
+      subst (λ x. Settles (settled_as x) e draft t) (sym r-is) (subst (λ x. Settles (settled_as (Barred k)) x draft t) (sym e-is)
       (record {
         bare = (refl, refl, refl, omega arith);
         answer = refl;
@@ -303,67 +280,46 @@ module _ (l : Line) (h : Head) (base draft values : List ℤ) (arrived confirmed
         keeps = λ es stood. sym
             (ap (set es (slot_at look.named)) stood ∙ set-get_or es (slot_at look.named) no_record);
         counts = refl;
-        tagged = refl;
       }))
 
-  pub replay-settled : (b : Bool) (x : ℤ) (rule : ℕ) {r : Outcome} {e : Effect} {slot : ℕ} {draft' : List ℤ} {t' tags' : List ℕ} → r ≡ Settled b x rule
+  pub replay-settled : (b : Bool) (x : ℤ) (rule : ℕ) {r : Outcome} {e : Effect} {slot : ℕ} {draft' : List ℤ} {t' : List ℕ} → r ≡ Settled b x rule
       → e ≡ stored (number (cond b 3 4)) slot (replays.settled_record look.standing b (min (settled_in t) 256 + 1)) → slot ≡ slot_at look.named → slot < 256
-      → draft' ≡ set draft point x → t' ≡ one_settled (min (settled_in t) 256 + 1) (waiting_from tags' look.named h) t
-      → tags' ≡ set tags slot (tag_of (kept_at 0 (replays.settled_record look.standing b (min (settled_in t) 256 + 1)))) → Settles (settled_as r) e draft' t' tags'
-  replay-settled b x rule {r = r} {e = e} {draft' = draft'} {t' = t'} {tags' = tags'} r-is e-is slot_is few draft-is counts-is tags-is =
-      let entry = replays.settled_record look.standing b (min (settled_in t) 256 + 1) in
-      subst (λ y. Settles (settled_as y) e draft' t' tags') (sym r-is) (subst (λ y. Settles (settled_as (Settled b x rule)) y draft' t' tags') (sym e-is)
+      → draft' ≡ set draft point x → t' ≡ one_settled t → Settles (settled_as r) e draft' t'
+  replay-settled b x rule {r = r} {e = e} {draft' = draft'} {t' = t'} r-is e-is slot_is few draft-is counts-is =
+      subst (λ y. Settles (settled_as y) e draft' t') (sym r-is) (subst (λ y. Settles (settled_as (Settled b x rule)) y draft' t') (sym e-is)
       (record {
         bare = (refl, refl, refl, few);
         answer = refl;
         written = draft-is;
-        keeps = λ es stood. ap (λ i. set es i entry) slot_is;
+        keeps = λ es stood. ap (λ i. set es i (replays.settled_record look.standing b (min (settled_in t) 256 + 1)))
+            slot_is;
         counts = counts-is;
-        tagged = tags-is ∙ ap (λ i. set tags i (tag_of (kept_at 0 entry))) slot_is;
       }))
 
-  -- the tags go with the kept edits
-  replay-tagged : (r : Outcome) (edits : List EditRecord) → length edits ≡ 256 → look.standing ≡ get_or edits (slot_at look.named) no_record → Tagged tags (kept_in h) edits
-      → let d = settled_as r in Tagged (cond (is_accepted d.answer) (set tags (slot_at look.named) (tag_of (kept_at 0 d.entry))) tags) (kept_in h)
-      (set edits (slot_at look.named) d.entry)
-  replay-tagged (Barred k) edits size stood g = subst (Tagged tags (kept_in h)) (sym (ap (set edits (slot_at look.named)) stood ∙ set-get_or edits (slot_at look.named) no_record)) g
-  replay-tagged (Settled b x rule) edits size stood g = tagged-stored g (kept_in h) (slot_at look.named) _ _ (omega arith) size refl (λ j a ne. a)
-
-  -- a settled edit does not wait
-  settled_rests : (r : Outcome) → let d = settled_as r in is_accepted d.answer ≡ true → is_waiting (kept_at 0 d.entry) ≡ false
-  settled_rests (Barred k) y = absurd (is_yes y)
-  settled_rests (Settled true x rule) y = refl
-  settled_rests (Settled false x rule) y = refl
-
-  -- that the edit named as earlier was revoked, as its tag says
-  abbrev built_by : Bool
-  built_by = let j = earlier_at h look.named look.standing in not (eqb j 0) && eqb (get_or tags (slot_at j) 0) revoked_tag
-
-  pub replay_making : l.op ≡ 8 → {index' : List ℤ} → Readied table (min h.rules 64) sound index index' → (r : Outcome) {built : Bool} {e : Effect} {draft' : List ℤ} {t' tags' : List ℕ}
-      → built ≡ built_by → r ≡ outcome_from (tested_by sound index') h (lowers table) (gaps table) (uppers table) draft (missing_in t) (lowest_in t) look.named look.standing built
-      → Settles (settled_as r) e draft' t' tags'
-      → Making l h base draft values arrived confirmed table index look t tags sound e h base draft' values arrived confirmed table index' t' tags'
-  replay_making op {index' = index'} ready r {built = built} {e = e} {draft' = draft'} {t' = t'} {tags' = tags'} built-is r-is s = record {
+  pub replay_making : l.op ≡ 8 → {index' : List ℤ} → Readied table (min h.rules 64) sound index index' → (r : Outcome) {e : Effect} {draft' : List ℤ} {t' : List ℕ}
+      → r ≡ outcome_from (tested_by sound index') h (lowers table) (gaps table) (uppers table) draft (missing_in t) look.named look.standing look.next look.seen
+      → Settles (settled_as r) e draft' t'
+      → Making l h base draft values arrived confirmed table index look t sound e h base draft' values arrived confirmed table index' t'
+  replay_making op {index' = index'} ready r {e = e} {draft' = draft'} {t' = t'} r-is s = record {
     slot = s.bare.3;
     marked = (let z = s.bare.2 in omega (arith, z));
     from = (let z = s.bare.0 in omega (arith, z));
     width = (let z = s.bare.1 in omega (arith, z));
-    due = λ edits k ne. absurd (ne s.bare.2);
     made = λ edits after k m.
         let p = spread (before edits) in
         let d = settled_as r in
         let i = look.named in
+        let j = look.next in
         let slot = slot_at i in
         let counted = k.tallied (ap (λ o. eqb o 5) op) in
-        let tagged = k.tagged (ap (λ o. eqb o 5) op) in
         let i-is : i ≡ named_at h l.a = k.named (ap looks_at op) ∙ ap (λ o. named_at h (cond (eqb o 5) l.c l.a)) op in
         let stood : look.standing ≡ get_or edits slot no_record = k.stood (ap looks_at op) in
-        let lost : built ≡ revoked_at p (earlier_at h i (get_or edits slot no_record)) =
-        built-is ∙ revoked-by_tag p tagged (earlier_at h i look.standing) (earlier_few h i look.standing) ∙ ap (λ x. revoked_at p (earlier_at h i x)) stood in
+        let j-is = k.next (ap (λ o. eqb o 8) op) in
+        let saw = k.saw (ap (λ o. eqb o 8) op) in
         let dec : d ≡ replays.replay_in false p l.a =
-        replay_decided sound p l.a {i = i} {slot = slot} {index = index'} i-is refl counted.lowest lost (ap (λ n. n + 1) (settled_few p t counted))
+        replay_decided sound p l.a {i = i} {slot = slot} {j = j} {seat = slot_at j} {index = index'} i-is refl (j-is ∙ ap (earlier_at h i) stood) refl (ap (λ n. n + 1) (settled_few p t counted))
         (missing_unset p t counted)
-        (ap settled_as r-is ∙ (λ x. replay_from (tested_by sound index') h (lowers table) (gaps table) (uppers table) draft (missing_in t) (lowest_in t) i (stood x) built (min (settled_in t) 256 + 1)))
+        (ap settled_as r-is ∙ (λ x. replay_from (tested_by sound index') h (lowers table) (gaps table) (uppers table) draft (missing_in t) i (stood x) j (saw x) (min (settled_in t) 256 + 1)))
         (λ active sure. ready.asked (k.indexed sure) sure)
         ∙ replay-held p sound k.held l.a in
         let there : point ≡ point_of (named_in p (natural l.a)).measure = point_decided p l.a {i = i} {slot = slot} i-is refl (ap (λ s. point_of (record_of i s).measure) stood) in
@@ -380,19 +336,7 @@ module _ (l : Line) (h : Head) (base draft values : List ℤ) (arrived confirmed
         let here : MeetsSpread (replay l.a) p (record { state = spread q; answer = e.answer }) =
         subst (λ a. MeetsSpread (replay l.a) p (record { state = spread q; answer = a })) (sym s.answer)
         (subst (λ x. MeetsSpread (replay l.a) p (record { state = x; answer = d.answer })) stored_is meets) in
-        let made = meets_made (replay l.a) p (record { state = spread q; answer = e.answer }) here in
-        let retagged : Tagged tags' (kept_in h) after = subst (λ x. Tagged x (kept_in h) after) (sym s.tagged) (subst (Tagged _ (kept_in h)) (sym after_is) (replay-tagged r edits k.sized.edits stood tagged)) in
-        let first : is_accepted e.answer ≡ true → waiting_from tags' i h ≡ first_waiting (replay_to (plan_of p).content (natural l.a)).kept = λ y.
-        let g = if_accepted (replay l.a) made y in
-        let rests = settled_rests r (ap is_accepted (sym s.answer) ∙ y) in
-        let behind = replay-behind p k.sized l.a (replay_passed p k.sized l.a g.0) d.entry rests in
-        first-by_tag h after retagged i (omega (arith, i-is, behind.0)) (λ j a.
-        (λ x. is_waiting (get_or (kept_of h ((after_is ∙ ap (λ z. set edits z d.entry) seat) x)) j absent_edit)) ∙ behind.1 j (omega (arith, a, i-is)))
-        ∙ ap first_waiting (replayed-kept p l.a (spread q) g.1) in
-        met k (replay l.a) q e t' (line_replay l op) ready.still here refl s.bare.0 s.bare.1
-        (s.counts ∙ ap (λ a. cond (is_accepted a) (one_settled (min (settled_in t) 256 + 1) (waiting_from tags' i h) t) t) (sym s.answer)
-        ∙ replay_counts p l.a t (settled_few p t counted) (is_accepted e.answer) first)
-        (λ g. retagged)
+        met k (replay l.a) q e t' (line_replay l op) ready.still here refl s.bare.0 s.bare.1 (s.counts ∙ ap (λ a. cond (is_accepted a) (one_settled t) t) (sym s.answer))
         (record {
           base = k.sized.base;
           draft = ap length s.written ∙ length-set draft point d.amount ∙ k.sized.draft;
@@ -413,36 +357,24 @@ module _ (l : Line) (h : Head) (base draft values : List ℤ) (arrived confirmed
       (kept_of h edits)
   unsent-is edits k e o = let r = range (sides_in h) (natural l.a) o in ap (λ j. get_or t j 0) e ∙ k.counted.unsent (natural l.a) r.0 (let m = sides_most h in omega (arith, m, r.1))
 
-  pub send_making : l.op ≡ 7 → {side i : ℕ} {t' tags' : List ℕ} (d : Sending)
-      → side ≡ natural l.a → i ≡ index_of side → t' ≡ cond (is_accepted d.answer) (all_sent side (get_or arrived i false) (waiting_from tags' 0 h) t) t
-      → SentIf (is_accepted d.answer) side (kept_in h) tags tags' → d ≡ send_decision h side (get_or arrived i false) (get_or t i 0)
-      → Making l h base draft values arrived confirmed table index look t tags sound (record { answer = d.answer; from = 0; width = 0; kept = false; slot = 0; entry = no_record; marked = d.marked })
-      h base draft values (set arrived i d.arrived) confirmed table index t' tags'
-  send_making op {side = side} {i = i} {t' = t'} {tags' = tags'} d side-is i-is counts-is tags-is d-is = record {
+  pub send_making : l.op ≡ 7 → {side i : ℕ} {t' : List ℕ} (d : Sending)
+      → side ≡ natural l.a → i ≡ index_of side → t' ≡ cond (is_accepted d.answer) (all_sent side (get_or arrived i false) t) t → d ≡ send_decision h side (get_or arrived i false) (get_or t i 0)
+      → Making l h base draft values arrived confirmed table index look t sound (record { answer = d.answer; from = 0; width = 0; kept = false; slot = 0; entry = no_record; marked = d.marked })
+      h base draft values (set arrived i d.arrived) confirmed table index t'
+  send_making op {side = side} {i = i} {t' = t'} d side-is i-is counts-is d-is = record {
     slot = omega arith;
     marked = send_few h side (get_or arrived i false) (get_or t i 0) d d-is;
     from = omega arith;
     width = omega arith;
-    due = λ edits k ne.
-        let r = send-due h side (get_or arrived i false) (get_or t i 0) d d-is ne (λ o.
-        unsent-is edits (k.tallied (ap (λ o. eqb o 5) op)) (i-is ∙ ap index_of side-is) (subst (λ x. T (one_to (sides_in h) x)) side-is o)) in
-        (refl, r.0, r.1);
     made = λ edits after k m.
         let p = spread (before edits) in
         let q = state_of h base draft values (set arrived i d.arrived) confirmed table after in
         let e : Effect = record { answer = d.answer; from = 0; width = 0; kept = false; slot = 0; entry = no_record; marked = d.marked } in
         let w : Named p l.a side i (get_or t i 0) = record { number = side-is; place = i-is; unsent = unsent-is edits (k.tallied (ap (λ o. eqb o 5) op)) (i-is ∙ ap index_of side-is) } in
         let here = send_decided p l.a d after w k.sized.arrived d-is (subst (λ s. Marked s edits after d.marked) (sym side-is) m) refl in
-        let made = meets_made _ p (record { state = spread q; answer = d.answer }) here in
-        let retagged : Tagged tags (kept_in h) edits → Tagged tags' (kept_in h) after = sent-tagged h side (get_or arrived i false) (get_or t i 0) d d-is edits after tags tags' tags-is
-        (subst (λ s. Marked s edits after d.marked) (sym side-is) m) in
-        let first : is_accepted d.answer ≡ true → waiting_from tags' 0 h ≡ first_waiting (map (mark_sent (natural l.a)) (kept_of h edits)) = λ y.
-        first-by_tag h after (retagged (k.tagged (ap (λ o. eqb o 5) op))) 0 (omega arith) (λ j a. absurd (omega arith))
-        ∙ ap first_waiting (sent-kept p l.a (spread q) (if_accepted (send l.a) made y).1) in
         met k (send l.a) q e t' (line_send l op) (λ x. x) here refl refl refl
-        (counts-is ∙ (λ j. cond (is_accepted d.answer) (all_sent (side-is j) (get_or arrived ((i-is ∙ ap index_of side-is) j) false) (waiting_from tags' 0 h) t) t)
-        ∙ send_counts p l.a made t first)
-        retagged
+        (counts-is ∙ (λ j. cond (is_accepted d.answer) (all_sent (side-is j) (get_or arrived ((i-is ∙ ap index_of side-is) j) false) t) t)
+        ∙ send_counts p l.a (meets_made _ p (record { state = spread q; answer = d.answer }) here) t)
         (record {
           base = k.sized.base;
           draft = k.sized.draft;
@@ -464,13 +396,12 @@ module _ (l : Line) (h : Head) (base draft values : List ℤ) (arrived confirmed
       → (let f = frame_from h base draft values arrived confirmed in Moves (move_call l.op l.a) f (Counts f (natural l.a) (get_or t i 0) (waiting_in t))
       (moved_to r base' draft' values' arrived' confirmed'))
       → (length base' ≡ 32) × (length draft' ≡ 32) × (length values' ≡ 256) × (length arrived' ≡ 8) × (length confirmed' ≡ 8)
-      → Making l h base draft values arrived confirmed table index look t tags sound (plain r.answer) r.head base' draft' values' arrived' confirmed' table index t' tags
+      → Making l h base draft values arrived confirmed table index look t sound (plain r.answer) r.head base' draft' values' arrived' confirmed' table index t'
   move_making op {i = i} r {t' = t'} {base' = base'} {draft' = draft'} {values' = values'} {arrived' = arrived'} {confirmed' = confirmed'} i-is counts-is moves n = record {
     slot = omega arith;
     marked = omega arith;
     from = omega arith;
     width = omega arith;
-    due = λ edits k ne. absurd (ne refl);
     made = λ edits after k m.
         let p = spread (before edits) in
         let q = state_of r.head base' draft' values' arrived' confirmed' table after in
@@ -481,8 +412,6 @@ module _ (l : Line) (h : Head) (base draft values : List ℤ) (arrived confirmed
         (λ es. MeetsSpread c p (record { state = spread (state_of r.head base' draft' values' arrived' confirmed' table es); answer = r.answer })) (sym (m.none refl)) meets in
         met k c q (plain r.answer) t' (line_moves l op) (λ x. x) here refl refl refl
         (counts-is ∙ ap (λ x. cond (is_accepted r.answer) x t) (move_counts l.op l.a p t op))
-        (λ g. subst (Tagged tags (kept_in r.head)) (sym (m.none refl)) (tagged_fewer (kept_in r.head) g
-        (move_keeps l.op l.a p (spread q) {a = r.answer} {vs = []} refl (meets_made c p (record { state = spread q; answer = r.answer }) here))))
         (record {
           base = n.0;
           draft = n.1;
@@ -499,14 +428,13 @@ module _ (l : Line) (h : Head) (base draft values : List ℤ) (arrived confirmed
   }
 
   pub read_making : line_in l ≡ read_call l.op l.a → eqb l.op 5 ≡ false → (r : Reading) → r ≡ reading_of l.op l.a h look.named look.standing (left_noted t)
-      → Making l h base draft values arrived confirmed table index look t tags sound (record { answer = r.answer; from = r.from; width = r.width; kept = false; slot = 0; entry = no_record; marked = 0 })
-      h base draft values arrived confirmed table index t tags
+      → Making l h base draft values arrived confirmed table index look t sound (record { answer = r.answer; from = r.from; width = r.width; kept = false; slot = 0; entry = no_record; marked = 0 })
+      h base draft values arrived confirmed table index t
   read_making line op r r-is = record {
     slot = omega arith;
     marked = omega arith;
     from = subst (λ x. x.from ≤ 224) (sym r-is) (reading_bounds l.op l.a h look.named look.standing (left_noted t)).0;
     width = subst (λ x. x.width ≤ 32) (sym r-is) (reading_bounds l.op l.a h look.named look.standing (left_noted t)).1;
-    due = λ edits k ne. absurd (ne refl);
     made = λ edits after k m.
         let p = spread (before edits) in
         let a = m.none refl in
@@ -526,7 +454,6 @@ module _ (l : Line) (h : Head) (base draft values : List ℤ) (arrived confirmed
           sized = subst (λ x. Sized (spread x)) (sym same) k.sized;
           long = k.long;
           tallied = λ x. subst (λ y. Tallied t (view y)) (sym same) x;
-          tagged = λ x. subst (TaggedIn tags) (sym same) x;
           indexed = λ x. subst (λ y. ReadyIn (spread y) index) (sym same) x;
           bare = λ x. ap (λ y. y.width) r-is ∙ cases (eqb l.op 13) (λ e. rw (x, e)) (λ e. cases (eqb l.op 14) (λ f. rw (x, e, f)) (λ f. rw (x, e, f)));
         };
@@ -534,16 +461,15 @@ module _ (l : Line) (h : Head) (base draft values : List ℤ) (arrived confirmed
 
 -- ---- the calls that draw
 
-module _ (l : Line) (h : Head) (base draft values : List ℤ) (arrived confirmed : List Bool) (table : List ℤ) (index : List ℤ) (look : Look) (t tags : List ℕ) (sound : Bool) where
+module _ (l : Line) (h : Head) (base draft values : List ℤ) (arrived confirmed : List Bool) (table : List ℤ) (index : List ℤ) (look : Look) (t : List ℕ) (sound : Bool) where
   pub draw_making : is_draw l.op ≡ true → {r : Answer} {h' : Head} {values' table' index' : List ℤ} → Drawn l.op l.a l.b l.c l.d h values table r h' values' table'
       → (is_accepted r ≡ true → is_made index' ≡ false) → (is_accepted r ≡ false → index' ≡ index)
-      → Making l h base draft values arrived confirmed table index look t tags sound (plain r) h' base draft values' arrived confirmed table' index' t tags
+      → Making l h base draft values arrived confirmed table index look t sound (plain r) h' base draft values' arrived confirmed table' index' t
   draw_making op {r} {h'} {values'} {table'} {index'} stored stale old = record {
     slot = omega arith;
     marked = omega arith;
     from = omega arith;
     width = omega arith;
-    due = λ edits k ne. absurd (ne refl);
     made = λ edits after k m.
         let x = state_of h base draft values arrived confirmed table edits in
         let q = state_of h' base draft values' arrived confirmed table' after in
@@ -561,7 +487,6 @@ module _ (l : Line) (h : Head) (base draft values : List ℤ) (arrived confirmed
           sized = kept.sized;
           long = kept.long;
           tallied = λ x. draw_counts l.op l.a l.b l.c l.d t op refl made x;
-          tagged = λ x. subst (Tagged tags (kept_in h')) (sym (m.none refl)) (tagged_fewer (kept_in h') x (draw_keeps l.op l.a l.b l.c l.d op refl made));
           indexed = λ y. cases (is_accepted r)
               (λ u made. absurd (is_yes (sym (stale u) ∙ made)))
               (λ u. subst (ReadyIn (spread q)) (sym (old u)) (subst (λ z. ReadyIn (spread z) index) (sym (refused-same r u same)) y));

@@ -1,26 +1,24 @@
 -- A call made on a state: the call of a line, the rules and the counts after it. Assumes nothing.
-use Prim.Native.Nat.{ℕ, ◌+◌, ◌-◌, ◌<◌, ◌≤◌, min}
+use Prim.Native.Nat.{ℕ, ◌-◌, ◌<◌, ◌≤◌, min}
 use native.Mathlib.Omega.{arith}
 use mathlib.Core.Path.{◌≡◌, refl, sym, ap, ◌∙◌, subst}
 use mathlib.Core.Bool.{Bool, true, false, not, cond, ◌&&◌}
-use mathlib.Core.List.{List, [], map}
-use mathlib.Core.Logic.{◌≢◌}
-use native.Mathlib.Numerals.{add-one}
+use mathlib.Core.List.{List, []}
 use mathlib.Core.Option.{Option, none, some}
-use borrow.Author.Tests.{eqb-true, eqb-false, ne_eqb, lt-ltb, ltb-true, ltb-false, leb-true}
-use lib.Dec.{T, eqb, leb, ltb}
+use borrow.Author.Tests.{eqb-true, eqb-false, ne_eqb, lt-ltb, ltb-true, ltb-false}
+use lib.Dec.{T, eqb, ltb}
 use lib.IntN.{ℤ, pos}
 use lib.ListN.{length, get_or}
 use Rattle.protocol.specs.Lists.{natural, one_to, count}
 use Rattle.protocol.specs.Plan.{mode_number, is, blank, whole, holds, is_settled, absent_side, side_at}
-use Rattle.protocol.specs.Calls.{Call, measure, rule, open_plan, edit, send, replay, Verdict, fine, refused, first, first_values, with_base, on_kept, mark_sent, checks, further, after, step, step_by, no, ok}
-use Rattle.protocol.proofs.Laws.{cases, Fine, Pass, passed, both, is_yes, yes_is, range, all-nth}
+use Rattle.protocol.specs.Calls.{Call, measure, rule, open_plan, edit, send, replay, Verdict, fine, refused, first, first_values, with_base, on_kept, checks, further, after, step, step_by, no, ok}
+use Rattle.protocol.proofs.Laws.{cases, Pass, passed, both, is_yes, yes_is, range, all-nth}
 use Rattle.guarantee.specs.Holding.{Holding}
 use Rattle.guarantee.proofs.Kept.{settled-count}
-use Rattle.guarantee.proofs.Left.{replay_to}
 use Rattle.guarantee.proofs.Holding.{holding_step}
 use Rattle.format.specs.Sheets.{step_of}
 use Rattle.rows.specs.Rows.{row}
+use Rattle.rows.proofs.Spans.{length-span}
 use Rattle.state.specs.declared.State.{State}
 use Rattle.state.specs.Spread.{Spread, spread}
 use Rattle.state.specs.declared.Answer.{Answer}
@@ -28,12 +26,8 @@ use Rattle.state.specs.declared.Answer.TheVariants.{Refused, Given}
 use Rattle.state.specs.Spread.{SpreadAnswered}
 use Rattle.state.specs.Spread.{plan_of, rules_of}
 use Rattle.state.specs.Spread.{named_in}
-use Rattle.heads.specs.declared.Head.{Head}
-use Rattle.heads.specs.Heads.{mode_of, sides_in, index_of, offset_of, measures_in, kept_in, end_in, position_of, slot_at}
-use Rattle.records.specs.declared.EditRecord.{EditRecord}
-use Rattle.records.specs.Records.{kept_of, kept_at, no_record, record_of}
-use Rattle.records.specs.Tags.{revoked_tag, Tagged, first_waiting}
-use Rattle.records.proofs.Tagging.{kept-length, tag_revoked, tagged-sent}
+use Rattle.heads.specs.Heads.{mode_of, sides_in, index_of, offset_of, measures_in, kept_in, end_in}
+use Rattle.records.specs.Records.{kept_of, kept_at, no_record}
 use Rattle.state.specs.Meets.{answer_of, refusal}
 use Rattle.state.specs.Spread.{MeetsSpread}
 use Rattle.state.proofs.View.{sides-length, sides_most, side_at_lem}
@@ -43,11 +37,9 @@ use Rattle.edit.specs.Edits.{Decision, spot_of, edit_ruling, edit_decision, edit
 use Rattle.rules.specs.Rules.{tested_in, firm_in}
 use Rattle.draw.proofs.Draw.{rules-length}
 use Rattle.edit.proofs.Edits.{edit_sound}
-use Rattle.replay.specs.Replays.{earlier_at, revoked_at, replay_in}
-use Rattle.moves.specs.declared.Sending.{Sending}
-use Rattle.moves.specs.Moves.{send_checks, send_by, send_decision, Marked}
+use Rattle.replay.specs.Replays.{replay_in}
 use Rattle.replay.proofs.Replays.{replay_sound}
-use Rattle.counts.specs.Tallies.{Tallied, settled_in, one_unsent, all_sent, one_settled, move_tally}
+use Rattle.counts.specs.Tallies.{Tallied, settled_in, one_unsent, all_sent, move_tally}
 use Rattle.state.specs.Spread.{is_accepted}
 use Rattle.counts.proofs.Tallies.{tally_after, tallied-after}
 use Rattle.draw.specs.Draw.{draw_call}
@@ -57,7 +49,7 @@ use Rattle.query.proofs.Right.{alone-row}
 use Rattle.reader.specs.declared.Line.{Line}
 use Rattle.reader.specs.Reads.{line_in}
 use Rattle.writer.specs.Writes.{with_row}
-use Rattle.calls.specs.Makes.{is_move, is_draw, SoundIn, ReadyIn, SentIf, given}
+use Rattle.calls.specs.Makes.{is_move, is_draw, SoundIn, ReadyIn}
 
 -- ---- the calls by their numbers
 
@@ -229,8 +221,11 @@ accepted-answer : (a : Answer) (vs xs : List ℤ) → with_row (answer_of a) vs 
 accepted-answer (Refused j r) vs xs e = cc
 accepted-answer (Given count l m n) vs xs e = refl
 
+kept-length : (p : Spread) → length (plan_of p).content.kept ≡ kept_in p.head
+kept-length p = length-span 0 (kept_in p.head) (λ i. kept_at (end_in p.head - (kept_in p.head - i)) (get_or p.edits i no_record))
+
 kept_most : (p : Spread) → length (plan_of p).content.kept ≤ 256
-kept_most p = let l = kept-length p.head p.edits in omega arith
+kept_most p = let l = kept-length p in omega arith
 
 pub settled_few : (p : Spread) (t : List ℕ) → Tallied t (plan_of p) → min (settled_in t) 256 ≡ count is_settled (kept_of p.head p.edits)
 settled_few p t h = let c = h.counted.settled in let l = kept_most p in let s = settled-count (kept_of p.head p.edits) in omega arith
@@ -296,119 +291,21 @@ module _ (p : Spread) (s client n m kind k : ℤ) {q : Spread} (d : Decision) (e
       not_so y = ap (λ f. f.kept) e ∙ no-by ruled (ap (λ f. is_accepted f.answer) (sym e) ∙ y)
 
 -- a send that was accepted is of a side of the plan
-pub send_counts : (p : Spread) (s : ℤ) {q : Spread} {a : Answer} (made : Made (some (send s)) p q a []) (t : List ℕ) {first : ℕ}
-    → (is_accepted a ≡ true → first ≡ first_waiting (map (mark_sent (natural s)) (kept_of p.head p.edits)))
-    → cond (is_accepted a) (all_sent (natural s) (get_or p.arrived (index_of (natural s)) false) first t) t ≡ cond (is_accepted a) (tally_after (send s) (plan_of p) t) t
+pub send_counts : (p : Spread) (s : ℤ) {q : Spread} {a : Answer} (made : Made (some (send s)) p q a []) (t : List ℕ)
+    → cond (is_accepted a) (all_sent (natural s) (get_or p.arrived (index_of (natural s)) false) t) t ≡ cond (is_accepted a) (tally_after (send s) (plan_of p) t) t
 unfolding checks further
-send_counts p s {a = a} made t e = cases (is_accepted a)
+send_counts p s {a = a} made t = cases (is_accepted a)
     (λ y.
     let r = range (length (plan_of p).content.sides) (natural s) (if_accepted (send s) made y).0.1.0 in
     let l = sides-length p in
-    rw (y, ap (λ x. x.arrived) (side_at_lem p (natural s) r.0 (omega (arith, l, r.1))), e y))
+    rw (y, ap (λ x. x.arrived) (side_at_lem p (natural s) r.0 (omega (arith, l, r.1)))))
     (λ n. rw n)
-
-pub replay_counts : (p : Spread) (n : ℤ) (t : List ℕ) → min (settled_in t) 256 ≡ count is_settled (kept_of p.head p.edits) → (b : Bool) {first : ℕ}
-    → (b ≡ true → first ≡ first_waiting (replay_to (plan_of p).content (natural n)).kept)
-    → cond b (one_settled (min (settled_in t) 256 + 1) first t) t ≡ cond b (tally_after (replay n) (plan_of p) t) t
-replay_counts p n t s true e = (λ i. one_settled ((ap (λ k. k + 1) s ∙ add-one (count is_settled (kept_of p.head p.edits))) i) (e refl i) t)
-replay_counts p n t s false e = refl
-
--- ---- the kept edits after it
-
--- as many, or none: a move on the frame
-pub move_keeps : (op : ℕ) (x : ℤ) {l : Option Call} (p q : Spread) {a : Answer} {vs : List ℤ} → l ≡ some (move_call op x) → Made l p q a vs → kept_in q.head ≤ kept_in p.head
-unfolding step after
-move_keeps op x p q e m =
-    let kept = ap (λ y. length y.content.kept) (m.plan ∙ ap (λ o. (step_of o (plan_of p)).plan) e) in
-    let fewer = judged (first (checks (move_call op x) (plan_of p))) in
-    omega (arith, kept-length q.head q.edits, kept-length p.head p.edits, kept, fewer)
-  where
-    parted : (w : Bool) → length (cond w (with_base (first_values (plan_of p).content) (on_kept (λ ks. []) (plan_of p).content)) (plan_of p).content).kept ≤ length (plan_of p).content.kept
-    parted true = omega arith
-    parted false = omega arith
-
-    fewer : length (after (move_call op x) (plan_of p).mode (plan_of p).content).content.kept ≤ length (plan_of p).content.kept
-    fewer =
-        cases (eqb op 4) (λ e. rw e (parted (is whole (plan_of p).mode)))
-        (λ e. rw e (cases (eqb op 6) (λ f. rw f (omega arith)) (λ f. rw f (cases (eqb op 9) (λ g. rw g (omega arith))
-        (λ g. rw g (cases (eqb op 10) (λ h. rw h (omega arith)) (λ h. rw h (omega arith))))))))
-
-    judged : (w : Verdict) → length (step_by w (move_call op x) (plan_of p)).plan.content.kept ≤ length (plan_of p).content.kept
-    judged (refused k) = omega arith
-    judged fine = fewer
-
--- and one that draws
-pub draw_keeps : (op : ℕ) (a b c d : ℤ) {l : Option Call} {p q : Spread} {r : Answer} {vs : List ℤ} → is_draw op ≡ true → l ≡ some (draw_call op a b c d) → Made l p q r vs
-    → kept_in q.head ≤ kept_in p.head
-unfolding step after
-draw_keeps op a b c d {l = l} {p = p} {q = q} y e m =
-    let kept = ap (λ x. length x.content.kept) (m.plan ∙ ap (λ o. (step_of o (plan_of p)).plan) e) in
-    let same : length (step (draw_call op a b c d) (plan_of p)).plan.content.kept ≡ length (plan_of p).content.kept = by-draw op y (λ z. rw z (judged (measure a) refl)) (λ z. rw z (judged (rule a b c d) refl)) (λ z. rw z (judged open_plan refl)) in
-    omega (arith, kept-length q.head q.edits, kept-length p.head p.edits, kept, same)
-  where
-    judged : (o : Call) → (after o (plan_of p).mode (plan_of p).content).content.kept ≡ (plan_of p).content.kept → length (step o (plan_of p)).plan.content.kept ≡ length (plan_of p).content.kept
-    judged o k = by (first (checks o (plan_of p)))
-      where
-        by : (w : Verdict) → length (step_by w o (plan_of p)).plan.content.kept ≡ length (plan_of p).content.kept
-        by (refused n) = refl
-        by fine = ap length k
-
--- those of a replay and of a send that were accepted
-pub replayed-kept : (p : Spread) (n : ℤ) (q : Spread) → plan_of q ≡ after (replay n) (plan_of p).mode (plan_of p).content → kept_of q.head q.edits ≡ (replay_to (plan_of p).content (natural n)).kept
-unfolding after
-replayed-kept p n q e = ap (λ x. x.content.kept) e
-
-pub sent-kept : (p : Spread) (s : ℤ) (q : Spread) → plan_of q ≡ after (send s) (plan_of p).mode (plan_of p).content → kept_of q.head q.edits ≡ map (mark_sent (natural s)) (kept_of p.head p.edits)
-unfolding after
-sent-kept p s q e = ap (λ x. x.content.kept) e
-
--- ---- the tags
-
--- the earlier edit's position is one of those kept
-pub earlier_few : (h : Head) (i : ℕ) (standing : EditRecord) → earlier_at h i standing ≤ kept_in h
-unfolding position_of
-earlier_few h i standing = by (record_of i standing).earlier
-  where
-    by : (n : ℕ) → position_of (end_in h) (kept_in h) n ≤ kept_in h
-    by n =
-        cases (eqb n 0)
-        (λ z. rw z (cases (ltb 0 (kept_in h)) (λ a. rw a (cases (leb (end_in h) (kept_in h)) (λ b. rw b (ltb-true 0 (kept_in h) a)) (λ b. rw b (omega arith)))) (λ a. rw a (omega arith))))
-        (λ z. rw z (cases (ltb n (end_in h))
-        (λ a. rw a (cases (leb (end_in h - n) (kept_in h)) (λ b. rw b (let x = ltb-true n (end_in h) a in let y = leb-true (end_in h - n) (kept_in h) b in omega arith)) (λ b. rw b (omega arith))))
-        (λ a. rw a (omega arith))))
-
--- that an edit was revoked is seen by its tag
-pub revoked-by_tag : (p : Spread) {tags : List ℕ} → Tagged tags (kept_in p.head) p.edits → (j : ℕ) → j ≤ kept_in p.head
-    → (not (eqb j 0) && eqb (get_or tags (slot_at j) 0) revoked_tag) ≡ revoked_at p j
-revoked-by_tag p {tags} g j few = cases (eqb j 0)
-    (λ z. rw z)
-    (λ z.
-    let ne = eqb-false j 0 z in
-    let some : 0 < j = above j ne in
-    rw z (ap (λ x. eqb x revoked_tag) (g.each (slot_at j) (omega arith)) ∙ tag_revoked (kept_at 0 (get_or p.edits (slot_at j) no_record))))
-  where
-    above : (n : ℕ) → n ≢ 0 → 0 < n
-    above n ne = cases (ltb 0 n) (λ t. ltb-true 0 n t) (λ t. absurd (ne (let w = ltb-false 0 n t in omega arith)))
-
--- a send tags its side's edits
-pub sent-tagged : (h : Head) (side : ℕ) (arrived : Bool) (unsent : ℕ) (d : Sending) → d ≡ send_decision h side arrived unsent → (edits next : List EditRecord) (tags tags' : List ℕ)
-    → SentIf (is_accepted d.answer) side (kept_in h) tags tags' → Marked side edits next d.marked → Tagged tags (kept_in h) edits → Tagged tags' (kept_in h) next
-sent-tagged h side arrived unsent d e edits next tags tags' w m g =
-    by (first (send_checks h side arrived unsent)) (λ f. passed (send_checks h side arrived unsent) f)
-    (subst (λ (x : Sending). SentIf (is_accepted x.answer) side (kept_in h) tags tags') e w) (subst (λ (x : Sending). Marked side edits next x.marked) e m)
-  where
-    by : (v : Verdict) → (Fine v → Pass (send_checks h side arrived unsent)) → SentIf (is_accepted (send_by v h arrived unsent).answer) side (kept_in h) tags tags'
-        → Marked side edits next (send_by v h arrived unsent).marked → Tagged tags' (kept_in h) next
-    by fine f w m =
-        let r = range (sides_in h) side (f tt).1.0 in
-        tagged-sent g (omega arith) (let n = sides_most h in omega (arith, n, r.1)) w m.done
-    by (refused k) f w m = subst (Tagged tags' (kept_in h)) (sym (m.none refl)) (subst (λ x. Tagged x (kept_in h) edits) (sym w) g)
 
 -- a call on the frame, by its number
 pub move_counts : (op : ℕ) (x : ℤ) (p : Spread) (t : List ℕ) → is_move op ≡ true → move_tally op p.head t ≡ tally_after (move_call op x) (plan_of p) t
 move_counts op x p t m =
     by_move op m (λ e. rw e)
-    (λ e. rw (e, sides-length p, kept-length p.head p.edits))
+    (λ e. rw (e, sides-length p, kept-length p))
     (λ e. rw e) (λ e. rw e) (λ e. rw e)
 
 -- one that draws up the plan moves none
@@ -422,15 +319,3 @@ draw_counts op a b c d {l = l} {p = p} {q = q} {r = r} {vs = vs} t y e m h =
   where
     by : (o : Call) → l ≡ some o → ((x : Bool) → tally_after o (plan_of p) t ≡ t) → Tallied t (plan_of q)
     by o f s = subst (λ u. Tallied u (plan_of q)) (cases (is_accepted r) (λ z. rw (z, s true)) (λ z. rw z)) (tallied-made o (subst (λ x. Made x p q r vs) f m) t h)
-
--- how many edits of its side a send marks, and among how many
-pub send-due : (h : Head) (side : ℕ) (arrived : Bool) (unsent : ℕ) (d : Sending) → d ≡ send_decision h side arrived unsent → d.marked ≢ 0 → {n : ℕ} → (T (one_to (sides_in h) side) → unsent ≡ n)
-    → (d.marked ≡ kept_in h) × (given d.answer ≡ n)
-send-due h side arrived unsent d e ne {n} is =
-    let r = by (first (send_checks h side arrived unsent)) (λ f. passed (send_checks h side arrived unsent) f) (λ z. ne (ap (λ (x : Sending). x.marked) e ∙ z)) in
-    (ap (λ (x : Sending). x.marked) e ∙ r.0, ap (λ (x : Sending). given x.answer) e ∙ r.1)
-  where
-    by : (v : Verdict) → (Fine v → Pass (send_checks h side arrived unsent)) → (send_by v h arrived unsent).marked ≢ 0
-        → ((send_by v h arrived unsent).marked ≡ kept_in h) × (given (send_by v h arrived unsent).answer ≡ n)
-    by fine f z = (refl, is (f tt).1.0)
-    by (refused k) f z = absurd (z refl)

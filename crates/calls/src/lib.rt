@@ -9,9 +9,7 @@ ghost use Rattle.rules.specs.Index.{is_made, Indexed};
 ghost use Rattle.counts.specs.Tallies.{all_sent, move_tally};
 ghost use Rattle.reader.specs.Reads.{line_in};
 ghost use Rattle.query.specs.Readings.{read_call};
-ghost use Rattle.heads.specs.Heads.{kept_in};
-ghost use Rattle.records.specs.Tags.{waiting_from};
-ghost use Rattle.calls.specs.Makes.{first_look, SentIf, Making, is_move, is_draw, plain, stored};
+ghost use Rattle.calls.specs.Makes.{first_look, second_look, Making, is_move, is_draw, plain, stored};
 ghost use Rattle.state.specs.declared.Answer.TheVariants as Answer;
 
 use counts::Tallies;
@@ -19,7 +17,7 @@ use edit::Ruling;
 use heads::{Head, Numbers};
 use protocol::{call, limit};
 use reader::Line;
-use records::{EditRecord, Tags};
+use records::EditRecord;
 use replay::Outcome;
 use rules::{Index, Table};
 use state::Answer;
@@ -37,17 +35,24 @@ pub struct Effect {
     pub marked: usize,
 }
 
-// The kept edit that a call names, with its position from 1.
+// The kept edits that a call looks at, each with its position from 1: the one that it names, and the one that this names in turn.
 #[derive(Drop)]
 pub struct Look {
     pub named: usize,
     pub standing: EditRecord,
+    pub next: usize,
+    pub seen: EditRecord,
 }
 
-pub fn looking(named: usize, standing: EditRecord) -> Look
-    ensures { result ≡ record { named = named; standing = standing } }
+pub fn looking(named: usize, standing: EditRecord, next: usize, seen: EditRecord) -> Look
+    ensures { result ≡ record { named = named; standing = standing; next = next; seen = seen } }
 {
-    Look { named, standing }
+    Look {
+        named,
+        standing,
+        next,
+        seen,
+    }
 }
 
 // The position, from 1, of the kept edit that a call names; 0 for a call that looks at none.
@@ -63,6 +68,16 @@ pub fn first_look(l: Line, h: Head) -> usize
     }
     if op == call::FATE {
         return heads::named(h, l.a);
+    }
+    0
+}
+
+// The same of the one that this names in turn; 0 for a call that does not look at it.
+pub fn second_look(l: Line, h: Head, named: usize, standing: EditRecord) -> usize
+    ensures { result ≡ second_look h l named standing }
+{
+    if l.op == call::REPLAY {
+        return replay::earlier(h, named, standing);
     }
     0
 }
@@ -133,14 +148,12 @@ fn edit_in<'a>(
     index: &mut Index,
     look: Look,
     counts: &mut Tallies,
-    tags: &mut Tags,
     sound: bool,
 ) -> Effect
     requires { l.op ≡ edit_op }
     ensures { (base draft : List ℤ) (confirmed : List Bool) → Making l (head_from head.old) base draft values.old
-        arrived.now confirmed table.now index.old look counts.old tags.old sound result
-        (head_from head.new) base draft values.new arrived.now confirmed table.now index.new
-        counts.new tags.new }
+        arrived.now confirmed table.now index.old look counts.old sound result (head_from head.new) base draft
+        values.new arrived.now confirmed table.now index.new counts.new }
 {
     let h = heads::from_numbers(head);
     if lacks_index(index, sound) {
@@ -164,10 +177,11 @@ fn edit_in<'a>(
             let side = exact::number(l.a);
             let i = heads::index(side);
             counts::note_kept(counts, side, arrived[i]);
-            let slot = rows::capped(h.kept, limit::LAST_EDIT);
-            let entry = edit::edit_record(h, l, change);
-            tags[slot] = records::tag(entry);
-            keeping(answer, slot, entry)
+            keeping(
+                answer,
+                rows::capped(h.kept, limit::LAST_EDIT),
+                edit::edit_record(h, l, change),
+            )
         }
     }
 }
@@ -187,13 +201,12 @@ fn replay_in<'a>(
     index: &mut Index,
     look: Look,
     counts: &mut Tallies,
-    tags: &mut Tags,
     sound: bool,
 ) -> Effect
     requires { l.op ≡ replay_op }
     ensures { (base values : List ℤ) (arrived confirmed : List Bool) → Making l (head_from head.now) base draft.old values arrived
-        confirmed table.now index.old look counts.old tags.old sound result (head_from head.now) base
-        draft.new values arrived confirmed table.now index.new counts.new tags.new }
+        confirmed table.now index.old look counts.old sound result (head_from head.now) base draft.new values
+        arrived confirmed table.now index.new counts.new }
 {
     let h = heads::from_numbers(head);
     if lacks_index(index, sound) {
@@ -201,11 +214,10 @@ fn replay_in<'a>(
     }
     let i = look.named;
     let standing = look.standing;
+    let seen = look.seen;
     let missing = counts[counts::MISSING];
-    let lowest = counts[counts::LOWEST];
-    let built = records::was_revoked(tags, replay::earlier(h, i, standing));
     let outcome = replay::decide_replay(
-        h, table, index, draft, missing, lowest, i, standing, built, sound,
+        h, table, index, draft, missing, i, standing, look.next, seen, sound,
     );
     match outcome {
         Outcome::Refused(k) => refusal(k),
@@ -213,13 +225,13 @@ fn replay_in<'a>(
             let point = replay::point_of(i, standing);
             draft[point] = x;
             let place = rows::capped(counts[counts::SETTLED], limit::EDITS) as u32 + 1;
-            let slot = heads::slot(i);
-            let entry = replay::settled_record(standing, accepted, place);
-            tags[slot] = records::tag(entry);
-            let next = records::next_waiting(tags, i, h);
-            counts::note_settled(counts, place, next as u32);
+            counts::note_settled(counts);
             let answer = Answer::Given(1, fate_number(accepted), 0, 0);
-            keeping(answer, slot, entry)
+            keeping(
+                answer,
+                heads::slot(i),
+                replay::settled_record(standing, accepted, place),
+            )
         }
     }
 }
@@ -229,12 +241,11 @@ fn send_in(
     head: &Numbers,
     arrived: &mut [bool; limit::SIDES],
     counts: &mut Tallies,
-    tags: &mut Tags,
 ) -> Effect
     requires { l.op ≡ send_op }
     ensures { (base draft values : List ℤ) (confirmed : List Bool) (table : List ℤ) (index : List ℤ) (look : Look) (sound : Bool) → Making l
-        (head_from head.now) base draft values arrived.old confirmed table index look counts.old tags.old sound result
-        (head_from head.now) base draft values arrived.new confirmed table index counts.new tags.new }
+        (head_from head.now) base draft values arrived.old confirmed table index look counts.old sound result
+        (head_from head.now) base draft values arrived.new confirmed table index counts.new }
 {
     let h = heads::from_numbers(head);
     let side = exact::number(l.a);
@@ -243,21 +254,18 @@ fn send_in(
     let d = moves::decide_send(h, side, was, counts[i]);
     arrived[i] = d.arrived;
     let answer = d.answer;
-    note_sent(counts, tags, h, state::accepted(answer), side, was);
+    note_sent(counts, state::accepted(answer), side, was);
     let mut e = plain_effect(answer);
     e.marked = d.marked;
     e
 }
 
-// Counts a send, if it was accepted, and tags the side's edits.
-fn note_sent(counts: &mut Tallies, tags: &mut Tags, h: Head, accepted: bool, s: u32, was: bool)
-    ensures { SentIf accepted s (kept_in h) tags.old tags.new ×
-        (counts.new ≡ cond accepted (all_sent s was (waiting_from tags.new 0 h) counts.old) counts.old) }
+// Counts a send, if it was accepted.
+fn note_sent(counts: &mut Tallies, accepted: bool, s: u32, was: bool)
+    ensures { counts.new ≡ cond accepted (all_sent s was counts.old) counts.old }
 {
     if accepted {
-        records::send_tags(tags, h, s);
-        let lowest = records::next_waiting(tags, 0, h);
-        counts::note_sent(counts, s, was, lowest as u32);
+        counts::note_sent(counts, s, was);
     }
 }
 
@@ -282,10 +290,10 @@ fn move_in(
     counts: &mut Tallies,
 ) -> Effect
     requires { is_move l.op ≡ true }
-    ensures { (table : List ℤ) (index : List ℤ) (look : Look) (tags : List ℕ) (sound : Bool) → Making l (head_from head.old)
-        base.old draft.old values.old arrived.old confirmed.old table index look counts.old
-        tags sound result (head_from head.new) base.new draft.new values.new arrived.new confirmed.new
-        table index counts.new tags }
+    ensures { (table : List ℤ) (index : List ℤ) (look : Look) (sound : Bool) → Making l (head_from head.old) base.old
+        draft.old values.old arrived.old confirmed.old table index look counts.old sound result
+        (head_from head.new) base.new draft.new values.new arrived.new confirmed.new table index
+        counts.new }
 {
     let h = heads::from_numbers(head);
     let side = exact::number(l.a);
@@ -321,9 +329,9 @@ fn draw_in(
     index: &mut Index,
 ) -> Effect
     requires { is_draw l.op ≡ true }
-    ensures { (base draft : List ℤ) (arrived confirmed : List Bool) (look : Look) (t tags : List ℕ) (sound : Bool) → Making l
-        (head_from head.old) base draft values.old arrived confirmed table.old index.old look t tags sound result
-        (head_from head.new) base draft values.new arrived confirmed table.new index.new t tags }
+    ensures { (base draft : List ℤ) (arrived confirmed : List Bool) (look : Look) (t : List ℕ) (sound : Bool) → Making l (head_from head.old)
+        base draft values.old arrived confirmed table.old index.old look t sound result (head_from head.new) base draft
+        values.new arrived confirmed table.new index.new t }
 {
     let answer = draw::make(l.op, l.a, l.b, l.c, l.d, head, values, table);
     note_drawn(index, state::accepted(answer));
@@ -333,9 +341,9 @@ fn draw_in(
 // show, fate, left; a line that cannot be read
 fn read_in<'a>(l: Line, head: &'a Numbers, look: Look, counts: &'a Tallies) -> Effect
     requires { (line_in l ≡ read_call l.op l.a) × (eqb l.op edit_op ≡ false) }
-    ensures { (base draft values : List ℤ) (arrived confirmed : List Bool) (table : List ℤ) (index : List ℤ) (tags : List ℕ) (sound : Bool) → Making l
-        (head_from head.now) base draft values arrived confirmed table index look counts.now tags sound result (head_from head.now)
-        base draft values arrived confirmed table index counts.now tags }
+    ensures { (base draft values : List ℤ) (arrived confirmed : List Bool) (table : List ℤ) (index : List ℤ) (sound : Bool) → Making l
+        (head_from head.now) base draft values arrived confirmed table index look counts.now sound result (head_from head.now) base draft
+        values arrived confirmed table index counts.now }
 {
     let h = heads::from_numbers(head);
     let standing = look.standing;
@@ -386,25 +394,21 @@ pub fn make(
     index: &mut Index,
     look: Look,
     counts: &mut Tallies,
-    tags: &mut Tags,
     sound: bool,
 ) -> Effect
     ensures { Making l (head_from head.old) base.old draft.old values.old arrived.old
-        confirmed.old table.old index.old look counts.old tags.old sound result (head_from head.new)
-        base.new draft.new values.new arrived.new confirmed.new table.new index.new
-        counts.new tags.new }
+        confirmed.old table.old index.old look counts.old sound result (head_from head.new) base.new
+        draft.new values.new arrived.new confirmed.new table.new index.new counts.new }
 {
     let op = l.op;
     if op == call::EDIT {
-        return edit_in(
-            l, head, values, arrived, table, index, look, counts, tags, sound,
-        );
+        return edit_in(l, head, values, arrived, table, index, look, counts, sound);
     }
     if op == call::REPLAY {
-        return replay_in(l, head, draft, table, index, look, counts, tags, sound);
+        return replay_in(l, head, draft, table, index, look, counts, sound);
     }
     if op == call::SEND {
-        return send_in(l, head, arrived, counts, tags);
+        return send_in(l, head, arrived, counts);
     }
     if moves(op) {
         return move_in(l, head, base, draft, values, arrived, confirmed, counts);

@@ -19,17 +19,15 @@ use Rattle.rows.proofs.Spans.{get_d_set, get_or-other, get_or-blank}
 use Rattle.heads.specs.Heads.{mode_of, sides_in, index_of, unset_in}
 use Rattle.state.specs.Spread.{Spread, plan_of}
 use Rattle.state.proofs.View.{index_other, flags_unset}
-use Rattle.records.specs.Tags.{first_waiting}
-use Rattle.records.proofs.Tagging.{first_waiting-snoc}
-use Rattle.counts.specs.Tallies.{unsent_in, waiting_in, settled_in, left_noted, missing_in, lowest_in, Counted, Tallied, no_tallies, one_unsent, all_sent, one_settled, begun, one_less}
+use Rattle.counts.specs.Tallies.{unsent_in, waiting_in, settled_in, left_noted, missing_in, Counted, Tallied, no_tallies, one_unsent, all_sent, one_settled, begun, one_less}
 
 pub counted_none : Counted no_tallies []
-counted_none = record { unsent = λ s a b. get_or-blank 13 (index_of s) 0; waiting = refl; settled = refl }
+counted_none = record { unsent = λ s a b. get_or-blank 12 (index_of s) 0; waiting = refl; settled = refl }
 
 -- ---- a number stored
 
 -- the number that is stored
-stored : (t : List ℕ) (k v : ℕ) → length t ≡ 13 → k < 13 → get_or (set t k v) k 0 ≡ v
+stored : (t : List ℕ) (k v : ℕ) → length t ≡ 12 → k < 12 → get_or (set t k v) k 0 ≡ v
 stored t k v long h = get_d_set t k v 0 (omega arith)
 
 -- one of another place
@@ -42,13 +40,13 @@ behind s k h e = omega arith
 
 -- the counts with one side's stored
 module _ (t : List ℕ) (s : ℕ) (u : ℕ) (p : 0 < s) (q : s ≤ 8) where
-  set_here : length t ≡ 13 → unsent_in (set t (index_of s) u) s ≡ u
+  set_here : length t ≡ 12 → unsent_in (set t (index_of s) u) s ≡ u
   set_here long = stored t (index_of s) u long (omega arith)
 
   set_there : (x : ℕ) → 0 < x → x ≤ 8 → x ≢ s → unsent_in (set t (index_of s) u) x ≡ unsent_in t x
   set_there x a b ne = elsewhere t (index_of s) (index_of x) u (index_other s x p q a b ne)
 
--- with another number behind them they are counts of the same edits
+-- with another number left, or another of missing logs, they are counts of the same edits
 counted_past : (t : List ℕ) (ks : List Kept) (k v : ℕ) → 9 < k → Counted t ks → Counted (set t k v) ks
 counted_past t ks k v l h = record {
   unsent = λ s a b. elsewhere t k (index_of s) v (λ e. omega arith) ∙ h.unsent s a b;
@@ -58,7 +56,7 @@ counted_past t ks k v l h = record {
 
 -- ---- one edit more
 
-module _ (t : List ℕ) (ks : List Kept) (k : Kept) (long : length t ≡ 13) (room : length ks < 256) (p : 0 < k.edit.side) (q : k.edit.side ≤ 8) (h : Counted t ks) where
+module _ (t : List ℕ) (ks : List Kept) (k : Kept) (long : length t ≡ 12) (room : length ks < 256) (p : 0 < k.edit.side) (q : k.edit.side ≤ 8) (h : Counted t ks) where
   counted-snoc : k.fate ≡ unsent → let s = k.edit.side in Counted (set t (index_of s) (min (unsent_in t s) 255 + 1)) (snoc ks k)
   counted-snoc f = record {
     unsent = λ x a b. cases (eqb x s) (λ e. rw (eqb-true x s e) here) (λ e. there x a b (eqb-false x s e));
@@ -104,7 +102,7 @@ waiting-sent s (k ∷ ks) =
     not_yet accepted u = absurd u
     not_yet revoked u = absurd u
 
-module _ (t : List ℕ) (ks : List Kept) (s : ℕ) (long : length t ≡ 13) (room : length ks ≤ 256) (p : 0 < s) (q : s ≤ 8) (h : Counted t ks) where
+module _ (t : List ℕ) (ks : List Kept) (s : ℕ) (long : length t ≡ 12) (room : length ks ≤ 256) (p : 0 < s) (q : s ≤ 8) (h : Counted t ks) where
   counted-sent : Counted (set (set t (index_of s) 0) 8 (min (waiting_in t) 256 + min (unsent_in t s) 256)) (map (mark_sent s) ks)
   counted-sent = record {
     unsent = λ x a b. elsewhere (set t (index_of s) 0) 8 (index_of x) _ (λ e. omega arith) ∙ cases (eqb x s)
@@ -124,16 +122,21 @@ module _ (t : List ℕ) (ks : List Kept) (s : ℕ) (long : length t ≡ 13) (roo
 
 -- ---- a waiting edit settled
 
-counted-settled : (t : List ℕ) (ks : List Kept) (n : ℕ) (b : Bool) (place : ℕ) → length t ≡ 13 → T (is_waiting (lookup n ks)) → Counted t ks
-    → Counted (set (set t 8 (waiting_in t - 1)) 9 (next_place ks)) (update n (settled b place) ks)
-counted-settled t ks n b place long w h = record {
+counted-settled : (t : List ℕ) (ks : List Kept) (n : ℕ) (b : Bool) (place : ℕ) → length t ≡ 12 → length ks ≤ 256 → T (is_waiting (lookup n ks)) → Counted t ks
+    → Counted (set (set t 8 (min (waiting_in t) 256 - 1)) 9 (min (settled_in t) 255 + 1)) (update n (settled b place) ks)
+counted-settled t ks n b place long room w h = record {
   unsent = λ x a c. elsewhere (set t 8 _) 9 (index_of x) _ (λ e. omega arith) ∙ elsewhere t 8 (index_of x) _ (λ e. omega arith) ∙ h.unsent x a c ∙ sym (unsent-settled n b place ks w x);
   waiting =
       let e = waiting-settled n b place ks w in
+      let m = count_most is_waiting ks in
       let v = h.waiting in
       elsewhere (set t 8 _) 9 8 _ (λ e. omega arith) ∙ stored t 8 _ long (omega arith) ∙ omega arith;
   settled =
-      stored (set t 8 _) 9 _ (length-set t 8 _ ∙ long) (omega arith) ∙ sym (settled-settled n b place ks w);
+      let e = settled-settled n b place ks w in
+      let o = open_settled n b place ks w in
+      let f = settled-count ks in
+      let v = h.settled in
+      stored (set t 8 _) 9 _ (length-set t 8 _ ∙ long) (omega arith) ∙ omega arith;
 }
 
 -- ---- the number left
@@ -198,8 +201,8 @@ tally_after open_plan p t = t
 tally_after (split-side s) p t = cond (is whole p.mode) no_tallies t
 tally_after (edit s client n m kind k) p t = cond (is whole p.mode) t (one_unsent (natural s) (side_at p.content (natural s)).arrived t)
 tally_after join p t = begun (length p.content.sides) (length p.content.kept) t
-tally_after (send s) p t = all_sent (natural s) (side_at p.content (natural s)).arrived (first_waiting (map (mark_sent (natural s)) p.content.kept)) t
-tally_after (replay n) p t = one_settled (next_place p.content.kept) (first_waiting (replay_to p.content (natural n)).kept) t
+tally_after (send s) p t = all_sent (natural s) (side_at p.content (natural s)).arrived t
+tally_after (replay n) p t = one_settled t
 tally_after stop p t = one_less t
 tally_after (confirm s) p t = one_less t
 tally_after install p t = one_less t
@@ -223,9 +226,6 @@ tallied-edit t m d e r room few has h =
     record {
       long = length-set (set t (index_of s) _) 10 _ ∙ long;
       counted = counted_past (set t (index_of s) _) _ 10 _ (omega arith) (counted-snoc t d.kept (new_kept e r) h.long room i.0 q h.counted refl);
-      lowest =
-          elsewhere (set t (index_of s) _) 10 12 _ (λ e. omega arith) ∙ elsewhere t (index_of s) 12 _ (behind s 12 (omega arith))
-          ∙ h.lowest ∙ sym (first_waiting-snoc d.kept (new_kept e r) refl);
       left = λ a. stored (set t (index_of s) _) 10 _ long (omega arith) ∙ (let l = h.left a in rw same (omega arith));
       missing = λ a.
           elsewhere (set t (index_of s) _) 10 11 _ (λ e. omega arith) ∙ elsewhere t (index_of s) 11 _ (behind s 11 (omega arith))
@@ -233,58 +233,43 @@ tallied-edit t m d e r room few has h =
     }
 
 -- a call that takes one off the number left and leaves the kept edits and the logs
-tallied_less : (t : List ℕ) (k : Mode) (e : Content) → length t ≡ 13 → Counted t e.kept → lowest_in t ≡ first_waiting e.kept → (T (active k) → left_noted t - 1 ≡ left_of k e)
-    → (T (active k) → missing_in t ≡ missing_of e) → Tallied (one_less t) (plan k e)
-tallied_less t k e long same first fewer there = record {
+tallied_less : (t : List ℕ) (k : Mode) (e : Content) → length t ≡ 12 → Counted t e.kept → (T (active k) → left_noted t - 1 ≡ left_of k e) → (T (active k) → missing_in t ≡ missing_of e)
+    → Tallied (one_less t) (plan k e)
+tallied_less t k e long same fewer there = record {
   long = length-set t 10 _ ∙ long;
   counted = counted_past t e.kept 10 _ (omega arith) same;
-  lowest = elsewhere t 10 12 _ (λ z. omega arith) ∙ first;
   left = λ a. stored t 10 _ long (omega arith) ∙ fewer a;
   missing = λ a. elsewhere t 10 11 _ (λ z. omega arith) ∙ there a;
 }
 
 module _ (t : List ℕ) (m : Mode) (d : Content) (room : length d.kept ≤ 256) (few : length d.sides ≤ 8) (h : Tallied t (plan m d)) where
-  tallied-send : (s : ℕ) → T (one_to (length d.sides) s) → T (pending d s) → Tallied (all_sent s (side_at d s).arrived (first_waiting (send_to d s).kept) t) (plan m (send_to d s))
+  tallied-send : (s : ℕ) → T (one_to (length d.sides) s) → T (pending d s) → Tallied (all_sent s (side_at d s).arrived t) (plan m (send_to d s))
   tallied-send s has owes =
       let i = range (length d.sides) s has in
       let first = set t (index_of s) 0 in
       let second = set first 8 (min (waiting_in t) 256 + min (unsent_in t s) 256) in
       let third = set second 10 (left_noted t - 1) in
-      let fourth = set third 11 (cond (side_at d s).arrived (missing_in t) (missing_in t - 1)) in
       let long = length-set first 8 _ ∙ length-set t (index_of s) 0 ∙ h.long in
       let longer = length-set second 10 _ ∙ long in
-      let longest = length-set third 11 _ ∙ longer in
       record {
-        long = length-set fourth 12 _ ∙ longest;
-        counted = counted_past fourth _ 12 _ (omega arith) (counted_past third _ 11 _ (omega arith)
-            (counted_past second _ 10 _ (omega arith) (counted-sent t d.kept s h.long room i.0 (omega (arith, i.1, few)) h.counted)));
-        lowest = stored fourth 12 _ longest (omega arith);
+        long = length-set third 11 _ ∙ longer;
+        counted = counted_past third _ 11 _ (omega arith) (counted_past second _ 10 _ (omega arith) (counted-sent t d.kept s h.long room i.0 (omega (arith, i.1, few)) h.counted));
         left = λ a.
-            elsewhere fourth 12 10 _ (λ e. omega arith) ∙ elsewhere third 11 10 _ (λ e. omega arith) ∙ stored second 10 _ long (omega arith)
+            elsewhere third 11 10 _ (λ e. omega arith) ∙ stored second 10 _ long (omega arith)
             ∙ fallen m m d (send_to d s) (left_noted t) (length-modify s has_arrived d.sides) (send-sum d s m has owes) (h.left a);
-        missing = λ a.
-            elsewhere fourth 12 11 _ (λ e. omega arith) ∙ stored third 11 _ longer (omega arith)
-            ∙ ap (λ n. cond (side_at d s).arrived n (n - 1)) (h.missing a) ∙ missing-sent d s has;
+        missing = λ a. stored third 11 _ longer (omega arith) ∙ ap (λ n. cond (side_at d s).arrived n (n - 1)) (h.missing a) ∙ missing-sent d s has;
       }
 
-  tallied-replay : (n : ℕ) → T (is_waiting (lookup n d.kept)) → Tallied (one_settled (next_place d.kept) (first_waiting (replay_to d n).kept) t) (plan m (replay_to d n))
+  tallied-replay : (n : ℕ) → T (is_waiting (lookup n d.kept)) → Tallied (one_settled t) (plan m (replay_to d n))
   tallied-replay n waits =
-      let first = set t 8 (waiting_in t - 1) in
-      let second = set first 9 (next_place d.kept) in
-      let third = set second 10 (left_noted t - 1) in
+      let first = set t 8 (min (waiting_in t) 256 - 1) in
+      let second = set first 9 (min (settled_in t) 255 + 1) in
       let long = length-set first 9 _ ∙ length-set t 8 _ ∙ h.long in
-      let longer = length-set second 10 _ ∙ long in
       record {
-        long = length-set third 12 _ ∙ longer;
-        counted = counted_past third _ 12 _ (omega arith)
-            (counted_past second _ 10 _ (omega arith) (counted-settled t d.kept n (replayable d n) (next_place d.kept) h.long waits h.counted));
-        lowest = stored third 12 _ longer (omega arith);
-        left = λ a.
-            elsewhere third 12 10 _ (λ e. omega arith) ∙ stored second 10 _ long (omega arith)
-            ∙ fallen m m d (replay_to d n) (left_noted t) refl (replay-sum d n m waits (length d.sides)) (h.left a);
-        missing = λ a.
-            elsewhere third 12 11 _ (λ e. omega arith) ∙ elsewhere second 10 11 _ (λ e. omega arith) ∙ elsewhere first 9 11 _ (λ e. omega arith)
-            ∙ elsewhere t 8 11 _ (λ e. omega arith) ∙ h.missing a;
+        long = length-set second 10 _ ∙ long;
+        counted = counted_past second _ 10 _ (omega arith) (counted-settled t d.kept n (replayable d n) (next_place d.kept) h.long room waits h.counted);
+        left = λ a. stored second 10 _ long (omega arith) ∙ fallen m m d (replay_to d n) (left_noted t) refl (replay-sum d n m waits (length d.sides)) (h.left a);
+        missing = λ a. elsewhere second 10 11 _ (λ e. omega arith) ∙ elsewhere first 9 11 _ (λ e. omega arith) ∙ elsewhere t 8 11 _ (λ e. omega arith) ∙ h.missing a;
       }
 
   tallied-join : Tallied (begun (length d.sides) (length d.kept) t) (plan joining (join_to d))
@@ -294,7 +279,6 @@ module _ (t : List ℕ) (m : Mode) (d : Content) (room : length d.kept ≤ 256) 
       record {
         long = length-set first 11 _ ∙ long;
         counted = counted_past first _ 11 _ (omega arith) (counted_past t d.kept 10 _ (omega arith) h.counted);
-        lowest = elsewhere first 11 12 _ (λ e. omega arith) ∙ elsewhere t 10 12 _ (λ e. omega arith) ∙ h.lowest;
         left = λ a.
             let sum = join-sum d (length d.sides) in
             let shut = settled-count d.kept in
@@ -305,16 +289,16 @@ module _ (t : List ℕ) (m : Mode) (d : Content) (room : length d.kept ≤ 256) 
 
   by_call : (c : Call) → Pass (checks c (plan m d)) → Tallied (tally_after c (plan m d) t) (after c m d)
   unfolding after checks further
-  by_call (measure v) g = record { long = h.long; counted = h.counted; lowest = h.lowest; left = λ a. absurd (rw (only blank m g.0) at a); missing = λ a. absurd (rw (only blank m g.0) at a) }
-  by_call (rule a c b f) g = record { long = h.long; counted = h.counted; lowest = h.lowest; left = h.left; missing = h.missing }
-  by_call open_plan g = record { long = h.long; counted = h.counted; lowest = h.lowest; left = λ a. absurd a; missing = λ a. absurd a }
+  by_call (measure v) g = record { long = h.long; counted = h.counted; left = λ a. absurd (rw (only blank m g.0) at a); missing = λ a. absurd (rw (only blank m g.0) at a) }
+  by_call (rule a c b f) g = record { long = h.long; counted = h.counted; left = h.left; missing = h.missing }
+  by_call open_plan g = record { long = h.long; counted = h.counted; left = λ a. absurd a; missing = λ a. absurd a }
   by_call (split-side s) g = cases (is whole m)
-      (λ e. rw e (record { long = refl; counted = counted_none; lowest = refl; left = λ a. absurd a; missing = λ a. absurd a }))
-      (λ e. rw e (record { long = h.long; counted = h.counted; lowest = h.lowest; left = λ a. absurd a; missing = λ a. absurd a }))
+      (λ e. rw e (record { long = refl; counted = counted_none; left = λ a. absurd a; missing = λ a. absurd a }))
+      (λ e. rw e (record { long = h.long; counted = h.counted; left = λ a. absurd a; missing = λ a. absurd a }))
   by_call (edit s client n x kind k) g = cases (is whole m)
       (λ e.
       let none : T (active m) → ⊥ = λ a. absurd (rw (only whole m (is_yes e)) at a) in
-      rw e (record { long = h.long; counted = h.counted; lowest = h.lowest; left = λ a. absurd (none a); missing = λ a. absurd (none a) }))
+      rw e (record { long = h.long; counted = h.counted; left = λ a. absurd (none a); missing = λ a. absurd (none a) }))
       (λ e.
       let a = which (is whole m) (apart m) g.0 (λ y. absurd (subst T e y)) (λ y. y) in
       let f : T (not (leb kept_limit (length d.kept))) = (rw (yes_is (apart m) a) at g).1.1.1.1.1.1.1.0 in
@@ -324,13 +308,13 @@ module _ (t : List ℕ) (m : Mode) (d : Content) (room : length d.kept ≤ 256) 
   by_call (replay n) g = tallied-replay (natural n) g.1.1.0
   by_call stop g =
       let was = rw (only joining m g.0) at h in
-      tallied_less t closing d h.long h.counted h.lowest (λ a. fallen joining closing d d (left_noted t) refl (stop-sum d (length d.sides)) (was.left tt)) (λ a. was.missing tt)
+      tallied_less t closing d h.long h.counted (λ a. fallen joining closing d d (left_noted t) refl (stop-sum d (length d.sides)) (was.left tt)) (λ a. was.missing tt)
   by_call (confirm s) g =
       let long = length-modify (natural s) has_confirmed d.sides in
-      tallied_less t m (confirm_to d (natural s)) h.long h.counted h.lowest
+      tallied_less t m (confirm_to d (natural s)) h.long h.counted
       (λ a. fallen m m d (confirm_to d (natural s)) (left_noted t) long (confirm-sum d m (natural s) g.1.0 g.1.1.0) (h.left a))
       (λ a. h.missing a ∙ sym (missing-same d (confirm_to d (natural s)) long (arrived-confirmed d (natural s))))
-  by_call install g = tallied_less t whole _ h.long h.counted h.lowest (λ a. absurd a) (λ a. absurd a)
+  by_call install g = tallied_less t whole _ h.long h.counted (λ a. absurd a) (λ a. absurd a)
   by_call (show s room) g = h
   by_call (fate_of_edit n) g = h
   by_call left g = h

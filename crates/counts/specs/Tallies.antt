@@ -7,10 +7,9 @@ use Rattle.protocol.specs.Numbering.{split_op, join_op}
 use Rattle.protocol.specs.Sizes.{last_edit}
 use Rattle.heads.specs.declared.Head.{Head}
 use Rattle.heads.specs.Heads.{mode_of, sides_in, kept_in, index_of}
-use Rattle.records.specs.Tags.{first_waiting}
 pub use Rattle.state.specs.Spread.{is_accepted}
 
--- ---- the counts, as they stand in the array: for each side how many are unsent, by its index, then five more
+-- ---- the counts, as they stand in the array: for each side how many are unsent, by its index, then four more
 
 abbrev pub waiting_at : ℕ
 waiting_at = 8
@@ -24,11 +23,8 @@ left_at = 10
 abbrev pub missing_at : ℕ
 missing_at = 11
 
-abbrev pub lowest_at : ℕ
-lowest_at = 12
-
 abbrev pub tally_count : ℕ
-tally_count = 13
+tally_count = 12
 
 abbrev pub unsent_in : List ℕ → ℕ → ℕ
 unsent_in t s = get_or t (index_of s) 0
@@ -45,9 +41,6 @@ left_noted t = get_or t left_at 0
 abbrev pub missing_in : List ℕ → ℕ
 missing_in t = get_or t missing_at 0
 
-abbrev pub lowest_in : List ℕ → ℕ
-lowest_in t = get_or t lowest_at 0
-
 -- what the counts say of the kept edits
 pub record Counted (t : List ℕ) (ks : List Kept) : Type 0 where
   pub unsent : (s : ℕ) → 0 < s → s ≤ side_limit → unsent_in t s ≡ unsent_of s ks
@@ -58,7 +51,6 @@ pub record Counted (t : List ℕ) (ks : List Kept) : Type 0 where
 pub record Tallied (t : List ℕ) (p : Plan) : Type 0 where
   pub long : length t ≡ tally_count
   pub counted : Counted t p.content.kept
-  pub lowest : lowest_in t ≡ first_waiting p.content.kept
   pub left : T (active p.mode) → left_noted t ≡ left_of p.mode p.content
   pub missing : T (active p.mode) → missing_in t ≡ sides_that (λ s. not (side_at p.content s).arrived) p.content
 
@@ -79,15 +71,13 @@ raise arrived unsent = suc (bit (arrived && is_none unsent))
 abbrev pub one_unsent : ℕ → Bool → List ℕ → List ℕ
 one_unsent s arrived t = set (set t (index_of s) (min (unsent_in t s) last_edit + 1)) left_at (min (left_noted t) most_left + raise arrived (unsent_in t s))
 
--- arrived says that the side's first log was there before; lowest is the position of the first that waits then
-abbrev pub all_sent : ℕ → Bool → ℕ → List ℕ → List ℕ
-all_sent s arrived lowest t =
-    set (set (set (set (set t (index_of s) 0) waiting_at (min (waiting_in t) kept_limit + min (unsent_in t s) kept_limit)) left_at (left_noted t - 1))
-    missing_at (cond arrived (missing_in t) (missing_in t - 1))) lowest_at lowest
+-- arrived says that the side's first log was there before
+abbrev pub all_sent : ℕ → Bool → List ℕ → List ℕ
+all_sent s arrived t =
+    set (set (set (set t (index_of s) 0) waiting_at (min (waiting_in t) kept_limit + min (unsent_in t s) kept_limit)) left_at (left_noted t - 1)) missing_at (cond arrived (missing_in t) (missing_in t - 1))
 
--- place is that of the edit that is settled, which is how many are settled then
-abbrev pub one_settled : ℕ → ℕ → List ℕ → List ℕ
-one_settled place lowest t = set (set (set (set t waiting_at (waiting_in t - 1)) settled_at place) left_at (left_noted t - 1)) lowest_at lowest
+abbrev pub one_settled : List ℕ → List ℕ
+one_settled t = set (set (set t waiting_at (min (waiting_in t) kept_limit - 1)) settled_at (min (settled_in t) last_edit + 1)) left_at (left_noted t - 1)
 
 -- a join begins, with so many sides and kept edits
 abbrev pub begun : ℕ → ℕ → List ℕ → List ℕ

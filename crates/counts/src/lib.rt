@@ -1,5 +1,5 @@
 // Counts kept beside a state by whoever owns it, in an array that is lent and changed in place: how many kept edits each side has unsent, how many wait,
-// how many are settled, and which is the first that waits; the number left and how many first logs are missing, which are the plan's while it is joining or closing.
+// how many are settled; the number left and how many first logs are missing, which are the plan's while it is joining or closing.
 ghost use Rattle.std.specs.Prelude.{◌+◌, ◌-◌, ◌≤◌, cond, ◌≡◌};
 ghost use Rattle.counts.specs.Tallies.{raise, no_tallies, one_unsent, all_sent, one_settled, move_tally};
 ghost use Rattle.heads.specs.Heads.{kept_in};
@@ -8,8 +8,7 @@ use heads::Head;
 use protocol::{call, limit};
 use state::Answer;
 
-// How many edits each side has unsent, by the side's index; then how many wait, how many are settled, the number left, how many first logs are missing, and the
-// position, from 1, of the first kept edit that waits, which has the lowest number of those (02, S-4); 0 where none does.
+// How many edits each side has unsent, by the side's index; then how many wait, how many are settled, the number left, and how many first logs are missing.
 pub type Tallies = [u32; TALLIES];
 
 pub const WAITING: usize = 8;
@@ -20,9 +19,7 @@ pub const LEFT: usize = 10;
 
 pub const MISSING: usize = 11;
 
-pub const LOWEST: usize = 12;
-
-pub const TALLIES: usize = 13;
+pub const TALLIES: usize = 12;
 
 // No number left is more: twice 8 sides, 256 edits, and 2.
 const MOST_LEFT: usize = 274;
@@ -90,9 +87,9 @@ pub fn note_kept(t: &mut Tallies, s: u32, arrived: bool)
     t[LEFT] = left;
 }
 
-// A side's unsent edits wait; arrived says that its first log was there before, and lowest is the first that waits then.
-pub fn note_sent(t: &mut Tallies, s: u32, arrived: bool, lowest: u32)
-    ensures { t.new ≡ all_sent s arrived lowest t.old }
+// A side's unsent edits wait; arrived says that its first log was there before.
+pub fn note_sent(t: &mut Tallies, s: u32, arrived: bool)
+    ensures { t.new ≡ all_sent s arrived t.old }
 {
     let i = heads::index(s);
     let u = t[i];
@@ -103,19 +100,18 @@ pub fn note_sent(t: &mut Tallies, s: u32, arrived: bool, lowest: u32)
     t[WAITING] = waiting;
     t[LEFT] = left;
     t[MISSING] = missing;
-    t[LOWEST] = lowest;
 }
 
-// A waiting edit is settled, at this place; lowest is the first that waits then.
-pub fn note_settled(t: &mut Tallies, place: u32, lowest: u32)
-    ensures { t.new ≡ one_settled place lowest t.old }
+// A waiting edit is settled.
+pub fn note_settled(t: &mut Tallies)
+    ensures { t.new ≡ one_settled t.old }
 {
-    let waiting = one_less(t[WAITING]);
+    let waiting = one_less(rows::capped(t[WAITING], limit::EDITS) as u32);
+    let settled = rows::capped(t[SETTLED], limit::LAST_EDIT) as u32 + 1;
     let left = one_less(t[LEFT]);
     t[WAITING] = waiting;
-    t[SETTLED] = place;
+    t[SETTLED] = settled;
     t[LEFT] = left;
-    t[LOWEST] = lowest;
 }
 
 // split, join, stop, confirm or install, by its number in the order of 01, from the head before it

@@ -10,14 +10,14 @@ use lib.ListN.{length, length-map}
 use lib.Dec.{T, T_not, not_T, eqb, eqb→eq}
 use lib.IntN.{ℤ, pos, negsuc}
 use Rattle.protocol.specs.Lists.{bit, is_none, one_to, natural, count, all, snoc, nth, modify}
-use Rattle.protocol.specs.Plan.{Edit, fate_number, is_unsent, is_waiting, is_open, is_settled, Kept, Side, Mode, blank, whole, split, joining, closing, is, active, Content, made, absent_side, side_at, lookup, unsent_of, lowest_waiting, pending, sides_that}
-use Rattle.protocol.specs.Calls.{Call, measure, rule, open_plan, split-side, edit, join, send, replay, stop, confirm, install, show, fate_of_edit, left, apart, checks, further, no25, no35, no36, no42, edit_of, rule_of, change_of, reset, on_values, has_arrived, has_confirmed, mark_sent, replayable, outcome, next_place, after, gives}
+use Rattle.protocol.specs.Plan.{Edit, fate_number, is_unsent, is_waiting, is_open, is_settled, Kept, Side, Mode, blank, whole, split, joining, closing, is, active, Content, made, absent_side, side_at, lookup, unsent_of, pending, sides_that}
+use Rattle.protocol.specs.Calls.{Call, measure, rule, open_plan, split-side, edit, join, send, replay, stop, confirm, install, show, fate_of_edit, left, apart, checks, further, no25, edit_of, rule_of, change_of, reset, on_values, has_arrived, has_confirmed, mark_sent, replayable, outcome, next_place, after, gives}
 use Rattle.protocol.specs.History.{Entry, edited, History, last_sent, closed, budget, edit_in, times, replayed, EachHolds, entered}
 use Rattle.guarantee.specs.Guarantee.{InOrder}
 use Rattle.protocol.proofs.Laws.{on, decide, cases, yes_is, is_yes, is-no, both, and_in, which, or_right, or_left, not-not, range, in_range_lem, same-no, Pass, count_to-zero, count_map, count-snoc, length-snoc, length-modify, nth-same, nth-other, all_snoc}
 use Rattle.protocol.proofs.Replays.{accepted-holds}
 use Rattle.guarantee.proofs.Kept.{edits_of, edits_in, edits-snoc, edits-sent, edits_settle, edit-found, settle_part, lookup-same, lookup-other, lookup-number, lookup_new, lookup_old, lookup-sent}
-use Rattle.guarantee.proofs.Kept.{open_sent, unsent-sent, unsent-other, Within, within-snoc, within-lookup, Rising, rising_le, rising_snoc, bounds, lowest-follows, Named, named-sent, named_settle, named-snoc}
+use Rattle.guarantee.proofs.Kept.{open_sent, unsent-sent, unsent-other, Within, within-snoc, within-lookup, Rising, rising_le, rising_snoc, bounds, Named, named-sent, named_settle, named-snoc}
 use Rattle.guarantee.proofs.Kept.{Reported, reported_snoc, reported_sent, reported_settle, waiting_open, waiting-listed, fresh_open, settled-count}
 use Rattle.guarantee.proofs.Chains.{Chained, chained_snoc, chained_settle, told-revoked, revoked_onward}
 use Rattle.guarantee.proofs.Left.{unarrived, unconfirmed, sum, send_to, pending-sent, pending-others, send-sum, settled-shut, unsent-settled, settled-settled, replay_to, replay-sum, stop-sum, confirm_to, arrived-confirmed, confirm-sum, new_kept, edit_to, pending-edited, arrived-edited, confirmed-edited, pending-not_edited, edit-sum, join_to, side-joined, join-sum}
@@ -41,7 +41,7 @@ Logged d = (n : ℕ) → T (is_unsent (lookup n d.kept)) → T (lookup n d.kept)
 -- a plan that is split, joining or closing
 abbrev pub Parted : Content → History → Type 0
 Parted d h = record {
-  ground : record { base : d.base ≡ h.values; rising : Rising 1 (edits_in h.kept) d.next; within : Within h.sides (edits_in h.kept); some : 0 < h.sides };
+  ground : record { base : d.base ≡ h.values; rising : Rising 1 (edits_in h.kept) d.next; within : Within h.sides (edits_in h.kept) };
   kept : edits_of d.kept ≡ edits_in h.kept;
   named : Named d.kept;
   sides : length d.sides ≡ h.sides;
@@ -143,10 +143,6 @@ module _ (m : Mode) (d : Content) (h : History) (t : Parted d h) (a : Active m d
 outcome-number : (b : Bool) → eqb (fate_number (outcome b)) 3 ≡ b
 outcome-number true = refl
 outcome-number false = refl
-
--- where 35 and 42 pass, 36 passes (02, S-4)
-pub replay-follows : (d : Content) (h : History) → Parted d h → (n : ℕ) → T (no35 d.kept n).passes → T (no42 d.kept n).passes → T (no36 d.kept n).passes
-replay-follows d h t n waits lowest = lowest-follows 1 d.kept d.next n (rw t.kept t.ground.rising) waits (eqb→eq n (lowest_waiting d.kept) lowest)
 
 -- an edit that waits while all logs have arrived names 0 or a settled edit
 earlier-settled : (m : Mode) (d : Content) (h : History) → Parted d h → Active m d h → Reported d.kept h.settlings → (n : ℕ) → sides_that (unarrived d) d ≡ 0
@@ -323,7 +319,6 @@ module _ (d : Content) (h : History) (e : Edit) (r : Bool) (f : Fitting d e) (t 
           base = t.ground.base;
           rising = rw (edits_in_snoc h.kept (record { edit = e; late = l })) (rising_snoc 1 (edits_in h.kept) d.next e t.ground.rising f.number lower);
           within = rw (edits_in_snoc h.kept (record { edit = e; late = l })) (within-snoc h.sides (edits_in h.kept) e t.ground.within (rw t.sides at f.side));
-          some = t.ground.some;
         };
         kept = edits-snoc d.kept (new_kept e r) ∙ ap (λ es. snoc es e) t.kept ∙ sym (edits_in_snoc h.kept (record { edit = e; late = l }));
         named = named-snoc 1 d.kept (new_kept e r) (rw (t.kept, f.number) t.ground.rising) f.earlier t.named;
@@ -451,7 +446,7 @@ module _ (d : Content) (h : History) where
     ordered = (tt, λ n k. absurd (omega arith));
     stage = (
       record {
-        ground = record { base = t.stage.0; rising = t.next; within = tt; some = omega arith };
+        ground = record { base = t.stage.0; rising = t.next; within = tt };
         kept = refl;
         named = λ n. inl refl;
         sides = length-snoc d.sides _ ∙ ap suc (one ∙ sym t.stage.1);
@@ -472,7 +467,7 @@ module _ (d : Content) (h : History) where
     ordered = t.ordered;
     stage = (
       record {
-        ground = record { base = g.base; rising = g.rising; within = within_more h.sides (edits_in h.kept) g.within; some = omega arith };
+        ground = record { base = g.base; rising = g.rising; within = within_more h.sides (edits_in h.kept) g.within };
         kept = t.stage.0.kept;
         named = t.stage.0.named;
         sides = length-snoc d.sides _ ∙ ap suc t.stage.0.sides;
@@ -581,13 +576,12 @@ consistent_after (send s) m d h g t k =
 consistent_after (replay n) m d h g t k =
     let st = out m d h k.0 t.stage in
     let waits = k.1.1.0 in
-    let still = replay-follows d h st.0 (natural n) waits k.1.1.1.0 in
     record {
       mode = t.mode;
       rules = t.rules;
       next = t.next;
       reported = replay_reported m d h st.0 st.1 t.rules n waits t.reported;
-      ordered = replay-ordered d h st.0 t.reported t.ordered n waits (earlier-settled m d h st.0 st.1 t.reported (natural n) (eqb→eq _ 0 k.1.0) still);
+      ordered = replay-ordered d h st.0 t.reported t.ordered n waits (earlier-settled m d h st.0 st.1 t.reported (natural n) (eqb→eq _ 0 k.1.0) k.1.1.1.0);
       stage = back m _ _ k.0 (replay-active m d h st.0 st.1 t.rules n waits);
     }
 consistent_after stop m d h g t k =

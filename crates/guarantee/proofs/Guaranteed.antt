@@ -6,24 +6,22 @@ use mathlib.Core.Bool.{Bool, true, false, not, cond, ◌&&◌, ◌||◌}
 use mathlib.Core.List.{List, [], ◌∷◌}
 use native.Mathlib.Omega.{arith}
 use lib.ListN.{length, length-map}
-use lib.Dec.{T, T_not, not_T, leb, nltb→le}
+use lib.Dec.{T, T_not, not_T, eqb, eqb→eq, leb, nltb→le}
 use lib.IntN.{ℤ, pos}
-use Rattle.protocol.specs.Lists.{bit, natural, count, all, snoc}
-use Rattle.protocol.specs.Plan.{Fate, unsent, waiting, accepted, revoked, fate_number, fate_is, Kept, is_waiting, is_open, Mode, blank, whole, split, joining, closing, is, active, Content, Plan, holds, side_at, absent_side, lookup, unsent_of, lowest_waiting, pending, sides_that}
-use Rattle.protocol.specs.Calls.{Call, measure, rule, open_plan, split-side, edit, join, send, replay, stop, confirm, install, show, fate_of_edit, left, apart, checks, further, no36, edit_of, after, gives, left_in, Answer, no, ok, step, following, end, start}
-use Rattle.protocol.specs.History.{Settling, History, empty, entered, last_sent, closed, budget, is_late, listed, times, settled_as}
-use Rattle.guarantee.specs.Runs.{closes, edits, accepts, noting, quiet, taken, Trace, begun, called}
+use Rattle.protocol.specs.Lists.{bit, natural, count_to, count, all, snoc}
+use Rattle.protocol.specs.Plan.{Fate, unsent, waiting, accepted, revoked, fate_number, fate_is, Kept, is_waiting, is_open, Mode, blank, whole, split, joining, closing, is, active, Content, Plan, holds, side_at, absent_side, lookup, unsent_of, pending, sides_that}
+use Rattle.protocol.specs.Calls.{Call, measure, rule, open_plan, split-side, edit, join, send, replay, stop, confirm, install, show, fate_of_edit, left, apart, Verdict, fine, refused, first, checks, further, edit_of, after, gives, left_in, Answer, no, ok, step_by, step, following, end, start}
+use Rattle.protocol.specs.History.{Settling, History, empty, entered, recorded, last_sent, closed, budget, is_late, listed, times, settled_as}
+use Rattle.guarantee.specs.Runs.{closes, edits, reads, is_ok, accepts, noting, quiet, taken, run, Trace, begun, called}
 use Rattle.guarantee.specs.Guarantee.{Able, Stuck, Underway, Completed, Installed, Guarantee, ForEveryList, ForEveryTrace}
-use Rattle.protocol.proofs.Laws.{on, decide, cases, yes_is, no-is, is_yes, is-no, both, which, or_right, neither, is_none_yes, range, in_range_lem, same_yes, Pass, count_to-zero, count_to-some, count_to-none, count-snoc, length-snoc, all-nth}
+use Rattle.protocol.proofs.Laws.{on, decide, cases, yes_is, no-is, is_yes, is-no, both, which, or_right, neither, is_none_yes, range, in_range_lem, Fine, Pass, passed, pass, count_to-zero, count_to-some, count_to-none, count-snoc, length-snoc, all-nth}
 use Rattle.protocol.proofs.Refusals.{AnswerAgreed, answer-agreed}
-use Rattle.guarantee.proofs.Kept.{none_open, settled-count, lowest_waits, fate-found, verdict, Reported}
+use Rattle.guarantee.proofs.Kept.{none_open, open_count, settled-count, none-unsent, first_waiting_lem, fate-found, verdict, Reported}
 use Rattle.guarantee.proofs.Chains.{accepted-chain}
-use Rattle.guarantee.proofs.Left.{unarrived, unconfirmed}
+use Rattle.guarantee.proofs.Left.{unarrived, unconfirmed, sum}
 use Rattle.guarantee.specs.Holding.{Holding}
-use Rattle.guarantee.proofs.Holding.{only, plan}
-use Rattle.guarantee.proofs.Consistent.{Consistent, Parted, Active, replay-follows, out, consistent_after}
-use Rattle.guarantee.proofs.Sound.{Sound, started, sound_step, sound_run, taken_if, if_taken, keeps, stays_put, moves, reading, last_one, clash}
-use Rattle.guarantee.proofs.Settled.{settled_order}
+use Rattle.guarantee.proofs.Holding.{only, plan, stepped, holding_after, holding_start}
+use Rattle.guarantee.proofs.Consistent.{Consistent, Parted, Active, out, consistent_after}
 
 -- ---- the closing moves
 
@@ -49,6 +47,78 @@ which_closing install h = by-install
 which_closing (show s room) h = absurd h
 which_closing (fate_of_edit n) h = absurd h
 which_closing left h = absurd h
+
+-- ---- a call is accepted, and then does what `after` says, or is refused, and does nothing
+
+by-verdict : (v : Verdict) (c : Call) (p : Plan) → Fine v → T (is_ok (step_by v c p).answer)
+by-verdict fine c p h = tt
+by-verdict (refused k) c p h = absurd h
+
+verdict-by : (v : Verdict) (c : Call) (p : Plan) → T (is_ok (step_by v c p).answer) → Fine v
+verdict-by fine c p h = tt
+verdict-by (refused k) c p h = absurd h
+
+pub taken_if : (c : Call) (p : Plan) → Pass (checks c p) → T (accepts p c)
+unfolding step
+taken_if c p h = by-verdict (first (checks c p)) c p (pass (checks c p) h)
+
+pub if_taken : (c : Call) (p : Plan) → T (accepts p c) → Pass (checks c p)
+unfolding step
+if_taken c p h = passed (checks c p) (verdict-by (first (checks c p)) c p h)
+
+-- the invariant: what holds of the plan alone, and what ties it to the history
+abbrev pub Sound : Plan → History → Type 0
+Sound p h = Holding p.mode p.content × Consistent p.mode p.content h
+
+pub sound_step : (c : Call) (p : Plan) (h : History) → Sound p h → Sound (following p c) (noting p h c)
+sound_step c p h t = stepped (λ r. Sound r.plan (recorded c r.answer h)) c p
+    (λ k. (holding_after c p.mode p.content t.0 k, consistent_after c p.mode p.content h t.0 t.1 k))
+    (λ n. t)
+
+pub keeps : (c : Call) (p : Plan) (h : History) → T (not (accepts p c)) → (following p c ≡ p) × (noting p h c ≡ h)
+unfolding step
+keeps c p h k = by (first (checks c p)) k
+  where
+    by : (v : Verdict) → T (not (is_ok (step_by v c p).answer)) → ((step_by v c p).plan ≡ p) × (recorded c (step_by v c p).answer h ≡ h)
+    by fine k = absurd k
+    by (refused n) k = (refl, refl)
+
+pub stays_put : (c : Call) (p : Plan) → T (not (accepts p c)) → following p c ≡ p
+stays_put c p k = (keeps c p empty k).0
+
+moves : (c : Call) (p : Plan) → T (accepts p c) → following p c ≡ after c p.mode p.content
+unfolding step
+moves c p h = by (first (checks c p)) h
+  where
+    by : (v : Verdict) → T (is_ok (step_by v c p).answer) → (step_by v c p).plan ≡ after c p.mode p.content
+    by fine k = refl
+    by (refused n) k = absurd k
+
+-- a call that does nothing if it is accepted does nothing
+idle : (c : Call) (p : Plan) (h : History) → after c p.mode p.content ≡ p → ((xs : List ℤ) → entered c xs h ≡ h) → (following p c ≡ p) × (noting p h c ≡ h)
+unfolding step
+idle c p h e f = by (first (checks c p))
+  where
+    by : (v : Verdict) → ((step_by v c p).plan ≡ p) × (recorded c (step_by v c p).answer h ≡ h)
+    by fine = (e, f (gives c p.mode p.content))
+    by (refused n) = (refl, refl)
+
+pub reading : (c : Call) (p : Plan) (h : History) → T (reads c) → (following p c ≡ p) × (noting p h c ≡ h)
+unfolding after entered
+reading (measure v) p h r = absurd r
+reading (rule a c b f) p h r = absurd r
+reading open_plan p h r = absurd r
+reading (split-side s) p h r = absurd r
+reading (edit s client n m kind k) p h r = absurd r
+reading join p h r = absurd r
+reading (send s) p h r = absurd r
+reading (replay n) p h r = absurd r
+reading stop p h r = absurd r
+reading (confirm s) p h r = absurd r
+reading install p h r = absurd r
+reading (show s room) p h r = idle (show s room) p h refl (λ xs. refl)
+reading (fate_of_edit n) p h r = idle (fate_of_edit n) p h refl (λ xs. refl)
+reading left p h r = idle left p h refl (λ xs. refl)
 
 -- ---- some closing move is accepted
 
@@ -80,19 +150,39 @@ module _ (m : Mode) (d : Content) (h : History) (t : Parted d h) (a : Active m d
   able on_way = on (count_to-some (pending d) h.sides)
       (λ e.
       let z : (s : ℕ) → 0 < s → s ≤ h.sides → T (not (pending d s)) = λ s p q. count_to-zero (pending d) h.sides s e p q in
-      let lowest = lowest_waiting d.kept in
-      on (lowest_waits 1 d.kept d.next (rw t.kept t.ground.rising))
+      on (first_waiting_lem 1 d.kept d.next (rw t.kept t.ground.rising))
       (λ w. at_rest on_way z w)
-      (λ w. (replay (pos lowest), tt, taken_if (replay (pos lowest)) (plan m d) (on_way, (is_none_yes _ (logs_in z), (w, (same_yes lowest lowest refl, tt)))))))
+      (λ q. (replay (pos q.0), tt, taken_if (replay (pos q.0)) (plan m d) (on_way, (is_none_yes _ (logs_in z), (q.2, (q.3, tt)))))))
       (λ q. (send (pos q.0), tt, taken_if (send (pos q.0)) (plan m d) (on_way, (in_range_lem _ q.0 q.1 (omega (arith, q.2, t.sides)), (q.3, tt)))))
 
 pub able_with : (p : Plan) (h : History) → Sound p h → T (active p.mode) → Able p
 able_with p h t k = let st = out p.mode p.content h k t.1.stage in able p.mode p.content h st.0 st.1 k
 
+-- what install finds: nothing is left but itself
+module _ (d : Content) (h : History) (t : Parted d h) (a : Active closing d h) where
+  pub last_one : Pass (checks install (plan closing d)) → (count is_open d.kept ≡ 0) × (sum closing d h.sides ≡ 1)
+  unfolding checks further
+  last_one k =
+      let agreed = eqb→eq (sides_that (unconfirmed d) d) 0 k.1.0 in
+      let waits = eqb→eq (count is_waiting d.kept) 0 k.1.1.0 in
+      let sent : (s : ℕ) → 0 < s → s ≤ h.sides → unsent_of s d.kept ≡ 0 = λ s p q.
+      let c = count_to-zero (unconfirmed d) (length d.sides) s agreed p (omega (arith, t.sides)) in
+      which (not (side_at d s).confirmed) _ (a.sides s p q).1 (λ x. absurd (T_not (unconfirmed d s) c x)) (λ x. eqb→eq (unsent_of s d.kept) 0 x)
+      in
+      let unsent = none-unsent h.sides d.kept (rw t.kept t.ground.within) sent in
+      let opened = open_count d.kept in
+      let owing = count_to-none (pending d) h.sides (λ s p q. rw (yes_is (side_at d s).arrived (a.sides s p q).0, sent s p q) tt) in
+      let agreed' : count_to (unconfirmed d) h.sides ≡ 0 = rw t.sides at agreed in
+      (omega arith, omega arith)
+
 -- ---- the number left
 
 number : (m : Mode) (d : Content) (h : History) → Consistent m d h → T (active m) → left_in (plan m d) + closed h ≡ budget h
 number m d h t k = let st = out m d h k t.stage in rw (yes_is (active m) k, st.0.sides) st.1.left
+
+-- a mode that a check found is no joining or closing one
+clash : (k m : Mode) → T (is k m) → T (active m) → T (active k)
+clash k m i a = rw (only k m i) at a
 
 lowered : {c : Call} → Closing c → (m : Mode) (d : Content) (h : History) → Holding m d → Consistent m d h → T (active m) → Pass (checks c (plan m d)) → left_in (plan m d) ≡ suc (left_in (after c m d))
 unfolding after entered gives checks further
@@ -295,12 +385,6 @@ module _ (p : Plan) (xs : List Settling) (told : Reported p.content.kept xs) (n 
     told-outcome : ((settled_as n xs).0 ≡ 3) ⊎ ((settled_as n xs).0 ≡ 4)
     told-outcome = rw (ap (λ x. x.0) all_told) (three_or_four found.fate shut)
 
--- ---- a replay that is accepted
-
-replayed-follows : (m : Mode) (d : Content) (h : History) → Consistent m d h → (n : ℤ) → Pass (checks (replay n) (plan m d)) → T (no36 d.kept (natural n)).passes
-unfolding checks further
-replayed-follows m d h t n c = replay-follows d h (out m d h c.0 t.stage).0 (natural n) c.1.1.0 c.1.1.1.0
-
 -- ---- just after an install
 
 just_installed : (m : Mode) (d : Content) (h : History) → Consistent m d h → Pass (checks install (plan m d)) → Installed (after install m d) h
@@ -360,18 +444,23 @@ guaranteed p h sound =
       carried = λ a cs q. carried cs p h sound a q;
       exhausted = λ a cs k s. exhausted cs p h sound a k s;
       installed = λ y. rw (moves install p y) (just_installed p.mode p.content h t (if_taken install p y));
-      settled_order = settled_order p h sound;
       once = λ n. at_most_once p h.settlings t.reported n;
       kept = λ n k. (t.ordered.1 n k).kept;
       told-fate = λ n k. told-fate p h.settlings t.reported n (settled-found p h.settlings t.reported n k);
       ordered = t.ordered.0;
-      follows = λ n y. replayed-follows p.mode p.content h t n (if_taken (replay n) p y);
       passed_on = λ n k. (t.ordered.1 n k).passes;
       chain-accepted = accepted-chain h.kept h.settlings t.ordered.1 judged;
       sides-hold = λ k s has. let i = range (length p.content.sides) s has in all-nth (λ x. holds p.content.rules x.values) absent_side p.content.sides s (g.sides k) i.0 i.1;
       base-holds = g.base;
       draft-holds = g.draft;
     }
+
+pub started : Sound start empty
+started = (holding_start, record { mode = refl; rules = refl; next = omega arith; reported = λ n. refl; ordered = (tt, λ n k. absurd (omega arith)); stage = refl })
+
+pub sound_run : (cs : List Call) (p : Plan) (h : History) → Sound p h → Sound (run cs (record { plan = p; history = h })).plan (run cs (record { plan = p; history = h })).history
+sound_run [] p h t = t
+sound_run (c ∷ cs) p h t = sound_run cs (following p c) (noting p h c) (sound_step c p h t)
 
 pub guarantee : ForEveryList
 guarantee cs = guaranteed _ _ (sound_run cs start empty started)

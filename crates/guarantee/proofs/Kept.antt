@@ -10,10 +10,9 @@ use lib.ListN.{length}
 use lib.Dec.{T, T_not, not_T, eqb, eqb→eq, eqb_refl}
 use lib.IntN.{pos}
 use Rattle.protocol.specs.Lists.{bit, one_to, count, all, snoc}
-use Rattle.protocol.specs.Plan.{Edit, Fate, unsent, waiting, accepted, revoked, fate_number, fate_is, Kept, is_unsent, is_waiting, is_open, is_settled, absent_edit, lookup, unsent_of, lowest_waiting}
+use Rattle.protocol.specs.Plan.{Edit, Fate, unsent, waiting, accepted, revoked, fate_number, fate_is, Kept, is_unsent, is_waiting, is_open, is_settled, absent_edit, lookup, unsent_of}
 use Rattle.protocol.specs.Calls.{mark_sent, settled, update, fate_in}
 use Rattle.protocol.specs.History.{Entry, Settling, times, settled_as, listed, edit_in}
-use Rattle.protocol.proofs.Lowest.{lowest_most, Ascending, lowest_here, lowest_later}
 use Rattle.protocol.proofs.Laws.{on, decide, cases, bit_yes, bit-no, bit-zero, yes_is, is_yes, both, and_in, or_left, or_right, range, count_map}
 
 abbrev pub edits_of : List Kept → List Edit
@@ -193,43 +192,26 @@ pub lookup_old : (n : ℕ) (ks : List Kept) (k : Kept) → n ≢ k.edit.number �
 lookup_old n [] k h = rw (ne_eqb n k.edit.number h)
 lookup_old n (x ∷ ks) k h = let ih = lookup_old n ks k h in cases (eqb n x.edit.number) (λ t. rw t) (λ t. rw t ih)
 
--- an edit that is found names one with a lower number
-pub earlier-lower : (p : Kept → Bool) (lo : ℕ) (ks : List Kept) (hi n : ℕ) → T (not (p absent_edit)) → Rising lo (edits_of ks) hi → T (p (lookup n ks)) → (lookup n ks).edit.earlier < n
-earlier-lower p lo [] hi n z r u = absurd (T_not (p absent_edit) z u)
-earlier-lower p lo (k ∷ ks) hi n z r u =
-    let ih = earlier-lower p (suc k.edit.number) ks hi n z r.2 in
-    cases (eqb n k.edit.number)
-    (λ t. rw t (let i = eqb-true n k.edit.number t in omega (arith, i, r.1)))
-    (λ t. rw t (ih (rw t at u)))
+-- none waits, or one that may be replayed
+abbrev pub FirstWaiting : ℕ → List Kept → Type 0
+FirstWaiting lo ks = (count is_waiting ks ≡ 0) ⊎ ((n : ℕ) × (lo ≤ n) × T (is_waiting (lookup n ks)) × T (not (is_waiting (lookup (lookup n ks).edit.earlier ks))))
 
--- the lowest of those that wait names none that waits (02, S-4)
-pub lowest-follows : (lo : ℕ) (ks : List Kept) (hi n : ℕ) → Rising lo (edits_of ks) hi → T (is_waiting (lookup n ks)) → n ≡ lowest_waiting ks
-    → T (not (is_waiting (lookup (lookup n ks).edit.earlier ks)))
-lowest-follows lo ks hi n r w e = not_T (is_waiting (lookup (lookup n ks).edit.earlier ks))
-    (λ u.
-    let below = lowest_most (lookup n ks).edit.earlier ks u in
-    let lower = earlier-lower is_waiting lo ks hi n tt r w in
-    omega (arith, below, lower, e))
-
-pub rising_ascends : (lo : ℕ) (ks : List Kept) (hi : ℕ) → Rising lo (edits_of ks) hi → (b : ℕ) → b ≤ lo → Ascending b ks
-rising_ascends lo [] hi r b h = tt
-rising_ascends lo (k ∷ ks) hi r b h = (omega (arith, r.0), rising_ascends (suc k.edit.number) ks hi r.2 k.edit.number (omega arith))
-
--- none waits, or the lowest of those that do may be replayed
-abbrev pub LowestWaits : List Kept → Type 0
-LowestWaits ks = (count is_waiting ks ≡ 0) ⊎ T (is_waiting (lookup (lowest_waiting ks) ks))
-
-pub lowest_waits : (lo : ℕ) (ks : List Kept) (hi : ℕ) → Rising lo (edits_of ks) hi → LowestWaits ks
-lowest_waits lo [] hi r = inl refl
-lowest_waits lo (k ∷ ks) hi r =
-    let ih = lowest_waits (suc k.edit.number) ks hi r.2 in
-    cases (is_waiting k)
-    (λ t. inr (rw (lowest_here lo k ks (rising_ascends lo (k ∷ ks) hi r lo (omega arith)) t, eq-eqb k.edit.number k.edit.number refl) (is_yes t)))
+pub first_waiting_lem : (lo : ℕ) (ks : List Kept) (hi : ℕ) → Rising lo (edits_of ks) hi → FirstWaiting lo ks
+first_waiting_lem lo [] hi r = inl refl
+first_waiting_lem lo (k ∷ ks) hi r =
+    let here : T (is_waiting k) → FirstWaiting lo (k ∷ ks) = λ t.
+    let i = eq-eqb k.edit.number k.edit.number refl in
+    let j = ne_eqb k.edit.earlier k.edit.number (λ l. omega arith) in
+    let z = not_T (is_waiting (lookup k.edit.earlier ks)) (λ u. let b = bounds is_waiting _ ks hi k.edit.earlier tt r.2 u in omega arith) in
+    inr (k.edit.number, r.0, rw i t, rw (i, j) z)
+    in
+    let ih = first_waiting_lem (suc k.edit.number) ks hi r.2 in
+    decide (is_waiting k) here
     (λ t. on ih
-    (λ z. inl (rw t (omega arith)))
-    (λ w.
-    let far = bounds is_waiting (suc k.edit.number) ks hi (lowest_waiting ks) tt r.2 w in
-    inr (rw (lowest_later k ks t, ne_eqb (lowest_waiting ks) k.edit.number (λ i. omega (arith, far.0, i))) w)))
+    (λ l. let x = bit-no (is_waiting k) t in inl (omega arith))
+    (λ q.
+    let i = ne_eqb q.0 k.edit.number (λ l. omega (arith, q.1)) in
+    inr (q.0, omega (arith, q.1), rw i q.2, rw i (cases (eqb (lookup q.0 ks).edit.earlier k.edit.number) (λ u. rw u t) (λ u. rw u q.3)))))
 
 -- ---- what the plan says of an edit's fate, and what the history does
 

@@ -69,7 +69,7 @@ module _ (n : ℕ) (b : Bool) (place : ℕ) (ks : List Kept) (waits : T (is_wait
   abbrev now : List Kept
   now = update n (settled b place) ks
 
-  pub counted_now : (p : Kept → Bool) (x y : Bool) → p (lookup n ks) ≡ x → p (settled b place (lookup n ks)) ≡ y → count p now + bit x ≡ count p ks + bit y
+  counted_now : (p : Kept → Bool) (x y : Bool) → p (lookup n ks) ≡ x → p (settled b place (lookup n ks)) ≡ y → count p now + bit x ≡ count p ks + bit y
   counted_now p x y e f = let c = count_settle n b place p ks waits in let i = ap bit e in let j = ap bit f in omega arith
 
   pub unsent-settled : (x : ℕ) → unsent_of x now ≡ unsent_of x ks

@@ -2,10 +2,9 @@
 use Rattle.std.specs.Prelude.{ℕ, zero, suc, ◌+◌, ◌<◌, ◌≤◌, ◌≡◌, ◌⊎◌, not, cond, ◌||◌, List, [], ◌∷◌, ◌++◌, length, T, leb, ℤ, pos}
 use Rattle.protocol.specs.Lists.{bit, one_to, natural, all, snoc}
 use Rattle.protocol.specs.Plan.{Plan, blank, whole, split, is, active, holds, side_at}
-use Rattle.protocol.specs.Calls.{Call, is_refusal, no36, edit, replay, install, show, fate_of_edit, left, no, ok, left_in, step, following, end}
+use Rattle.protocol.specs.Calls.{Call, is_refusal, edit, install, show, fate_of_edit, left, no, ok, left_in, step, following, end}
 use Rattle.protocol.specs.History.{History, Entry, Settling, closed, budget, is_late, listed, edit_in, times, settled_as, replayed, EachHolds}
 use Rattle.guarantee.specs.Runs.{closes, edits, reads, accepts, noting, quiet, closings, taken, from_blank, Trace}
-use Rattle.guarantee.specs.Settled.{SettledOrder}
 
 -- Each settled edit names 0 or an edit settled before it (settlings stand newest first).
 abbrev pub InOrder : List Settling → Type 0
@@ -93,8 +92,6 @@ pub record Guarantee (p : Plan) (h : History) : Type 0 where
   pub exhausted : T (active p.mode) → (cs : List Call) → T (all closes cs) → Stuck (end cs p) → (length (taken cs p) ≡ left_in p) × ((before : List Call) × (taken cs p ≡ snoc before install))
   -- What holds just after an install.
   pub installed : T (accepts p install) → Installed (following p install) h
-  -- What is installed does not hang on how a join is carried on behind the last send (02, S-4).
-  pub settled_order : SettledOrder p
   -- At all times: no edit is settled twice,
   pub once : (n : ℕ) → times n h.settlings ≤ 1
   -- and none that is not kept,
@@ -103,8 +100,6 @@ pub record Guarantee (p : Plan) (h : History) : Type 0 where
   pub told-fate : (n : ℕ) → 0 < times n h.settlings → (step (fate_of_edit (pos n)) p).answer ≡ ok (pos (settled_as n h.settlings).0 ∷ pos (settled_as n h.settlings).1 ∷ [])
   -- and no edit is settled before the one that it names as earlier (condition 2).
   pub ordered : InOrder h.settlings
-  -- Where the checks 31, 34, 35 and 42 of a replay pass, its earlier edit is not waiting: 36 never occurs (02, S-4).
-  pub follows : (n : ℤ) → T (accepts p (replay n)) → T (no36 p.content.kept (natural n)).passes
   -- A settled edit whose earlier edit was revoked is itself revoked (02, S-2);
   pub passed_on : (n : ℕ) → 0 < times n h.settlings → (settled_as (edit_in n h.kept).earlier h.settlings).0 ≡ 4 → (settled_as n h.settlings).0 ≡ 4
   -- so an accepted edit has only accepted ones before it along its chain of earlier edits.

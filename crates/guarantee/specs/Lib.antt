@@ -1,4 +1,3 @@
 pub mod Holding
 pub mod Runs
-pub mod Settled
 pub mod Guarantee

@@ -9,7 +9,7 @@ use Rattle.protocol.specs.Plan.{Plan}
 use Rattle.protocol.specs.Calls.{Call, show, Answer, Verdict, fine, refused, first, checks, further, step_by, step, start, shown_by, shown}
 use Rattle.protocol.specs.History.{History, recorded}
 use Rattle.protocol.proofs.Laws.{cases, Fine}
-use Rattle.guarantee.proofs.Sound.{reading}
+use Rattle.guarantee.proofs.Guaranteed.{reading}
 use Rattle.acts.specs.Acts.{call, loading, work, done_by, entered_as, ActTrace, begun, acted}
 use Rattle.acts.proofs.Reached.{call-noted}
 use Rattle.acts.proofs.Acting.{guarantee_acts_traced}

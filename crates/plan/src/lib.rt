@@ -10,7 +10,7 @@ ghost use Rattle.state.specs.Meets.{Meets};
 ghost use Rattle.plan.specs.Turns.{Turns};
 
 pub use load::load;
-use protocol::{call, limit};
+use protocol::call;
 pub use query::{show, show_in};
 use reader::Line;
 use records::Test;
@@ -32,19 +32,19 @@ fn turn(p: State, l: Line) -> Answered
     let mut table = p.table;
     let mut edits = p.edits;
     let mut index = [0i32; 512];
-    // An edit needs no counts and no tags, and making them copies the kept edits.
+    // An edit needs no counts, and counting copies the kept edits.
     let mut counts = counts::no_tallies();
-    let mut tags = [0u8; limit::EDITS];
     if l.op != call::EDIT {
-        let g = records::tags(edits, h);
-        let t = query::tallies(edits, h, &g, &p.arrived, &p.confirmed);
-        tags = g;
+        let t = query::tallies(edits, h, &p.arrived, &p.confirmed);
         counts = t;
     }
     let named = calls::first_look(l, h);
-    let looked = heads::slot(named);
-    let standing = edits[looked];
-    let look = calls::looking(named, standing);
+    let first_slot = heads::slot(named);
+    let standing = edits[first_slot];
+    let next = calls::second_look(l, h, named, standing);
+    let second_slot = heads::slot(next);
+    let seen = edits[second_slot];
+    let look = calls::looking(named, standing, next, seen);
     let e = calls::make(
         l,
         &mut head,
@@ -57,7 +57,6 @@ fn turn(p: State, l: Line) -> Answered
         &mut index,
         look,
         &mut counts,
-        &mut tags,
         false,
     );
     if e.kept {

@@ -1,7 +1,7 @@
 -- Believed: the calls (01, "The calls" and "Who can be told no, and why"): when each is refused, what it gives, the plan after it. Assumes nothing.
 use Rattle.std.specs.Prelude.{ℕ, suc, ◌+◌, Bool, true, false, not, cond, ◌&&◌, ◌||◌, List, [], ◌∷◌, ◌++◌, map, length, drop, eqb, leb, ltb, ℤ, pos}
 use Rattle.protocol.specs.Lists.{bit, is_none, one_to, neg, within, natural, is_zero, count, any, snoc, modify}
-use Rattle.protocol.specs.Plan.{measure_limit, rule_limit, gap_limit, side_limit, kept_limit, client_limit, number_limit, Rule, Change, kind_of, Edit, Fate, unsent, waiting, accepted, revoked, fate_number, is_unsent, is_waiting, is_revoked, is_open, is_settled, Kept, Side, Mode, blank, whole, split, joining, closing, is, active, Content, Plan, in_range, holds, firmly_named, allowed, made, fits, effective, side_at, lookup, unsent_of, lowest_waiting, pending, sides_that}
+use Rattle.protocol.specs.Plan.{measure_limit, rule_limit, gap_limit, side_limit, kept_limit, client_limit, number_limit, Rule, Change, kind_of, Edit, Fate, unsent, waiting, accepted, revoked, fate_number, is_unsent, is_waiting, is_revoked, is_open, is_settled, Kept, Side, Mode, blank, whole, split, joining, closing, is, active, Content, Plan, in_range, holds, firmly_named, allowed, made, fits, effective, side_at, lookup, unsent_of, pending, sides_that}
 
 -- ---- the fourteen calls with their numbers, which may be any whole numbers; show also has the length of the lent buffer
 
@@ -119,7 +119,6 @@ no34 d = 34 unless is_none (sides_that (λ s. not (side_at d s).arrived) d)
 abbrev pub no35 : List Kept → ℕ → Check
 no35 ks n = 35 unless is_waiting (lookup n ks)
 
--- no call is refused so since S-4 (02): the guarantee says that 36 never occurs where the checks of a replay pass
 abbrev pub no36 : List Kept → ℕ → Check
 no36 ks n = 36 when is_waiting (lookup (lookup n ks).edit.earlier ks)
 
@@ -135,10 +134,6 @@ no39 d s = 39 when (side_at d s).confirmed
 abbrev pub no40 : Content → Check
 no40 d = 40 unless is_none (sides_that (λ s. not (side_at d s).confirmed) d)
 
--- the waiting edit named is not the lowest (02, S-4)
-abbrev pub no42 : List Kept → ℕ → Check
-no42 ks n = 42 unless eqb n (lowest_waiting ks)
-
 -- the host program
 
 abbrev pub no41 : List ℤ → ℕ → Check
@@ -151,7 +146,7 @@ refusals =
     11 ∷ 12 ∷ 13 ∷ 14 ∷ 15 ∷ 16 ∷ 17
     ∷ 21
     ∷ 22 ∷ 23 ∷ 24 ∷ 25 ∷ 26 ∷ 27 ∷ 30 ∷ 28 ∷ 29
-    ∷ 31 ∷ 32 ∷ 33 ∷ 34 ∷ 35 ∷ 37 ∷ 38 ∷ 39 ∷ 40 ∷ 42
+    ∷ 31 ∷ 32 ∷ 33 ∷ 34 ∷ 35 ∷ 36 ∷ 37 ∷ 38 ∷ 39 ∷ 40
     ∷ 41 ∷ []
 
 abbrev pub is_refusal : ℕ → Bool
@@ -199,7 +194,7 @@ further (edit s client n m kind k) mode d =
     ∷ no26 mode d.rules (natural m) ∷ no27 mode d.kept ∷ no30 d.next ∷ no28 vs (natural m) ch ∷ no29 d.rules vs (natural m) ch ∷ []
 further join m d = []
 further (send s) m d = no21 d.sides s ∷ no33 d (natural s) ∷ []
-further (replay n) m d = no34 d ∷ no35 d.kept (natural n) ∷ no42 d.kept (natural n) ∷ []
+further (replay n) m d = no34 d ∷ no35 d.kept (natural n) ∷ no36 d.kept (natural n) ∷ []
 further stop m d = no34 d ∷ no37 d.kept ∷ []
 further (confirm s) m d = no21 d.sides s ∷ no39 d (natural s) ∷ no38 d.kept (natural s) ∷ []
 further install m d = no40 d ∷ no37 d.kept ∷ []

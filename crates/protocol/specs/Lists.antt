@@ -1,5 +1,5 @@
 -- Believed: counting, looking up and changing, over any list; ranges of whole numbers. Assumes nothing.
-use Rattle.std.specs.Prelude.{ℕ, zero, suc, ◌+◌, min, Bool, true, false, cond, ◌&&◌, ◌||◌, List, [], ◌∷◌, ◌++◌, get_or, eqb, leb, ltb, ℤ, pos, negsuc, neg_ℤ}
+use Rattle.std.specs.Prelude.{ℕ, zero, suc, ◌+◌, Bool, true, false, cond, ◌&&◌, ◌||◌, List, [], ◌∷◌, ◌++◌, get_or, eqb, leb, ltb, ℤ, pos, negsuc, neg_ℤ}
 use Rattle.std.specs.Int.Signed.{le_z}
 
 abbrev pub bit : Bool → ℕ
@@ -17,12 +17,6 @@ one_to k n = ltb 0 n && leb n k
 abbrev pub count_to : (ℕ → Bool) → ℕ → ℕ
 count_to f zero = 0
 count_to f (suc n) = bit (f (suc n)) + count_to f n
-
--- the least of some numbers; 0 where there is none
-abbrev pub least : List ℕ → ℕ
-least [] = 0
-least (n ∷ []) = n
-least (n ∷ m ∷ ns) = min n (least (m ∷ ns))
 
 -- minus n
 abbrev pub neg : ℕ → ℤ
@@ -63,11 +57,6 @@ module _ {A : Type 0} where
   abbrev pub first_not : (A → Bool) → (A → ℕ) → List A → ℕ
   first_not p number [] = 0
   first_not p number (x ∷ xs) = cond (p x) (first_not p number xs) (number x)
-
-  -- the list up to and with the last that passes a test; none of it where none does
-  abbrev pub through_last : (A → Bool) → List A → List A
-  through_last p [] = []
-  through_last p (x ∷ xs) = cond (any p (x ∷ xs)) (x ∷ through_last p xs) []
 
   -- the list with one element more
   abbrev pub snoc : List A → A → List A

@@ -1,7 +1,7 @@
 -- Believed: the plan (01, "The plan"): what it holds, what a change does, when it takes effect. Assumes nothing.
-use Rattle.std.specs.Prelude.{ℕ, zero, ◌+◌, Bool, false, not, cond, ◌&&◌, ◌||◌, List, [], ◌∷◌, map, length, eqb, ltb, ℤ, pos, ◌+ℤ◌, ◌*ℤ◌}
+use Rattle.std.specs.Prelude.{ℕ, zero, ◌+◌, Bool, false, not, cond, ◌&&◌, ◌||◌, List, [], ◌∷◌, length, eqb, ltb, ℤ, pos, ◌+ℤ◌, ◌*ℤ◌}
 use Rattle.std.specs.Int.Signed.{lt_z, quot_z}
-use Rattle.protocol.specs.Lists.{count_to, least, neg, within, count, all, any, passing, nth, modify}
+use Rattle.protocol.specs.Lists.{count_to, neg, within, count, all, any, nth, modify}
 
 -- ---- limits
 
@@ -224,10 +224,6 @@ lookup n (k ∷ ks) = cond (eqb n k.edit.number) k (lookup n ks)
 
 abbrev pub unsent_of : ℕ → List Kept → ℕ
 unsent_of s ks = count (λ k. is_unsent k && eqb k.edit.side s) ks
-
--- the lowest number of a waiting edit; 0 where none waits
-abbrev pub lowest_waiting : List Kept → ℕ
-lowest_waiting ks = least (map (λ k. k.edit.number) (passing is_waiting ks))
 
 -- a side whose first log has not arrived or that has unsent edits
 abbrev pub pending : Content → ℕ → Bool

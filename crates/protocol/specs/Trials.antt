@@ -115,7 +115,7 @@ table =
     -- P8
     ∷ record {
       calls = pair 0 ++ (split_off 1 ∷ change 1 5 0 1 2 1 ∷ change 1 5 1 1 2 1 ∷ join ∷ sends 1 ∷ sends 2 ∷ replays 2 ∷ []);
-      last = no 42 ∷ [];
+      last = no 36 ∷ [];
     }
     -- P9
     ∷ record { calls = pair 0 ++ (split_off 1 ∷ join ∷ sends 1 ∷ sends 1 ∷ []); last = gave 0 ∷ no 33 ∷ [] }
@@ -152,28 +152,12 @@ table =
     -- a chain of three: the third is revoked for the second, which was revoked for the first; what is built on an accepted edit is tested
     ∷ record {
       calls = built ++ (replays 4 ∷ replays 3 ∷ replays 4 ∷ replays 5 ∷ asks 4 ∷ asks 5 ∷ stop ∷ confirms 1 ∷ confirms 2 ∷ install ∷ shows 1 2 ∷ []);
-      last = no 42 ∷ gave 4 ∷ gave 4 ∷ gave 3 ∷ pair_of 4 4 ∷ pair_of 3 5 ∷ done ∷ done ∷ done ∷ done ∷ pair_of 4 13 ∷ [];
+      last = no 36 ∷ gave 4 ∷ gave 4 ∷ gave 3 ∷ pair_of 4 4 ∷ pair_of 3 5 ∷ done ∷ done ∷ done ∷ done ∷ pair_of 4 13 ∷ [];
     }
     -- it acts at replay alone: a revoked edit may be named, while joining and while whole
     ∷ record {
-      calls = built ++ (change 2 6 2 2 2 5 ∷ sends 2 ∷ replays 3 ∷ replays 4 ∷ replays 5 ∷ replays 6 ∷ stop ∷ confirms 1 ∷ confirms 2 ∷ install ∷ change 1 6 6 2 2 5 ∷ shows 1 2 ∷ []);
-      last = gave 6 ∷ gave 1 ∷ gave 4 ∷ gave 4 ∷ gave 3 ∷ gave 4 ∷ done ∷ done ∷ done ∷ done ∷ gave 7 ∷ pair_of 4 18 ∷ [];
-    }
-    -- S-4, the lowest of those that wait alone: 34, then 35 of one that does not wait, then 42
-    ∷ record {
-      calls = joined ++ (sends 1 ∷ replays 2 ∷ sends 2 ∷ replays 3 ∷ replays 2 ∷ replays 1 ∷ replays 1 ∷ replays 2 ∷ []);
-      last = no 34 ∷ gave 1 ∷ no 35 ∷ no 42 ∷ gave 3 ∷ no 35 ∷ gave 4 ∷ [];
-    }
-    -- an unsent edit does not wait, so that edit 2 comes before edit 1; once that is sent, it comes first, and edit 3 names none that waits
-    ∷ record {
-      calls = late_edit ++ (change 2 1 0 2 2 1 ∷ sends 2 ∷ replays 1 ∷ replays 2 ∷ change 2 1 0 2 2 1 ∷ sends 2 ∷ sends 1 ∷ replays 3 ∷ replays 1 ∷ replays 3 ∷ []);
-      last = gave 2 ∷ gave 1 ∷ no 35 ∷ gave 3 ∷ gave 3 ∷ gave 1 ∷ gave 1 ∷ no 42 ∷ gave 3 ∷ gave 3 ∷ [];
-    }
-    -- numbers go on over an install: of edits 5 and 6, the first two of another split, 5 comes first; while closing too
-    ∷ record {
-      calls = sheet ++ (change 1 5 0 1 2 1 ∷ split_off 1 ∷ change 2 5 0 1 2 1 ∷ change 1 6 0 2 2 1 ∷ join ∷ sends 1 ∷ sends 2 ∷ replays 6 ∷ replays 5 ∷ replays 6
-          ∷ change 1 6 0 1 2 1 ∷ change 2 5 0 2 2 1 ∷ stop ∷ sends 2 ∷ sends 1 ∷ replays 8 ∷ replays 7 ∷ replays 8 ∷ []);
-      last = no 42 ∷ gave 3 ∷ gave 3 ∷ gave 7 ∷ gave 8 ∷ done ∷ gave 1 ∷ gave 1 ∷ no 42 ∷ gave 3 ∷ gave 3 ∷ [];
+      calls = built ++ (change 2 6 2 2 2 5 ∷ sends 2 ∷ replays 6 ∷ replays 3 ∷ replays 4 ∷ replays 5 ∷ stop ∷ confirms 1 ∷ confirms 2 ∷ install ∷ change 1 6 6 2 2 5 ∷ shows 1 2 ∷ []);
+      last = gave 6 ∷ gave 1 ∷ gave 4 ∷ gave 4 ∷ gave 4 ∷ gave 3 ∷ done ∷ done ∷ done ∷ done ∷ gave 7 ∷ pair_of 4 18 ∷ [];
     }
     -- the sheet's number left, fates and places to its end
     ∷ record {

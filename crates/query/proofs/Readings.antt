@@ -92,7 +92,7 @@ fate_unrefused p i e h = rw h (cases (eqb i 0) (λ t. rw t tt) (λ t. rw t tt))
 
 -- ---- left
 
-pub counts_length : (h : Head) (es : List EditRecord) (n : ℕ) → length (unsent_counts h es n) ≡ 13
+pub counts_length : (h : Head) (es : List EditRecord) (n : ℕ) → length (unsent_counts h es n) ≡ 12
 unfolding unsent_counts
 counts_length h es zero = refl
 counts_length h es (suc n) = length-set (unsent_counts h es n) n (unsent_of (suc n) (kept_of h es)) ∙ counts_length h es n
@@ -132,39 +132,31 @@ left-same h arrived confirmed t u k e =
     let same : pending_in arrived t (sides_in h) ≡ pending_in arrived u (sides_in h) = count_to-same _ _ (sides_in h) (λ s a b. ap (λ n. not (get_or arrived (index_of s) false) || ltb 0 n) (e s)) in
     rw same
 
--- the five numbers stored behind those of the sides
-module _ (t : List ℕ) (w s l m f : ℕ) where
+-- the four counts stored behind those of the sides
+module _ (t : List ℕ) (w s l m : ℕ) where
   abbrev pub behind : List ℕ
-  behind = set (set (set (set (set t 8 w) 9 s) 10 l) 11 m) 12 f
+  behind = set (set (set (set t 8 w) 9 s) 10 l) 11 m
 
   -- those of the sides stay
   pub behind-side : (x : ℕ) → get_or behind (index_of x) 0 ≡ get_or t (index_of x) 0
   behind-side x =
-      get_or-other (set (set (set (set t 8 w) 9 s) 10 l) 11 m) 12 (index_of x) f 0 (λ e. omega arith)
-      ∙ get_or-other (set (set (set t 8 w) 9 s) 10 l) 11 (index_of x) m 0 (λ e. omega arith) ∙ get_or-other (set (set t 8 w) 9 s) 10 (index_of x) l 0 (λ e. omega arith)
+      get_or-other (set (set (set t 8 w) 9 s) 10 l) 11 (index_of x) m 0 (λ e. omega arith) ∙ get_or-other (set (set t 8 w) 9 s) 10 (index_of x) l 0 (λ e. omega arith)
       ∙ get_or-other (set t 8 w) 9 (index_of x) s 0 (λ e. omega arith) ∙ get_or-other t 8 (index_of x) w 0 (λ e. omega arith)
 
-  pub behind-length : length t ≡ 13 → length behind ≡ 13
-  behind-length n =
-      length-set (set (set (set (set t 8 w) 9 s) 10 l) 11 m) 12 f ∙ length-set (set (set (set t 8 w) 9 s) 10 l) 11 m
-      ∙ length-set (set (set t 8 w) 9 s) 10 l ∙ length-set (set t 8 w) 9 s ∙ length-set t 8 w ∙ n
+  pub behind-length : length t ≡ 12 → length behind ≡ 12
+  behind-length n = length-set (set (set (set t 8 w) 9 s) 10 l) 11 m ∙ length-set (set (set t 8 w) 9 s) 10 l ∙ length-set (set t 8 w) 9 s ∙ length-set t 8 w ∙ n
 
   -- and each is what was stored
-  pub behind-stored : length t ≡ 13 → (get_or behind 8 0 ≡ w) × (get_or behind 9 0 ≡ s) × (get_or behind 10 0 ≡ l) × (get_or behind 11 0 ≡ m) × (get_or behind 12 0 ≡ f)
+  pub behind-stored : length t ≡ 12 → (get_or behind 8 0 ≡ w) × (get_or behind 9 0 ≡ s) × (get_or behind 10 0 ≡ l) × (get_or behind 11 0 ≡ m)
   behind-stored n =
       let a = length-set t 8 w ∙ n in
       let b = length-set (set t 8 w) 9 s ∙ a in
-      let c = length-set (set (set t 8 w) 9 s) 10 l ∙ b in
-      let d = length-set (set (set (set t 8 w) 9 s) 10 l) 11 m ∙ c in
-      let past : (j : ℕ) → j < 12 → get_or behind j 0 ≡ get_or (set (set (set (set t 8 w) 9 s) 10 l) 11 m) j 0 =
-      λ j k. get_or-other (set (set (set (set t 8 w) 9 s) 10 l) 11 m) 12 j f 0 (λ e. omega arith) in (
-        past 8 (omega arith) ∙ get_or-other (set (set (set t 8 w) 9 s) 10 l) 11 8 m 0 (λ e. omega arith) ∙ get_or-other (set (set t 8 w) 9 s) 10 8 l 0 (λ e. omega arith)
-            ∙ get_or-other (set t 8 w) 9 8 s 0 (λ e. omega arith) ∙ get_d_set t 8 w 0 (omega arith),
-        past 9 (omega arith) ∙ get_or-other (set (set (set t 8 w) 9 s) 10 l) 11 9 m 0 (λ e. omega arith) ∙ get_or-other (set (set t 8 w) 9 s) 10 9 l 0 (λ e. omega arith)
-            ∙ get_d_set (set t 8 w) 9 s 0 (omega arith),
-        past 10 (omega arith) ∙ get_or-other (set (set (set t 8 w) 9 s) 10 l) 11 10 m 0 (λ e. omega arith) ∙ get_d_set (set (set t 8 w) 9 s) 10 l 0 (omega arith),
-        past 11 (omega arith) ∙ get_d_set (set (set (set t 8 w) 9 s) 10 l) 11 m 0 (omega arith),
-        get_d_set (set (set (set (set t 8 w) 9 s) 10 l) 11 m) 12 f 0 (omega arith),
+      let c = length-set (set (set t 8 w) 9 s) 10 l ∙ b in (
+        get_or-other (set (set (set t 8 w) 9 s) 10 l) 11 8 m 0 (λ e. omega arith) ∙ get_or-other (set (set t 8 w) 9 s) 10 8 l 0 (λ e. omega arith) ∙ get_or-other (set t 8 w) 9 8 s 0 (λ e. omega arith)
+            ∙ get_d_set t 8 w 0 (omega arith),
+        get_or-other (set (set (set t 8 w) 9 s) 10 l) 11 9 m 0 (λ e. omega arith) ∙ get_or-other (set (set t 8 w) 9 s) 10 9 l 0 (λ e. omega arith) ∙ get_d_set (set t 8 w) 9 s 0 (omega arith),
+        get_or-other (set (set (set t 8 w) 9 s) 10 l) 11 10 m 0 (λ e. omega arith) ∙ get_d_set (set (set t 8 w) 9 s) 10 l 0 (omega arith),
+        get_d_set (set (set (set t 8 w) 9 s) 10 l) 11 m 0 (omega arith),
       )
 
 -- ---- show

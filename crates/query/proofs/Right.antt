@@ -20,8 +20,6 @@ use Rattle.state.specs.declared.Answer.TheVariants.{Refused, Given}
 use Rattle.state.specs.Spread.{plan_of}
 use Rattle.records.specs.declared.EditRecord.{EditRecord}
 use Rattle.records.specs.Records.{kept_at, kept_of, no_record}
-use Rattle.records.specs.Tags.{Tagged, waiting_from}
-use Rattle.records.proofs.Tagging.{first-by_tag}
 use Rattle.heads.specs.declared.Head.{Head}
 use Rattle.heads.specs.Heads.{mode_of, sides_in, end_in, kept_in, named_at, named_slot, unset_in}
 use Rattle.state.specs.Meets.{answer_of, first_of}
@@ -29,7 +27,7 @@ use Rattle.state.proofs.View.{flags_unset}
 use Rattle.state.proofs.Meets.{fine_pass}
 use Rattle.query.specs.Reads.{fate_answer, show_checks, left_number}
 use Rattle.query.proofs.Readings.{fate_is_lem, left_by, show_checks_lem, shown-row}
-use Rattle.counts.specs.Tallies.{settled_in, left_noted, missing_in, lowest_in, Counted, Tallied}
+use Rattle.counts.specs.Tallies.{settled_in, left_noted, missing_in, Counted, Tallied}
 use Rattle.query.specs.declared.Reading.{Reading}
 use Rattle.query.specs.Readings.{read_call, alone, show_by, show_reading, reading_of}
 use Rattle.writer.specs.Writes.{with_row}
@@ -40,10 +38,10 @@ alone-row (Refused k r) = refl
 alone-row (Given count a b c) = ap ok (append-nil (first_of count a b c))
 
 -- counts made from the records, and the number left from them, are the plan's
-pub tallies_right : (p : Spread) (t : List ℕ) → Counted t (kept_of p.head p.edits) → length t ≡ 13 → left_noted t ≡ left_number p.head p.arrived p.confirmed t
+pub tallies_right : (p : Spread) (t : List ℕ) → Counted t (kept_of p.head p.edits) → length t ≡ 12 → left_noted t ≡ left_number p.head p.arrived p.confirmed t
     (min (kept_in p.head - settled_in t) 256)
-    → missing_in t ≡ unset_in p.arrived (sides_in p.head) → {tags : List ℕ} → Tagged tags (kept_in p.head) p.edits → lowest_in t ≡ waiting_from tags 0 p.head → Tallied t (plan_of p)
-tallies_right p t h l e m g f =
+    → missing_in t ≡ unset_in p.arrived (sides_in p.head) → Tallied t (plan_of p)
+tallies_right p t h l e m =
     let ks = (plan_of p).content.kept in
     let c = settled-count ks in
     let n = length-span 0 (kept_in p.head) (λ i. kept_at (end_in p.head - (kept_in p.head - i)) (get_or p.edits i no_record)) in
@@ -52,7 +50,6 @@ tallies_right p t h l e m g f =
     record {
       long = l;
       counted = h;
-      lowest = f ∙ first-by_tag p.head p.edits g 0 (omega arith) (λ i a. absurd (omega arith));
       left = λ a. e ∙ ap (left_number p.head p.arrived p.confirmed t) rest ∙ left_by p t h.unsent ∙ rw (yes_is (active (mode_of p.head.mode)) a);
       missing = λ a. m ∙ sym (flags_unset p (λ x. x.arrived) p.arrived (λ s. refl));
     }

@@ -1,6 +1,6 @@
 // The calls that only read (01, "The calls"): show, fate, left; and the counts of the kept edits.
 ghost use Rattle.std.specs.Prelude.{◌≤◌, min, ◌+◌, ◌-◌, ltb, length, drop, not, ◌||◌, ◌++◌, ◌≡◌};
-ghost use Rattle.counts.specs.Tallies.{settled_in, left_noted, missing_in, lowest_in, Counted, tally_count};
+ghost use Rattle.counts.specs.Tallies.{settled_in, left_noted, missing_in, Counted, tally_count};
 ghost use Rattle.heads.specs.Heads.{mode_of, sides_in, kept_in, unset_in};
 ghost use Rattle.protocol.specs.Calls.{first, shown};
 ghost use Rattle.protocol.specs.Lists.{bit};
@@ -8,7 +8,6 @@ ghost use Rattle.protocol.specs.Plan.{is, joining};
 ghost use Rattle.query.specs.Readings.{show_reading, left_answer, reading_of};
 ghost use Rattle.query.specs.Reads.{fate_answer, show_checks, pending_in, unsent_counts, left_number};
 ghost use Rattle.records.specs.Records.{kept_of};
-ghost use Rattle.records.specs.Tags.{waiting_from};
 ghost use Rattle.rows.specs.Rows.{row};
 ghost use Rattle.state.specs.Meets.{refusal_of};
 ghost use Rattle.state.specs.View.{view};
@@ -16,7 +15,7 @@ ghost use Rattle.state.specs.View.{view};
 use counts::Tallies;
 use heads::{Head, Mode};
 use protocol::{call, limit};
-use records::{EditRecord, Tags, Test};
+use records::{EditRecord, Test};
 use state::{Answer, State};
 
 // ---- fate
@@ -229,17 +228,16 @@ pub fn read(op: u32, a: i32, h: Head, i: usize, seen: EditRecord, left: u32) -> 
     }
 }
 
-// The counts of kept edits, from the records, the number left, how many first logs are missing, and the first edit that waits, from the tags.
+// The counts of kept edits, from the records, the number left and how many first logs are missing.
 pub fn tallies<'a>(
     edits: [EditRecord; limit::EDITS],
     h: Head,
-    tags: &'a Tags,
     arrived: &'a [bool; limit::SIDES],
     confirmed: &'a [bool; limit::SIDES],
 ) -> Tallies
     ensures { Counted result (kept_of h edits) × (length result ≡ tally_count) ×
         (left_noted result ≡ left_number h arrived.now confirmed.now result (min (kept_in h - settled_in result) 256)) ×
-        (missing_in result ≡ unset_in arrived.now (sides_in h)) × (lowest_in result ≡ waiting_from tags.now 0 h) }
+        (missing_in result ≡ unset_in arrived.now (sides_in h)) }
 {
     let mut t = unsent_counts(edits, h);
     let waiting = records::count(edits, h, Test::Waiting);
@@ -247,11 +245,9 @@ pub fn tallies<'a>(
     let unsettled = counts::unsettled(h, settled);
     let left = left_number(h, arrived, confirmed, &t, unsettled);
     let missing = heads::unset(arrived, h);
-    let lowest = records::next_waiting(tags, 0, h);
     t[counts::WAITING] = waiting;
     t[counts::SETTLED] = settled;
     t[counts::LEFT] = left;
     t[counts::MISSING] = missing;
-    t[counts::LOWEST] = lowest as u32;
     t
 }

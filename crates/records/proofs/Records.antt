@@ -35,7 +35,7 @@ any-number Settled m n e = refl
 
 -- ---- look-up by number
 
-pub strict : (i j : ℕ) → i ≤ j → j ≢ i → suc i ≤ j
+strict : (i j : ℕ) → i ≤ j → j ≢ i → suc i ≤ j
 strict i j a z = cases (ltb i j) (λ e. ltb-true i j e) (λ e. absurd (z (let w = ltb-false i j e in omega arith)))
 
 -- The edit numbered n among those at places i, i + 1 and on, numbered by ν: there is none, or the first is at place j, and
@@ -72,7 +72,7 @@ found n ν f i (suc m) h =
         inr (suc j, omega (arith, q.1), ap ν (sym e) ∙ q.2, (λ k a b. before t k a (λ c. q.3 k c (omega arith))), rw t (q.4 ∙ ap f e), λ g. rw t (ap {B = List Kept} (λ xs. f i ∷ xs) (q.5 g)))
 
 -- the numbers of k edits that end below e
-abbrev pub number_at : ℕ → ℕ → ℕ → ℕ
+abbrev number_at : ℕ → ℕ → ℕ → ℕ
 number_at e k i = e - (k - i)
 
 position_none : (e k n : ℕ) → ((j : ℕ) → 0 ≤ j → j < 0 + k → number_at e k j ≢ n) → position_of e k n ≡ 0

@@ -1,25 +1,24 @@
 -- A replay's decision, carried out, is the protocol's step. Assumes nothing.
-use Prim.Native.Nat.{ℕ, suc, min, ◌+◌, ◌<◌, ◌≤◌}
+use Prim.Native.Nat.{ℕ, min, ◌+◌, ◌≤◌}
 use native.Mathlib.Omega.{arith}
 use native.Mathlib.Numerals.{add-one}
 use mathlib.Core.Bool.{Bool, true, false, not, cond, ◌&&◌}
-use mathlib.Core.Path.{◌≡◌, refl, sym, ap, subst, ◌∙◌}
+use mathlib.Core.Path.{◌≡◌, refl, sym, ap, ◌∙◌}
 use mathlib.Core.Logic.{inl, inr}
 use mathlib.Core.List.{List, [], ◌∷◌}
 use lib.IntN.{ℤ, pos}
-use lib.Dec.{T, eqb, eqb→eq}
+use lib.Dec.{T}
 use lib.ListN.{length, get_or, set}
 use lib.Seq.{set-get_or}
 use Rattle.protocol.specs.Lists.{is_none, natural, one_to, count}
 use Rattle.protocol.specs.Plan as model
-use Rattle.protocol.specs.Plan.{active, holds, is_waiting, is_revoked, is_settled, effective, fits, made, applied, value, absent_edit, lookup}
+use Rattle.protocol.specs.Plan.{active, holds, is_revoked, is_settled, effective, fits, made, applied, value, lookup}
 use Rattle.protocol.specs.Broken.{broken_rule}
 use Rattle.protocol.specs.Calls.{Call, replay, Check, Verdict, fine, refused, first, checks, further, built_on_revoked, replayable, settled, outcome, update, next_place, after, gives, ok, step_by, step}
-use Rattle.protocol.proofs.Laws.{cases, is_yes, range, Fine, Pass, passed, pass}
+use Rattle.protocol.proofs.Laws.{cases, is_yes, range, Fine, Pass, passed}
 use Rattle.change.specs.Change.{view_change}
 use Rattle.rows.specs.Rows.{row}
-use borrow.Author.Tests.{eqb-true, eqb-false}
-use Rattle.rows.proofs.Spans.{length-span, row_most, get_d_set, get_or-other, below}
+use Rattle.rows.proofs.Spans.{length-span, row_most}
 use Rattle.rules.specs.Rules.{RuleTest, tested_in}
 use Rattle.rules.specs.Index.{IndexedIf, tested_by}
 use Rattle.rules.proofs.Rules.{made_with, modify_out, tested_all, tested_none, tested_sound, row-set}
@@ -35,12 +34,9 @@ use Rattle.state.specs.Meets.{answer_of}
 use Rattle.state.specs.Spread.{SameIfRefused, MeetsSpread}
 use Rattle.state.specs.Sizes.{Sized}
 use Rattle.state.proofs.View.{plan-same, flags_unset, lookup-named}
-use Rattle.records.specs.Tags.{first_waiting}
 use Rattle.records.proofs.Records.{Placed, placed, log_modify}
-use Rattle.records.proofs.Tagging.{first_found, kept_in_lem}
-use Rattle.records.proofs.Lowest.{lowest-first}
 use Rattle.replay.specs.declared.Outcome.TheVariants.{Settled}
-use Rattle.replay.specs.Replays.{Decision, replay_checks, draft_in, effective_in, broken_in, draft_outcome, settled_by, unless_built, replay_outcome, settled_record, rule_if_settled, replay_decision, point_of, earlier_at, standing_in, revoked_at, replay_from, replay_by, replay_in, stored}
+use Rattle.replay.specs.Replays.{Decision, replay_checks, draft_in, effective_in, broken_in, draft_outcome, settled_by, unless_built, replay_outcome, settled_record, rule_if_settled, replay_decision, point_of, earlier_at, standing_in, replay_from, replay_by, replay_in, stored}
 
 -- what the test of the rules finds counts only where the plan is joining or closing: two tests that then find the same make the same decision
 decision_same : (test test' : RuleTest) (p : Spread) (n : ℤ)
@@ -54,15 +50,14 @@ decision_same test test' p n h = cases (active (mode_of p.head.mode))
     let e = named_in p (natural n) in
     let vs = draft_in p.head p.draft in
     let old = get_or p.draft (point_of e.measure) (pos 0) in
-    let ks = kept_of p.head p.edits in
     ap (λ y.
     let b = fits e.measure (view_change e.change) vs && is_none y in
     replay_decision
-    (settled_by (first (replay_checks (mode_of p.head.mode) (unset_in p.arrived (sides_in p.head)) (kept_at 0 e) (eqb (first_waiting ks) (named_at p.head n))))
-    (unless_built (is_revoked (kept_at 0 (named_in p e.earlier))) old
+    (settled_by (first (replay_checks (mode_of p.head.mode) (unset_in p.arrived (sides_in p.head)) (kept_at 0 e) (kept_at 0 (named_in p e.earlier))))
+    (unless_built (kept_at 0 (named_in p e.earlier)) old
     (Settled b (cond (b && one_to (min p.head.drafted 32) e.measure) (applied (view_change e.change) (value vs e.measure)) old)
     (cond (fits e.measure (view_change e.change) vs) y 0))))
-    (standing_in p n) old (count is_settled ks + 1))
+    (standing_in p n) old (count is_settled (kept_of p.head p.edits) + 1))
     (h (is_yes t)))
     (λ t. rw t)
 
@@ -72,28 +67,28 @@ draft-length p = row_most p.draft 0 p.head.drafted 32
 
 -- how many first logs are missing counts only where the plan is joining or closing
 missing-same : (test : RuleTest) (h : Head) (lower : List ℕ) (gap : List ℤ) (upper : List ℕ) (draft : List ℤ) {missing missing' : ℕ}
-    (lowest i : ℕ) (standing : EditRecord) (built : Bool) (place : ℕ)
+    (i : ℕ) (standing : EditRecord) (j : ℕ) (seen : EditRecord) (place : ℕ)
     → (T (active (mode_of h.mode)) → missing ≡ missing')
-    → replay_from test h lower gap upper draft missing lowest i standing built place ≡ replay_from test h lower gap upper draft missing' lowest i standing built place
+    → replay_from test h lower gap upper draft missing i standing j seen place ≡ replay_from test h lower gap upper draft missing' i standing j seen place
 unfolding replay_outcome
-missing-same test h lower gap upper draft lowest i standing built place e = cases (active (mode_of h.mode))
-    (λ t. ap (λ m. replay_from test h lower gap upper draft m lowest i standing built place) (e (is_yes t)))
+missing-same test h lower gap upper draft i standing j seen place e = cases (active (mode_of h.mode))
+    (λ t. ap (λ m. replay_from test h lower gap upper draft m i standing j seen place) (e (is_yes t)))
     (λ t. rw t)
 
 -- the decision by the outcome that the code finds, with the rules' own index, is the one in the state
-pub replay_decided : (sound : Bool) (p : Spread) (n : ℤ) {i slot lowest place missing : ℕ} {built : Bool} {index : List ℤ} {d : Decision}
-    → i ≡ named_at p.head n → slot ≡ slot_at i → lowest ≡ first_waiting (kept_of p.head p.edits)
-    → built ≡ revoked_at p (earlier_at p.head i (get_or p.edits slot no_record)) → place ≡ count is_settled (kept_of p.head p.edits) + 1
+pub replay_decided : (sound : Bool) (p : Spread) (n : ℤ) {i slot j seat place missing : ℕ} {index : List ℤ} {d : Decision}
+    → i ≡ named_at p.head n → slot ≡ slot_at i → j ≡ earlier_at p.head i (get_or p.edits slot no_record) → seat ≡ slot_at j → place ≡ count is_settled (kept_of p.head p.edits) + 1
     → (T (active (mode_of p.head.mode)) → missing ≡ unset_in p.arrived (sides_in p.head))
-    → d ≡ replay_from (tested_by sound index) p.head p.lower p.gap p.upper p.draft missing lowest i (get_or p.edits slot no_record) built place
+    → d ≡ replay_from (tested_by sound index) p.head p.lower p.gap p.upper p.draft missing i (get_or p.edits slot no_record) j (get_or p.edits seat no_record) place
     → (T (active (mode_of p.head.mode)) → IndexedIf sound index p.lower p.gap p.upper p.firm (min p.head.rules 64))
     → d ≡ replay_in sound p n
-replay_decided sound p n {i = i} {slot = slot} {lowest = lowest} {place = place} {built = built} {index = index} i-is slot_is lowest-is built-is place_is missing-is d-is indexed =
+replay_decided sound p n {i = i} {slot = slot} {j = j} {seat = seat} {place = place} {index = index} i-is slot_is j-is seat-is place_is missing-is d-is indexed =
     let missing = unset_in p.arrived (sides_in p.head) in
     let standing = ap (λ x. get_or p.edits x no_record) (slot_is ∙ ap slot_at i-is) in
-    let lost = built-is ∙ (λ x. revoked_at p (earlier_at p.head (i-is x) (standing x))) in
-    d-is ∙ missing-same (tested_by sound index) p.head p.lower p.gap p.upper p.draft lowest i (get_or p.edits slot no_record) built place missing-is
-    ∙ (λ x. replay_from (tested_by sound index) p.head p.lower p.gap p.upper p.draft missing (lowest-is x) (i-is x) (standing x) (lost x) (place_is x))
+    let earlier = j-is ∙ (λ x. earlier_at p.head (i-is x) (standing x)) in
+    let seen = ap (λ x. get_or p.edits x no_record) (seat-is ∙ ap slot_at earlier) in
+    d-is ∙ missing-same (tested_by sound index) p.head p.lower p.gap p.upper p.draft i (get_or p.edits slot no_record) j (get_or p.edits seat no_record) place missing-is
+    ∙ (λ x. replay_from (tested_by sound index) p.head p.lower p.gap p.upper p.draft missing (i-is x) (standing x) (earlier x) (seen x) (place_is x))
     ∙ decision_same (tested_by sound index) (tested_in sound) p n (λ t. tested_indexed sound index _ p.lower p.gap p.upper p.firm _ _ _ (draft-length p) (indexed t))
 
 -- and its measure's place in the draft is the edit's
@@ -124,19 +119,12 @@ module _ (p : Spread) (z : Sized p) (n : ℤ) where
   ch = view_change e.change
 
   abbrev Checks : List Check
-  Checks = replay_checks (mode_of h.mode) (unset_in p.arrived (sides_in h)) (kept_at 0 e) (eqb (first_waiting (kept_of h p.edits)) (named_at h n))
+  Checks = replay_checks (mode_of h.mode) (unset_in p.arrived (sides_in h)) (kept_at 0 e) (kept_at 0 (named_in p e.earlier))
 
-  -- the decision's checks are the protocol's: where the edit waits it is the lowest exactly if it is the first that does
+  -- the decision's checks are the protocol's
   checks-same : first (checks call (plan_of p)) ≡ first Checks
   unfolding checks further
-  checks-same =
-      let found = ap is_waiting (lookup-named p (natural n)) in
-      rw (flags_unset p (λ x. x.arrived) p.arrived (λ s. refl), found) (cases (is_waiting (kept_at 0 e))
-      (λ w. rw (w, lowest-first h p.edits (natural n) (found ∙ w)))
-      (λ w. rw w))
-
-  pub replay_passed : Pass (checks call (plan_of p)) → Pass Checks
-  replay_passed f = passed Checks (subst Fine checks-same (pass (checks call (plan_of p)) f))
+  checks-same = rw (flags_unset p (λ x. x.arrived) p.arrived (λ s. refl), lookup-named p (natural n), lookup-named p e.earlier)
 
   -- the earlier edit was revoked
   abbrev lost : Bool
@@ -213,29 +201,6 @@ module _ (p : Spread) (z : Sized p) (n : ℤ) where
           (omega arith) (settled_as_lem b (next_place (kept_of h p.edits)) _ (get_or p.edits j no_record))
           ∙ sym (q.5 (settled b (next_place (kept_of h p.edits))))
 
-  -- the edit is the first that waits, so that with another record in its place, of one that does not wait, none waits up to it
-  pub replay-behind : Pass Checks → (r : EditRecord) → is_waiting (kept_at 0 r) ≡ false
-      → (named_at h n ≤ kept_in h) × ((j : ℕ) → j < named_at h n → is_waiting (get_or (kept_of h (set p.edits (named_slot h n) r)) j absent_edit) ≡ false)
-  replay-behind f r settled = by (placed (end_in h) (kept_in h) (natural n) p.edits)
-    where
-      by : Placed (end_in h) (kept_in h) (natural n) p.edits
-          → (named_at h n ≤ kept_in h) × ((j : ℕ) → j < named_at h n → is_waiting (get_or (kept_of h (set p.edits (named_slot h n) r)) j absent_edit) ≡ false)
-      by (inl q) = absurd (rw q.0 at f.1.1.0)
-      by (inr q) =
-          let i = q.0 in
-          let at : named_slot h n ≡ i = ap slot_at q.2 ∙ (let k = q.1 in omega arith) in
-          let first : first_waiting (kept_of h p.edits) ≡ suc i = eqb→eq _ (named_at h n) f.1.1.1.0 ∙ q.2 in
-          let before = (first_found (λ j. is_waiting (get_or (kept_of h p.edits) j absent_edit)) 0 (length (kept_of h p.edits)) i first).1 in
-          let none : (j : ℕ) → j < suc i → is_waiting (get_or (kept_of h (set p.edits i r)) j absent_edit) ≡ false = λ j a.
-          let inside : j < kept_in h = omega (arith, a, q.1) in
-          ap is_waiting (kept_in_lem h (set p.edits i r) j inside) ∙ cases (eqb j i)
-          (λ y. let l = z.edits in let k = q.1 in rw (eqb-true j i y) (ap (λ x. is_waiting (kept_at 0 x)) (get_d_set p.edits i r no_record (omega arith)) ∙ settled))
-          (λ y.
-          let ne = eqb-false j i y in
-          ap (λ x. is_waiting (kept_at 0 x)) (get_or-other p.edits i j r no_record ne) ∙ sym (ap is_waiting (kept_in_lem h p.edits j inside)) ∙ before j (omega arith) (below i j ne (omega arith)))
-          in
-          (omega (arith, q.1, q.2), λ j a. ap (λ k. is_waiting (get_or (kept_of h (set p.edits k r)) j absent_edit)) at ∙ none j (omega (arith, a, q.2)))
-
   abbrev decided : Verdict → Decision
   decided v = replay_decision (settled_by v (Settled b x broken)) standing old place
 
@@ -265,7 +230,7 @@ module _ (p : Spread) (z : Sized p) (n : ℤ) where
       )
 
   -- what the code finds
-  found_as : unless_built lost old (draft_outcome (tested_in false) h p.lower p.gap p.upper p.draft e.measure e.change old) ≡ Settled b x broken
+  found_as : unless_built (kept_at 0 (named_in p e.earlier)) old (draft_outcome (tested_in false) h p.lower p.gap p.upper p.draft e.measure e.change old) ≡ Settled b x broken
   unfolding draft_outcome
   found_as = cases lost (λ t. rw t) (λ t. rw t)
 

@@ -1,9 +1,9 @@
 -- Scaffolding: the checks of a replay from its parts, what it decides, and the state after the stores. Assumes nothing.
-use Rattle.std.specs.Prelude.{ℕ, ◌+◌, ◌-◌, min, Bool, false, cond, ◌&&◌, List, [], ◌∷◌, eqb, ℤ, pos, get_or, set}
+use Rattle.std.specs.Prelude.{ℕ, ◌+◌, ◌-◌, min, Bool, false, cond, ◌&&◌, List, [], ◌∷◌, ℤ, pos, get_or, set}
 use Rattle.protocol.specs.Lists.{is_none, one_to, count}
 use Rattle.protocol.specs.Plan as model
 use Rattle.protocol.specs.Plan.{active, is_waiting, is_revoked, is_settled, fits, applied, value, measure_limit, rule_limit}
-use Rattle.protocol.specs.Calls.{Check, ◌unless◌, Verdict, fine, refused, first}
+use Rattle.protocol.specs.Calls.{Check, ◌unless◌, ◌when◌, Verdict, fine, refused, first}
 use Rattle.protocol.specs.Sizes.{last_measure}
 use Rattle.change.specs.declared.Change.{Change}
 use Rattle.change.specs.Change.{view_change}
@@ -18,15 +18,13 @@ use Rattle.state.specs.declared.Answer.{Answer}
 use Rattle.state.specs.Meets.{refusal, number}
 use Rattle.heads.specs.Heads.{mode_of, sides_in, end_in, kept_in, position_of, slot_at, named_at, named_slot, unset_in}
 use Rattle.records.specs.Records.{kept_at, kept_of, no_record, record_of}
-use Rattle.records.specs.Tags.{first_waiting}
 use Rattle.replay.specs.declared.Outcome.{Outcome}
 use Rattle.replay.specs.declared.Outcome.TheVariants.{Refused as Denied, Settled}
 
 -- ---- checks
 
--- lowest says that no waiting edit has a lower number
-abbrev pub replay_checks : model.Mode → ℕ → model.Kept → Bool → List Check
-replay_checks mode missing e lowest = (31 unless active mode) ∷ (34 unless is_none missing) ∷ (35 unless is_waiting e) ∷ (42 unless lowest) ∷ []
+abbrev pub replay_checks : model.Mode → ℕ → model.Kept → model.Kept → List Check
+replay_checks mode missing e earlier = (31 unless active mode) ∷ (34 unless is_none missing) ∷ (35 unless is_waiting e) ∷ (36 when is_waiting earlier) ∷ []
 
 -- ---- the trial on the draft
 
@@ -56,14 +54,14 @@ settled_by fine o = o
 settled_by (refused k) o = Denied k
 
 -- an edit built on a revoked one is revoked, and the value stays (02, S-2)
-abbrev pub unless_built : Bool → ℤ → Outcome → Outcome
-unless_built built old o = cond built (Settled false old 0) o
+abbrev pub unless_built : model.Kept → ℤ → Outcome → Outcome
+unless_built earlier old o = cond (is_revoked earlier) (Settled false old 0) o
 
-unfoldable pub replay_outcome : RuleTest → Head → List ℕ → List ℤ → List ℕ → List ℤ → ℕ → Bool → EditRecord → Bool → ℤ → Outcome
+unfoldable pub replay_outcome : RuleTest → Head → List ℕ → List ℤ → List ℕ → List ℤ → ℕ → EditRecord → EditRecord → ℤ → Outcome
 unfolding draft_outcome
-replay_outcome test h lower gap upper draft missing lowest e built old =
-    settled_by (first (replay_checks (mode_of h.mode) missing (kept_at 0 e) lowest))
-    (unless_built built old (draft_outcome test h lower gap upper draft e.measure e.change old))
+replay_outcome test h lower gap upper draft missing e earlier old =
+    settled_by (first (replay_checks (mode_of h.mode) missing (kept_at 0 e) (kept_at 0 earlier)))
+    (unless_built (kept_at 0 earlier) old (draft_outcome test h lower gap upper draft e.measure e.change old))
 
 -- ---- what is decided and stored
 
@@ -97,33 +95,27 @@ point_of m = min (m - 1) last_measure
 abbrev pub earlier_at : Head → ℕ → EditRecord → ℕ
 earlier_at h i standing = position_of (end_in h) (kept_in h) (record_of i standing).earlier
 
--- The outcome by a test of the rules, from how many first logs are missing, the position of the first edit that waits, the edit, seen at a position from 1, and whether
--- the one that it names as earlier was revoked; and the decision.
-abbrev pub outcome_from : RuleTest → Head → List ℕ → List ℤ → List ℕ → List ℤ → ℕ → ℕ → ℕ → EditRecord → Bool → Outcome
-outcome_from test h lower gap upper draft missing lowest i standing built =
+-- the outcome by a test of the rules, from how many first logs are missing, and the edit and its earlier one, each seen at a position from 1; and the decision
+abbrev pub outcome_from : RuleTest → Head → List ℕ → List ℤ → List ℕ → List ℤ → ℕ → ℕ → EditRecord → ℕ → EditRecord → Outcome
+outcome_from test h lower gap upper draft missing i standing j seen =
     let e = record_of i standing in
-    replay_outcome test h lower gap upper draft missing (eqb lowest i) e built (get_or draft (point_of e.measure) (pos 0))
+    replay_outcome test h lower gap upper draft missing e (record_of j seen) (get_or draft (point_of e.measure) (pos 0))
 
-abbrev pub replay_from : RuleTest → Head → List ℕ → List ℤ → List ℕ → List ℤ → ℕ → ℕ → ℕ → EditRecord → Bool → ℕ → Decision
-replay_from test h lower gap upper draft missing lowest i standing built place =
-    replay_decision (outcome_from test h lower gap upper draft missing lowest i standing built) standing (get_or draft (point_of (record_of i standing).measure) (pos 0)) place
+abbrev pub replay_from : RuleTest → Head → List ℕ → List ℤ → List ℕ → List ℤ → ℕ → ℕ → EditRecord → ℕ → EditRecord → ℕ → Decision
+replay_from test h lower gap upper draft missing i standing j seen place =
+    replay_decision (outcome_from test h lower gap upper draft missing i standing j seen) standing (get_or draft (point_of (record_of i standing).measure) (pos 0)) place
 
 -- the record where the edit numbered n would stand in a state
 abbrev pub standing_in : Spread → ℤ → EditRecord
 standing_in p n = get_or p.edits (named_slot p.head n) no_record
-
--- the edit at a position from 1 of a state was revoked
-abbrev pub revoked_at : Spread → ℕ → Bool
-revoked_at p j = is_revoked (kept_at 0 (record_of j (get_or p.edits (slot_at j) no_record)))
 
 -- the decision in a state; and by the test that needs no index, where `sound` says that all rules held before
 abbrev pub replay_by : RuleTest → Spread → ℤ → Decision
 replay_by test p n =
     let i = named_at p.head n in
     let j = earlier_at p.head i (standing_in p n) in
-    let ks = kept_of p.head p.edits in
     let missing = unset_in p.arrived (sides_in p.head) in
-    replay_from test p.head p.lower p.gap p.upper p.draft missing (first_waiting ks) i (standing_in p n) (revoked_at p j) (count is_settled ks + 1)
+    replay_from test p.head p.lower p.gap p.upper p.draft missing i (standing_in p n) j (get_or p.edits (slot_at j) no_record) (count is_settled (kept_of p.head p.edits) + 1)
 
 abbrev pub replay_in : Bool → Spread → ℤ → Decision
 replay_in sound = replay_by (tested_in sound)

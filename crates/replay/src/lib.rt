@@ -1,7 +1,7 @@
 // What a replay decides (01, "The calls"): its checks, its outcome, and the record that it settles. Read only, on what is lent.
 ghost use Rattle.std.specs.Prelude.{min, ◌<◌, ◌≤◌, ◌≡◌, cond, pos, get_or};
-ghost use Rattle.protocol.specs.Plan.{is_waiting};
-ghost use Rattle.records.specs.Records.{kept_at, record_of};
+ghost use Rattle.protocol.specs.Plan.{fate_is};
+ghost use Rattle.records.specs.Records.{fate_of, kept_at, record_of};
 ghost use Rattle.rows.specs.Rows.{row};
 ghost use Rattle.replay.specs.Replays.{draft_outcome, settled_fate, settled_record, point_of, earlier_at, outcome_from};
 ghost use Rattle.rules.specs.Index.{tested_by};
@@ -51,13 +51,13 @@ pub fn earlier(h: Head, i: usize, standing: EditRecord) -> usize
 
 // ---- what it decides
 
-// Whether an edit, seen at a position from 1, waits.
-fn is_waiting(i: usize, e: EditRecord) -> bool
-    ensures { result ≡ is_waiting (kept_at 0 (record_of i e)) }
+// Whether this is the fate of an edit, seen at a position from 1.
+fn has_fate(i: usize, e: EditRecord, fate: Fate) -> bool
+    ensures { result ≡ fate_is (fate_of fate) (kept_at 0 (record_of i e)).fate }
 {
     let r = records::found(i, e);
     let f = r.fate;
-    records::fate_number(f) == 2
+    records::fate_number(f) == records::fate_number(fate)
 }
 
 // The value that a change is made of: 0 where the measure is none of the draft's.
@@ -124,22 +124,22 @@ fn try_draft<'a>(
     Outcome::Settled(true, old, 0)
 }
 
-// What a replay decides, from how many first logs are missing, the position of the first edit that waits, the edit, seen at a position from 1, and whether it is
-// built on a revoked one: the checks 31, 34, 35, 42, and the trial. What is built on a revoked edit is revoked, untested, and the draft stays (02, S-2).
+// What a replay decides, from how many first logs are missing, and the edit and the one that it names as earlier, each seen at a position from 1:
+// the checks 31, 34, 35, 36, and the trial. An edit built on a revoked one is revoked, untested, and the draft stays (02, S-2).
 pub fn decide_replay<'a>(
     h: Head,
     table: &'a Table,
     index: &'a Index,
     draft: &'a [i32; limit::MEASURES],
     missing: u32,
-    lowest: u32,
     i: usize,
     standing: EditRecord,
-    built: bool,
+    j: usize,
+    seen: EditRecord,
     sound: bool,
 ) -> Outcome
     ensures { result ≡ outcome_from (tested_by sound index.now) h (lowers table.now) (gaps table.now)
-        (uppers table.now) draft.now missing lowest i standing built }
+        (uppers table.now) draft.now missing i standing j seen }
 {
     let mode = h.mode;
     if !heads::is_active(mode) {
@@ -148,14 +148,14 @@ pub fn decide_replay<'a>(
     if missing != 0 {
         return Outcome::Refused(34);
     }
-    if !is_waiting(i, standing) {
+    if !has_fate(i, standing, Fate::Waiting) {
         return Outcome::Refused(35);
     }
-    if lowest as usize != i {
-        return Outcome::Refused(42);
+    if has_fate(j, seen, Fate::Waiting) {
+        return Outcome::Refused(36);
     }
     let m = standing.measure as u32;
-    if built {
+    if has_fate(j, seen, Fate::Revoked) {
         let at = point(m);
         return Outcome::Settled(false, draft[at], 0);
     }

@@ -19,7 +19,7 @@ use Rattle.records.specs.declared.EditRecord.{EditRecord}
 use Rattle.state.specs.declared.State.{State}
 use Rattle.state.specs.Spread.{spread}
 use Rattle.state.specs.View.{view}
-use Rattle.calls.specs.Makes.{SoundIn, ReadyIn, TaggedIn}
+use Rattle.calls.specs.Makes.{SoundIn, ReadyIn}
 use Rattle.state.specs.Sizes.{Sized}
 use Rattle.counts.specs.Tallies.{Tallied}
 use Rattle.protocol.proofs.Laws.{cases}
@@ -27,11 +27,10 @@ use Rattle.run.specs.declared.Way.{Way}
 use Rattle.run.specs.Progress.{Ran, behind_ran, ran, Advanced, last_of}
 
 -- a run that goes on: the answers written so far, and what is still to come of the whole run
-pub record Going (on : Bool) (reserve : ℕ) (sheet : List ℕ) (from : ℕ) (lent : List ℕ) (start : Plan) (area : List ℕ) (p : State) (t tags : List ℕ) (at i : ℕ) : Type 0 where
+pub record Going (on : Bool) (reserve : ℕ) (sheet : List ℕ) (from : ℕ) (lent : List ℕ) (start : Plan) (area : List ℕ) (p : State) (t : List ℕ) (at i : ℕ) : Type 0 where
   pub sized : Sized (spread p)
   pub long : length p.table ≡ 256
   pub tallied : Tallied t (view p)
-  pub tagged : TaggedIn tags p
   pub same : length area ≡ length lent
   pub most : at ≤ length lent
   pub rest : drop at area ≡ drop at lent
@@ -42,8 +41,8 @@ behind_two xs ys r = ap (λ bs. record { bytes = bs; rest = r.rest; plan = r.pla
 
 -- ---- the end
 
-module _ (on : Bool) (reserve : ℕ) (sheet : List ℕ) (from : ℕ) (lent : List ℕ) (start : Plan) (area : List ℕ) (p : State) (t tags : List ℕ) (at i : ℕ)
-    (g : Going on reserve sheet from lent start area p t tags at i) where
+module _ (on : Bool) (reserve : ℕ) (sheet : List ℕ) (from : ℕ) (lent : List ℕ) (start : Plan) (area : List ℕ) (p : State) (t : List ℕ) (at i : ℕ)
+    (g : Going on reserve sheet from lent start area p t at i) where
   -- a run of which the rest is known, and writes nothing more
   ends : (q : State) (next : ℕ) (e : Bool) → ran on reserve (length lent - at) (view p) (lines (drop i sheet)) ≡ record { bytes = []; rest = lines (drop next sheet); plan = view q; ended = e }
       → Advanced on reserve sheet from start lent (view q) next at e area
@@ -79,7 +78,7 @@ module _ (on : Bool) (reserve : ℕ) (sheet : List ℕ) (from : ℕ) (lent : Lis
   paused h r = ends p i false (rw (cut h) (rw (lt-ltb (length lent - at) reserve r)))
 
   -- a line made: the plan after it and its answer's bytes are the definition's
-  module _ (h : i < length sheet) (r : reserve ≤ length lent - at) (q : State) (t' tags' : List ℕ) (bytes : List ℕ) (b : bytes ≡ text (line_step line (view p)).answer)
+  module _ (h : i < length sheet) (r : reserve ≤ length lent - at) (q : State) (t' : List ℕ) (bytes : List ℕ) (b : bytes ≡ text (line_step line (view p)).answer)
       (v : view q ≡ (line_step line (view p)).plan) where
     room : length (drop at area) ≡ length lent - at
     room = length-drop at area ∙ ap (λ n. n - at) g.same
@@ -96,18 +95,18 @@ module _ (on : Bool) (reserve : ℕ) (sheet : List ℕ) (from : ℕ) (lent : Lis
         ends q (end + 1) true (rw (cut h) (rw (le-ltb (length lent - at) reserve r, ← b, n, o, ← v)))
 
     -- or is dropped, where the run is to go on
-    pub dropped : on ≡ true → leb (length bytes) (length (drop at area)) ≡ false → Sized (spread q) → length q.table ≡ 256 → Tallied t' (view q) → TaggedIn tags' q
-        → Going on reserve sheet from lent start area q t' tags' at (end + 1)
+    pub dropped : on ≡ true → leb (length bytes) (length (drop at area)) ≡ false → Sized (spread q) → length q.table ≡ 256 → Tallied t' (view q)
+        → Going on reserve sheet from lent start area q t' at (end + 1)
     unfolding ran
-    dropped o f z b' k g' =
+    dropped o f z b' k =
         let n : leb (length bytes) (length lent - at) ≡ false = ap (leb (length bytes)) (sym room) ∙ f in
         let goes : ran on reserve (length lent - at) (view p) (lines (drop i sheet)) ≡ ran on reserve (length lent - at) (view q) (lines (drop (end + 1) sheet)) =
         rw (cut h) (rw (le-ltb (length lent - at) reserve r, ← b, n, o, ← v)) in
-        record { sized = z; long = b'; tallied = k; tagged = g'; same = g.same; most = g.most; rest = g.rest; course = g.course ∙ ap (behind_ran (take at area)) goes }
+        record { sized = z; long = b'; tallied = k; same = g.same; most = g.most; rest = g.rest; course = g.course ∙ ap (behind_ran (take at area)) goes }
 
-    pub next_line : leb (length bytes) (length (drop at area)) ≡ true → Sized (spread q) → length q.table ≡ 256 → Tallied t' (view q) → TaggedIn tags' q
-        → Going on reserve sheet from lent start (take at area ++ in_front bytes (drop at area)) q t' tags' (at + length bytes) (end + 1)
-    next_line f z b k g' =
+    pub next_line : leb (length bytes) (length (drop at area)) ≡ true → Sized (spread q) → length q.table ≡ 256 → Tallied t' (view q)
+        → Going on reserve sheet from lent start (take at area ++ in_front bytes (drop at area)) q t' (at + length bytes) (end + 1)
+    next_line f z b k =
         let w = leb-true (length bytes) (length (drop at area)) f in
         let n : length (take at area) ≡ at = (let x = length-take at area in let s = g.same in let m = g.most in omega arith) in
         let whole : length (take at area ++ in_front bytes (drop at area)) ≡ length lent =
@@ -121,7 +120,6 @@ module _ (on : Bool) (reserve : ℕ) (sheet : List ℕ) (from : ℕ) (lent : Lis
           sized = z;
           long = b;
           tallied = k;
-          tagged = g';
           same = whole;
           most = (let s = room in let m = g.most in omega arith);
           rest = ap (drop (at + length bytes)) two ∙ drop_at (take at area ++ bytes) (drop (length bytes) (drop at area)) (at + length bytes) long ∙ ap (drop (length bytes)) g.rest
@@ -143,10 +141,10 @@ pub record Within (reserve : ℕ) (sheet lent area : List ℕ) (edits : List Edi
   pub last : stop ≡ last_of (length sheet) ended (length area - at) reserve
 
 -- The run is over, as an answer did not fit, or goes on. Where the rules are known to hold, an index that was made is theirs.
-pub record Course (way : Way) (sheet lent : List ℕ) (start : Plan) (area : List ℕ) (p : State) (t tags : List ℕ) (index : List ℤ) (at i : ℕ) (ended : Bool) : Type 0 where
+pub record Course (way : Way) (sheet lent : List ℕ) (start : Plan) (area : List ℕ) (p : State) (t : List ℕ) (index : List ℤ) (at i : ℕ) (ended : Bool) : Type 0 where
   pub indexed : way.sound ≡ true → ReadyIn (spread p) index
   pub over : ended ≡ true → Advanced way.on way.reserve sheet way.from start lent (view p) i at true area
-  pub under : ended ≡ false → SoundIn way.sound (spread p) × Going way.on way.reserve sheet way.from lent start area p t tags at i
+  pub under : ended ≡ false → SoundIn way.sound (spread p) × Going way.on way.reserve sheet way.from lent start area p t at i
 
 -- a line is begun
 pub inside : {reserve : ℕ} {sheet lent area : List ℕ} {edits : List EditRecord} {at i : ℕ} {ended : Bool} {stop : ℕ} → Within reserve sheet lent area edits at ended stop → i < stop
@@ -157,26 +155,26 @@ inside {reserve = reserve} {sheet = sheet} {area = area} {at = at} {ended = ende
     (λ f. (e, (let z : stop ≡ length sheet = k.last ∙ rw (e, f) in omega (arith, z, h)), ltb-false _ _ f)))
 
 -- none is
-pub finished : {way : Way} {sheet lent : List ℕ} {start : Plan} {area : List ℕ} {p : State} {t tags : List ℕ} {index : List ℤ} {at i : ℕ} {ended : Bool} {stop : ℕ}
-    → Within way.reserve sheet lent area p.edits at ended stop → Course way sheet lent start area p t tags index at i ended → stop ≤ i
+pub finished : {way : Way} {sheet lent : List ℕ} {start : Plan} {area : List ℕ} {p : State} {t : List ℕ} {index : List ℤ} {at i : ℕ} {ended : Bool} {stop : ℕ}
+    → Within way.reserve sheet lent area p.edits at ended stop → Course way sheet lent start area p t index at i ended → stop ≤ i
     → Advanced way.on way.reserve sheet way.from start lent (view p) i at ended area
 finished {way = way} {sheet = sheet} {area = area} {at = at} {i = i} {ended = ended} {stop = stop} n k h =
     cases ended (λ e. rw e (k.over e))
     (λ e. let g = (k.under e).1 in cases (ltb (length area - at) way.reserve)
     (λ f. rw e (cases (ltb i (length sheet))
-    (λ l. paused _ _ _ _ _ _ _ _ _ _ _ _ g (ltb-true _ _ l) (let b = ltb-true (length area - at) way.reserve f in let q = g.same in omega (arith, b, q)))
-    (λ l. over _ _ _ _ _ _ _ _ _ _ _ _ g (ltb-false _ _ l))))
-    (λ f. rw e (over _ _ _ _ _ _ _ _ _ _ _ _ g (let z : stop ≡ length sheet = n.last ∙ rw (e, f) in omega (arith, z, h)))))
+    (λ l. paused _ _ _ _ _ _ _ _ _ _ _ g (ltb-true _ _ l) (let b = ltb-true (length area - at) way.reserve f in let q = g.same in omega (arith, b, q)))
+    (λ l. over _ _ _ _ _ _ _ _ _ _ _ g (ltb-false _ _ l))))
+    (λ f. rw e (over _ _ _ _ _ _ _ _ _ _ _ g (let z : stop ≡ length sheet = n.last ∙ rw (e, f) in omega (arith, z, h)))))
 
 -- ---- the beginning
 
-pub begins : (on : Bool) (reserve : ℕ) (sheet : List ℕ) (from : ℕ) (lent : List ℕ) (p : State) (t tags : List ℕ) → Sized (spread p) → length p.table ≡ 256 → Tallied t (view p)
-    → TaggedIn tags p → Going on reserve sheet from lent (view p) lent p t tags 0 from
-begins on reserve sheet from lent p t tags z b k g = record {
+pub begins : (on : Bool) (reserve : ℕ) (sheet : List ℕ) (from : ℕ) (lent : List ℕ) (p : State) (t : List ℕ) → Sized (spread p) → length p.table ≡ 256 → Tallied t (view p) → Going on
+    reserve sheet from lent
+    (view p) lent p t 0 from
+begins on reserve sheet from lent p t z b k = record {
   sized = z;
   long = b;
   tallied = k;
-  tagged = g;
   same = refl;
   most = omega arith;
   rest = refl;

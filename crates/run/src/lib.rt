@@ -1,7 +1,6 @@
 // Internal, for `sheet`: the run over a sheet (01, "The sheet program"). Each line is read, made on the plan and answered. The loop is lent a plan's rows, flags and
 // rules, which it lends to the call, and has head and kept edits by value.
-ghost use Rattle.std.specs.Prelude.{◌≡◌, ◌≤◌, ◌<◌, cond, eqb};
-ghost use Rattle.calls.specs.Makes.{given};
+ghost use Rattle.std.specs.Prelude.{◌≡◌, ◌≤◌};
 ghost use Rattle.protocol.specs.Plan.{measure_limit};
 ghost use Rattle.rows.specs.Rows.{row};
 ghost use Rattle.writer.specs.Writes.{line_of, put_in, put_length};
@@ -11,8 +10,7 @@ ghost use Rattle.run.specs.Progress.{last_of, ends_at};
 ghost use Rattle.run.specs.Advance.{Advancing};
 
 use heads::Head;
-use protocol::{call, limit};
-use reader::Line;
+use protocol::limit;
 use records::{EditRecord, Test};
 use rules::Table;
 use state::Answer;
@@ -91,78 +89,6 @@ pub fn is_sound<'a>(h: Head, table: &'a Table, values: &'a [i32; limit::VALUES])
     false
 }
 
-// ---- which edits of a side are unsent
-
-// Positions from 1, from which a side's unsent edits are found without a look at the others: for each kept edit the one before it that its side had unsent, and for each
-// side its last. They are hints, and nothing rests on them: a send counts the edits that it finds by them, and looks through all where these are too few.
-pub type Chain = [u16; limit::EDITS];
-
-pub type Lasts = [u16; limit::SIDES];
-
-// An edit that was kept in a slot is its side's last.
-fn link(chain: &mut Chain, lasts: &mut Lasts, l: Line, kept: bool, slot: usize)
-    requires { slot < 256 }
-{
-    if kept {
-        if l.op == call::EDIT {
-            let i = heads::index(exact::number(l.a));
-            chain[slot] = lasts[i];
-            lasts[i] = slot as u16 + 1;
-        }
-    }
-}
-
-// Where the walk over a side's edits begins, among the first so many: with its last. It has none unsent then.
-fn unlink(lasts: &mut Lasts, s: u32, marked: usize) -> usize
-    ensures { result ≤ marked }
-{
-    if marked == 0 {
-        return 0;
-    }
-    let i = heads::index(s);
-    let last = lasts[i];
-    lasts[i] = 0;
-    lesser(last, marked)
-}
-
-fn lesser(n: u16, most: usize) -> usize
-    ensures { result ≤ most }
-{
-    let m = n as usize;
-    if m < most {
-        return m;
-    }
-    most
-}
-
-// The position before this one; it is always lower, whatever the chain holds.
-fn previous(chain: &Chain, at: usize) -> usize
-    requires { at < 256 }
-    ensures { result ≤ at }
-{
-    lesser(chain[at], at)
-}
-
-// The number that a send gives: how many edits it marks.
-fn due(answer: Answer) -> u32
-    ensures { result ≡ given answer }
-{
-    match answer {
-        Answer::Refused(_, _) => 0,
-        Answer::Given(_, n, _, _) => n,
-    }
-}
-
-// Among how many edits those of a side are still to be looked for: none, if as many were found as there are.
-fn remaining(marked: usize, found: u32, due: u32) -> usize
-    ensures { (result ≡ cond (eqb found due) 0 marked) × (result ≤ marked) }
-{
-    if found == due {
-        return 0;
-    }
-    marked
-}
-
 // The loop: goes on from a line of the sheet as long as so many bytes of the area are free and each answer fits. Where it is to go on, an answer that does not fit is
 // dropped, and does not end the run: an owner that wants only the plan lends no room.
 pub fn advance(
@@ -184,10 +110,7 @@ pub fn advance(
 {
     let mut head = heads::numbers(first);
     let mut edits = kept;
-    let mut tags = records::tags(kept, first);
-    let mut counts = query::tallies(kept, first, &tags, arrived, confirmed);
-    let mut chain = [0u16; limit::EDITS];
-    let mut lasts = [0u16; limit::SIDES];
+    let mut counts = query::tallies(kept, first, arrived, confirmed);
     let mut index = [0i32; 512];
     let mut at: usize = 0;
     let mut i = way.from;
@@ -197,9 +120,12 @@ pub fn advance(
         let line = reader::read_line(&sheet[i..]);
         let h = heads::from_numbers(&head);
         let named = calls::first_look(line, h);
-        let looked = heads::slot(named);
-        let standing = edits[looked];
-        let look = calls::looking(named, standing);
+        let first_slot = heads::slot(named);
+        let standing = edits[first_slot];
+        let next = calls::second_look(line, h, named, standing);
+        let second_slot = heads::slot(next);
+        let seen = edits[second_slot];
+        let look = calls::looking(named, standing, next, seen);
         let e = calls::make(
             line,
             &mut head,
@@ -212,7 +138,6 @@ pub fn advance(
             &mut index,
             look,
             &mut counts,
-            &mut tags,
             way.sound,
         );
         if e.kept {
@@ -220,23 +145,10 @@ pub fn advance(
             let entry = e.entry;
             edits[slot] = entry;
         }
-        link(&mut chain, &mut lasts, line, e.kept, e.slot);
-        let answer = e.answer;
         let side = exact::number(line.a);
         let marked = e.marked;
-        let mut found: u32 = 0;
-        let mut p = unlink(&mut lasts, side, marked);
-        while 0 < p {
-            let own = p - 1;
-            let r = edits[own];
-            found += records::satisfies(r, Test::UnsentOf(side));
-            let s = moves::sent_record(r, side);
-            edits[own] = s;
-            p = previous(&chain, own);
-        }
-        let rest = remaining(marked, found, due(answer));
         let mut j: usize = 0;
-        while j < rest {
+        while j < marked {
             let r = edits[j];
             if records::satisfies(r, Test::UnsentOf(side)) != 0 {
                 let s = moves::sent_record(r, side);
@@ -244,6 +156,7 @@ pub fn advance(
             }
             j += 1;
         }
+        let answer = e.answer;
         let n = tell(answer, values, e.from, e.width, &mut area[at..]);
         ended = ends(way.on, n);
         at += n;

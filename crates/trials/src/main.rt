@@ -69,27 +69,18 @@ fn broken_by_edit(p: State, l: Line) -> u32 {
     }
 }
 
-// The same of a replay that is accepted: no first log is missing, and it is the first edit that waits.
+// The same of a replay that is accepted: no first log is missing.
 fn broken_by_replay(p: State, l: Line) -> u32 {
     let h = p.head;
     let named = calls::first_look(l, h);
-    let slot = heads::slot(named);
-    let standing = p.edits[slot];
-    let edits = p.edits;
-    let tags = records::tags(edits, h);
-    let built = records::was_revoked(&tags, replay::earlier(h, named, standing));
+    let first_slot = heads::slot(named);
+    let standing = p.edits[first_slot];
+    let next = calls::second_look(l, h, named, standing);
+    let second_slot = heads::slot(next);
+    let seen = p.edits[second_slot];
     let index = [0i32; 512];
     let outcome = replay::decide_replay(
-        h,
-        &p.table,
-        &index,
-        &p.draft,
-        0,
-        slot as u32 + 1,
-        named,
-        standing,
-        built,
-        false,
+        h, &p.table, &index, &p.draft, 0, named, standing, next, seen, false,
     );
     match outcome {
         Outcome::Refused(_) => 0,

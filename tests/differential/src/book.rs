@@ -19,7 +19,6 @@ const LONGEST_FATE: usize = 12;
 struct Edit {
     number: i32,
     side: i32,
-    sent: bool,
     after: i32,
     measure: usize,
     kind: i32,
@@ -49,8 +48,6 @@ struct Book {
     /// Indices of edits in the order of settling.
     settlings: Vec<usize>,
     last: [Last; 9],
-    /// Sides that have sent since the join, and those that have confirmed.
-    arrived: [bool; 9],
     confirmed: [bool; 9],
 }
 
@@ -65,7 +62,6 @@ impl Book {
             edits: Vec::new(),
             settlings: Vec::new(),
             last: [Last::None; 9],
-            arrived: [false; 9],
             confirmed: [false; 9],
         }
     }
@@ -98,34 +94,6 @@ impl Book {
         let open = self.edits.iter().filter(|edit| edit.settlings == 0).count();
         let to_confirm = (1..=self.sides).filter(|&s| !self.confirmed[s]).count();
         (to_send + open + to_confirm + (self.mode == Mode::Joining) as usize + 1) as i32
-    }
-
-    /// The waiting edit with the lowest number: edits stand in the order of their numbers.
-    fn lowest_waiting(&self) -> Option<i32> {
-        self.edits.iter().find(|edit| edit.sent && edit.settlings == 0).map(|edit| edit.number)
-    }
-
-    fn lowest_unsent(&self, of: impl Fn(&Edit) -> bool) -> Option<i32> {
-        self.edits.iter().find(|edit| !edit.sent && of(edit)).map(|edit| edit.number)
-    }
-
-    fn all_arrived(&self) -> bool {
-        !self.arrived[1..=self.sides].contains(&false)
-    }
-
-    /// The refusal due to a replay, 0 for none: 31, 34, 35, and 42 for a waiting edit that is not the lowest (02, S-4).
-    fn replay_refusal(&self, n: i32) -> i32 {
-        if !self.settling() {
-            31
-        } else if !self.all_arrived() {
-            34
-        } else if !self.edits.iter().any(|edit| edit.number == n && edit.sent && edit.settlings == 0) {
-            35
-        } else if self.lowest_waiting() != Some(n) {
-            42
-        } else {
-            0
-        }
     }
 
     fn change(&mut self, measure: usize, kind: i32, constant: i32) {
@@ -180,7 +148,6 @@ impl Book {
                     self.edits.push(Edit {
                         number: given,
                         side: a,
-                        sent: false,
                         after: c,
                         measure,
                         kind: e,
@@ -194,16 +161,11 @@ impl Book {
             Name::Join => {
                 self.mode = Mode::Joining;
                 self.last = [Last::None; 9];
-                self.arrived = [false; 9];
                 self.confirmed = [false; 9];
                 moved = self.left();
             }
             Name::Send => {
                 self.last[side] = Last::Send;
-                self.arrived[side] = true;
-                for edit in &mut self.edits {
-                    edit.sent |= edit.side == a;
-                }
                 moved = -1;
             }
             Name::Replay => {
@@ -291,11 +253,6 @@ pub struct Tally {
     /// Edits refused as 29 for two rules or more, and edits revoked for as many.
     pub refused_by_several: u64,
     pub revoked_by_several: u64,
-    /// Replays refused as 42, those accepted while an edit with a lower number was unsent, and late sends of an edit with a lower number
-    /// than any that waited (02, S-4).
-    pub not_lowest: u64,
-    pub past_unsent: u64,
-    pub behind: u64,
     pub prefixes: u64,
     /// Edits refused as 30.
     pub used_up: u64,
@@ -330,7 +287,7 @@ pub fn check(random: &mut Random, loaded: bool, tally: &mut Tally) -> Result<(),
 }
 
 /// A file that loads, and what it says. In half of them the numbers are nearly used up, so that 30 is met.
-pub fn stored(random: &mut Random) -> (Box<[u8]>, Drawing) {
+fn stored(random: &mut Random) -> (Box<[u8]>, Drawing) {
     loop {
         let mut drawing = files::drawing(random);
         if random.chance(500) {
@@ -414,21 +371,6 @@ fn walk(list: &List, mut book: Book, random: &mut Random, tally: &mut Tally) -> 
                     return fail("the fates after the install were not all asked for".into());
                 }
                 moved = 0;
-                let named = call.numbers[0];
-                if call.name == Name::Replay {
-                    let due = book.replay_refusal(named);
-                    let refusal = if accepted { 0 } else { numbers.first().copied().unwrap_or(-1) };
-                    if refusal != due {
-                        let lowest = book.lowest_waiting().unwrap_or(0);
-                        return fail(format!("{answer}, the book has refusal {due} and edit {lowest} as the lowest waiting"));
-                    }
-                    tally.not_lowest += (due == 42) as u64;
-                    tally.past_unsent += (accepted && book.lowest_unsent(|edit| edit.number < named).is_some()) as u64;
-                }
-                if accepted && call.name == Name::Send && book.all_arrived() {
-                    let sent = book.lowest_unsent(|edit| edit.side == named);
-                    tally.behind += sent.zip(book.lowest_waiting()).is_some_and(|(sent, waiting)| sent < waiting) as u64;
-                }
                 if accepted {
                     tally.moves += 1;
                     moved = match book.enter(call, numbers.first().copied().unwrap_or(0)) {

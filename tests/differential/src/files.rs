@@ -198,8 +198,8 @@ pub fn drawing(random: &mut Random) -> Drawing {
     let spread = random.pick(&[0, 5, 1000, 1_000_000]);
     let values: Vec<i32> = (0..measures).map(|_| random.between(-spread, spread)).collect();
     let most = if measures < 2 { 0 } else { random.pick(&[0, 1, 3, 8, 63, 64, 64, 65]) };
-    let firm = random.pick(&[0, 0, 200, 1000]);
-    let slack = random.pick(&[0, 3, 30, 1000]);
+    let firm = random.pick(&[0, 200, 1000]);
+    let slack = random.pick(&[0, 3, 1000]);
     let rules: Vec<Rule> = (0..most).map(|_| rule(random, &values, firm, slack)).collect();
     let next_number = if random.chance(700) { 1 + random.below(1000) as u32 } else { random.pick(&ODD_NUMBERS) };
     Drawing { next_number, values, rules }

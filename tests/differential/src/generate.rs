@@ -44,8 +44,6 @@ pub struct Style {
     pub harsh: usize,
     /// Chance that an edit of a copy takes all the room that a rule leaves there, so that another copy's edit is in its way.
     pub greedy: usize,
-    /// Chance that a replay names any waiting edit and not the lowest (02, S-4).
-    pub astray: usize,
 }
 
 impl Style {
@@ -69,8 +67,7 @@ impl Style {
             clients: random.pick(&[1, 2, 5, 999]),
             chained: random.pick(&[0, 200, 500, 900]),
             harsh: random.pick(&[0, 20, 150]),
-            greedy: random.pick(&[0, 100, 300, 600]),
-            astray: random.pick(&[0, 10, 50, 200]),
+            greedy: random.pick(&[0, 0, 100, 400]),
         }
     }
 }
@@ -124,28 +121,6 @@ impl<'a> Generator<'a> {
         self.kept_due = if self.random.chance(250) { self.style.kept } else { self.random.below(self.style.kept + 1) };
         self.late_due = self.random.below(self.style.late + 1);
         self.splits_due = 1 + self.random.below(self.style.sides - 1);
-    }
-
-    /// The next call of a join behind its last send, made on the model too: any that neither sends nor keeps an edit.
-    pub fn next_to_end(&mut self) -> Call {
-        loop {
-            let call = match self.random.below(8) {
-                0 => self.probe(),
-                1 => self.wild(),
-                2 => self.early(),
-                3 => Call::new(Name::Replay, &[self.kept_number()]),
-                4 | 5 => Call::new(Name::Replay, &[self.kept_with(Fate::Waiting).unwrap_or(0)]),
-                _ => match self.useful() {
-                    Some(call) => call,
-                    None => continue,
-                },
-            };
-            let mut plan = self.plan.clone();
-            if !call.make(&mut plan) || !matches!(call.name, Name::Send | Name::Edit) {
-                self.plan = plan;
-                return call;
-            }
-        }
     }
 
     /// The next call, made on the model too. None where the plan can never open.
@@ -214,11 +189,6 @@ impl<'a> Generator<'a> {
         (0..count).map(|i| first + (from + i) % count).find(|&n| self.plan.fate(n).0 == fate)
     }
 
-    fn lowest_waiting(&self) -> Option<i32> {
-        let (first, count) = self.plan.kept();
-        (first..first + count).find(|&n| self.plan.fate(n).0 == Fate::Waiting)
-    }
-
     fn probe(&mut self) -> Call {
         match self.random.below(4) {
             0 => Call::new(Name::Show, &[self.side()]),
@@ -266,8 +236,7 @@ impl<'a> Generator<'a> {
                 0 => Call::new(Name::Stop, &[]),
                 1 => Call::new(Name::Send, &[self.side()]),
                 2 => self.edit(),
-                3 => Call::new(Name::Replay, &[self.kept_number()]),
-                _ => self.replay_or(Name::Left),
+                _ => Call::new(Name::Replay, &[self.kept_number()]),
             },
             Mode::Closing => match self.random.below(5) {
                 0 => Call::new(Name::Install, &[]),
@@ -364,11 +333,19 @@ impl<'a> Generator<'a> {
             .find(|&s| !self.plan.has_arrived(s) || unsent && self.plan.has_unsent(s))
     }
 
-    /// Replays a waiting edit, mostly the lowest, or makes the other call where none waits.
+    /// Replays a waiting edit, or makes the other call where none waits.
     fn replay_or(&mut self, name: Name) -> Call {
-        let waiting = if self.random.chance(self.style.astray) { self.kept_with(Fate::Waiting) } else { self.lowest_waiting() };
-        match waiting {
-            Some(n) => Call::new(Name::Replay, &[n]),
+        match self.kept_with(Fate::Waiting) {
+            Some(mut n) => {
+                // Mostly the first of a chain of waiting edits.
+                while self.random.chance(900) {
+                    match self.plan.kept_edit(n) {
+                        Some(edit) if edit.earlier != 0 && self.plan.fate(edit.earlier).0 == Fate::Waiting => n = edit.earlier,
+                        _ => break,
+                    }
+                }
+                Call::new(Name::Replay, &[n])
+            }
             None => Call::new(name, &[]),
         }
     }

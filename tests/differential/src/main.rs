@@ -1,6 +1,5 @@
 //! Compares the library with the separate program on random sheets and on files of saved plans, and holds the claim about whole
-//! lists of calls and that of two joins (02, S-4) against the library's answers, on blank plans and loaded ones. A call that does not
-//! come back is a failure.
+//! lists of calls against the library's answers, on blank plans and loaded ones. A call that does not come back is a failure.
 //!
 //! differential [SEED [LINES [LISTS [FILES]]]]
 //!
@@ -12,7 +11,6 @@ mod compare;
 mod counter;
 mod files;
 mod generate;
-mod joins;
 mod random;
 mod saved;
 mod sheets;
@@ -25,10 +23,9 @@ use random::Random;
 use saved::{Check, Difference, ENTRIES};
 use std::process::ExitCode;
 
-/// Refusals that a sheet can meet on a blank plan. 30 needs more lines than a sheet has; 41 never is an answer line; 36 does not occur
-/// (02, S-4).
+/// Refusals that a sheet can meet on a blank plan. 30 needs more lines than a sheet has; 41 never is an answer line.
 const REFUSALS: [usize; 28] = [
-    11, 12, 13, 14, 15, 16, 17, 21, 22, 23, 24, 25, 26, 27, 28, 29, 31, 32, 33, 34, 35, 37, 38, 39, 40, 42, 51, 52,
+    11, 12, 13, 14, 15, 16, 17, 21, 22, 23, 24, 25, 26, 27, 28, 29, 31, 32, 33, 34, 35, 36, 37, 38, 39, 40, 51, 52,
 ];
 
 /// Shorter runs, as to repeat a failure, need not meet every refusal.
@@ -109,7 +106,6 @@ fn main() -> ExitCode {
     let mut verdict = random_sheets(seed, lines);
     if lists > 0 {
         verdict.add(books(seed, lists));
-        verdict.add(joined_twice(seed, lists));
     }
     verdict.add(counter_sheets(seed, &program));
     if files > 0 {
@@ -213,10 +209,6 @@ fn books(seed: u64, lists: u64) -> Verdict {
             "several rules broken at once by {} edits refused as 29 and by {} edits revoked",
             tally.refused_by_several, tally.revoked_by_several
         );
-        println!(
-            "{} replays refused as 42, {} accepted with a lower edit unsent, {} late sends of a lower edit than any that waited",
-            tally.not_lowest, tally.past_unsent, tally.behind
-        );
     }
     let long = lists >= LISTS_TO_MEET_ALL;
     let met = [
@@ -225,9 +217,6 @@ fn books(seed: u64, lists: u64) -> Verdict {
         ("edits built on a revoked one", loaded.built),
         ("edits refused for several rules", loaded.refused_by_several),
         ("edits refused as 30", loaded.used_up),
-        ("replays refused as 42", loaded.not_lowest),
-        ("replays past an unsent edit", loaded.past_unsent),
-        ("late sends of a lower edit than waits", loaded.behind),
         ("installs", loaded.installs),
         ("closing moves tried", loaded.prefixes),
     ];
@@ -237,55 +226,11 @@ fn books(seed: u64, lists: u64) -> Verdict {
         ("edits built on one that was itself", blank.deep),
         ("edits refused for several rules", blank.refused_by_several),
         ("edits revoked for several rules", blank.revoked_by_several),
-        ("replays refused as 42", blank.not_lowest),
-        ("replays past an unsent edit", blank.past_unsent),
-        ("late sends of a lower edit than waits", blank.behind),
     ];
     verdict.met_each(long, &met, " on a blank plan");
     verdict.met(long, "edits refused as 30 on a blank plan", blank.used_up, false);
     // However few the lists: 02, S-1, "Demand 3 covers loaded plans too".
     verdict.met(true, "lists with a book on a loaded plan", loaded.lists, true);
-    verdict
-}
-
-/// Pairs of joins with the same calls up to the last send, on a blank plan and on loaded ones.
-fn joined_twice(seed: u64, lists: u64) -> Verdict {
-    let mut verdict = Verdict::default();
-    let mut blank = joins::Tally::default();
-    let mut loaded = joins::Tally::default();
-    for index in 0..lists {
-        watched::case(&format!("pair {index}"));
-        let is_loaded = index % LISTS_TO_A_LOADED == 0;
-        let tally = if is_loaded { &mut loaded } else { &mut blank };
-        let mut random = Random::item(seed.swap_bytes(), index);
-        let checked = joins::check(&mut random, is_loaded, tally);
-        verdict.note(checked.is_ok());
-        if let Err((pair, what)) = checked {
-            println!("pair {index}: {what}");
-            for sheet in &pair.sheets {
-                show(pair.file.as_deref(), sheet);
-            }
-            if verdict.failed == FAILURES_SHOWN {
-                break;
-            }
-        }
-    }
-    let long = lists >= LISTS_TO_MEET_ALL;
-    for (plan, tally) in [("a blank plan", &blank), ("a loaded plan", &loaded)] {
-        println!(
-            "{} joins installed twice on {plan}, {} of them with the last send while closing; behind it {} edits accepted, {} revoked, \
-             {} replays refused as 42",
-            tally.pairs, tally.closing, tally.accepted, tally.revoked, tally.not_lowest
-        );
-        let met = [
-            ("joins installed twice", tally.pairs),
-            ("last sends while closing", tally.closing),
-            ("edits accepted behind the last send", tally.accepted),
-            ("edits revoked behind the last send", tally.revoked),
-            ("replays refused as 42 behind the last send", tally.not_lowest),
-        ];
-        verdict.met_each(long, &met, &format!(" on {plan}"));
-    }
     verdict
 }
 

@@ -277,7 +277,7 @@ impl Check {
 }
 
 /// What a saved plan is to keep: an edit of a whole plan that changes nothing says the next number.
-pub const TAIL: &[u8] = b"show 1\nleft\nedit 1 1 0 1 2 0\n";
+const TAIL: &[u8] = b"show 1\nleft\nedit 1 1 0 1 2 0\n";
 
 /// The answers of the library to these lines behind a sheet.
 fn tail(sheet: &[u8]) -> Vec<u8> {

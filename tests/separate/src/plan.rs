@@ -56,12 +56,12 @@ pub enum Refusal {
     NothingToSend = 33,
     LogMissing = 34,
     NotWaiting = 35,
+    EarlierWaiting = 36,
     EditsWaiting = 37,
     EditsUnsent = 38,
     AlreadyConfirmed = 39,
     NotAllConfirmed = 40,
     AreaShort = 41,
-    NotLowest = 42,
     FileLength = 44,
     FileSum = 45,
     FileForm = 46,
@@ -95,7 +95,6 @@ impl Change {
     }
 
     /// The result fits: a value is at most a million and a factor at most ten.
-    #[inline(always)]
     fn apply(self, value: i32) -> i32 {
         match self {
             Change::Set(c) => c,
@@ -152,7 +151,6 @@ pub struct Edit {
     pub replied: bool,
 }
 
-#[derive(Clone)]
 pub struct Plan {
     mode: Mode,
     measures: u8,
@@ -170,8 +168,6 @@ pub struct Plan {
     unsent: u16,
     waiting: u16,
     settled: u16,
-    /// No edit before this index waits, so that the lowest one that does (02, S-4) is looked for from here. Only a send moves it back.
-    front: u16,
     /// First in the chain of a side's unsent edits, or NONE.
     chain: [u16; SIDE_LIMIT],
     /// bounds[starts[m]..starts[m + 1]] are the rules that name measure m. Made by open.
@@ -207,7 +203,6 @@ impl Plan {
             unsent: 0,
             waiting: 0,
             settled: 0,
-            front: 0,
             chain: [NONE; SIDE_LIMIT],
             starts: [0; MEASURE_LIMIT + 1],
             rule: [Rule { low: 0, high: 0, firm: false, offset: 0 }; RULE_LIMIT],
@@ -420,17 +415,13 @@ impl Plan {
             return Err(NothingToSend);
         }
         let mut sent = 0;
-        // The chain goes down to the lowest.
-        let mut lowest = NONE;
         while at != NONE {
             let edit = &mut self.edits[at as usize];
             edit.fate = Fate::Waiting;
             edit.replied = true;
-            lowest = at;
             at = edit.next;
             sent += 1;
         }
-        self.front = self.front.min(lowest);
         self.chain[side] = NONE;
         self.with_unsent &= !(1 << side);
         self.arrived |= 1 << side;
@@ -446,21 +437,15 @@ impl Plan {
             Some(i) if self.edits[i].fate == Fate::Waiting => i,
             _ => return Err(NotWaiting),
         };
-        // 02, S-4. Mostly the front is the edit itself.
-        let mut front = self.front as usize;
-        while front != at && self.edits[front].fate != Fate::Waiting {
-            front += 1;
-        }
-        if front != at {
-            self.front = front as u16;
-            return Err(NotLowest);
-        }
         let Kept { change, measure, earlier, .. } = self.edits[at];
+        let earlier = if earlier == NONE { Fate::NotKept } else { self.edits[earlier as usize].fate };
+        if earlier == Fate::Waiting {
+            return Err(EarlierWaiting);
+        }
         let measure = measure as usize;
         let value = change.apply(self.draft[measure]);
         // An edit whose earlier edit was revoked is not tested (02, S-2).
-        let built_on_revoked = earlier != NONE && self.edits[earlier as usize].fate == Fate::Revoked;
-        let tested = !built_on_revoked && in_range(value);
+        let tested = earlier != Fate::Revoked && in_range(value);
         let broken = if tested { self.first_broken(&self.draft, measure, value) } else { 0 };
         let fate = if tested && broken == 0 {
             self.draft[measure] = value;
@@ -473,7 +458,6 @@ impl Plan {
         let edit = &mut self.edits[at];
         edit.fate = fate;
         edit.place = self.settled;
-        self.front = at as u16 + 1;
         Ok(fate)
     }
 

@@ -150,9 +150,6 @@ fn next_numbers() {
     assert_eq!(on(&with(999_999), edits), "ok 999999\nno 30\n");
     assert_eq!(on(&with(1_000_000), edits), "no 30\nno 30\n");
     assert_eq!(on(&with(1_000_000), "split 1\nedit 2 1 0 1 1 4\nfate 1000000\n"), "ok 2\nno 30\nok 0 0\n");
-    // The order of replay goes by the numbers (02, S-4), not by how many edits are kept.
-    let join = "split 1\nedit 2 1 0 1 1 4\nedit 1 1 0 1 1 5\njoin\nsend 1\nsend 2\nreplay 999999\nreplay 1\nreplay 999998\nreplay 999999\n";
-    assert_eq!(on(&with(999_998), join), "ok 2\nok 999998\nok 999999\nok 0\nok 1\nok 1\nno 42\nno 35\nok 3\nok 3\n");
     let mut area = [0; 64];
     assert_eq!(screen_save_on(&with(999_999), edits.as_bytes(), &mut area), 256 * 64);
     assert_eq!(area[4..8], [0x40, 0x42, 0x0f, 0]);

@@ -101,11 +101,10 @@ fn p7_earlier_edit_of_another_client() {
     assert_eq!(after(TO_JOIN, "edit 2 6 1 1 2 1\n"), "no 25");
 }
 
-/// 42 in place of 36 (02, S-4).
 #[test]
 fn p8_earlier_edit_first() {
     let lines = "split 1\nedit 1 5 0 1 2 1\nedit 2 5 1 1 2 1\njoin\nsend 1\nsend 2\nreplay 2\n";
-    assert_eq!(after(PAIR, lines), "no 42");
+    assert_eq!(after(PAIR, lines), "no 36");
 }
 
 #[test]
@@ -296,7 +295,7 @@ fn edits_built_on_a_revoked_one() {
         send 2               | ok 3
         replay 1             | ok 3
         replay 2             | ok 4
-        replay 4             | no 42
+        replay 4             | no 36
         left                 | ok 7
         replay 3             | ok 4
         left                 | ok 6
@@ -323,160 +322,6 @@ fn edits_built_on_a_revoked_one() {
     let lines = "measure 500000\nmeasure 0\nopen\nsplit 1\nedit 1 5 0 1 3 2\nedit 2 6 0 1 3 2\nedit 2 6 2 2 2 1\n\
                  join\nsend 1\nsend 2\nreplay 1\nreplay 2\nreplay 3\n";
     assert_eq!(text_of(lines).lines().rev().take(3).collect::<Vec<_>>(), ["ok 4", "ok 4", "ok 3"]);
-}
-
-/// 02, S-4: only the lowest waiting edit may be replayed. 34 comes before 35, and 35 before 42. A refused replay changes nothing.
-#[test]
-fn the_lowest_waiting_edit_alone_is_replayed() {
-    table("
-        measure 0         | ok 1
-        open              | ok 0
-        split 1           | ok 2
-        edit 1 5 0 1 2 1  | ok 1
-        edit 2 6 0 1 2 10 | ok 2
-        edit 1 5 1 1 2 1  | ok 3
-        edit 2 6 2 1 2 10 | ok 4
-        join              | ok 0
-        replay 1          | no 34
-        send 1            | ok 2
-        replay 3          | no 34
-        replay 9          | no 34
-        send 2            | ok 2
-        left              | ok 8
-        replay 3          | no 42
-        replay 2          | no 42
-        replay 4          | no 42
-        replay 0          | no 35
-        replay -1         | no 35
-        replay 5          | no 35
-        left              | ok 8
-        fate 3            | ok 2 0
-        replay 1          | ok 3
-        replay 1          | no 35
-        replay 3          | no 42
-        replay 4          | no 42
-        replay 2          | ok 3
-        replay 4          | no 42
-        replay 3          | ok 3
-        replay 3          | no 35
-        replay 4          | ok 3
-        fate 3            | ok 3 3
-        fate 4            | ok 3 4
-        replay 4          | no 35
-        stop              | ok 0
-    ");
-}
-
-/// 02, S-4: an unsent edit does not wait. Late edits 1 and 3 are of side 1 and 2, 4 and 5 of side 2, which sends first: 2 is settled
-/// before 1, and then the send of 1 and 3 leaves 1 alone to be replayed, though 4 and 5 waited before it.
-#[test]
-fn an_unsent_edit_does_not_count_as_waiting() {
-    table("
-        measure 0         | ok 1
-        open              | ok 0
-        split 1           | ok 2
-        join              | ok 0
-        send 1            | ok 0
-        send 2            | ok 0
-        edit 1 5 0 1 1 1  | ok 1
-        edit 2 6 0 1 1 2  | ok 2
-        edit 1 5 0 1 1 3  | ok 3
-        edit 2 6 0 1 1 4  | ok 4
-        edit 2 6 0 1 1 5  | ok 5
-        replay 1          | no 35
-        send 2            | ok 3
-        fate 1            | ok 1 0
-        replay 1          | no 35
-        replay 4          | no 42
-        replay 2          | ok 3
-        replay 3          | no 35
-        replay 5          | no 42
-        send 1            | ok 2
-        replay 4          | no 42
-        replay 5          | no 42
-        replay 3          | no 42
-        replay 2          | no 35
-        replay 1          | ok 3
-        replay 4          | no 42
-        replay 3          | ok 3
-        replay 5          | no 42
-        replay 4          | ok 3
-        replay 5          | ok 3
-        fate 1            | ok 3 2
-        fate 2            | ok 3 1
-        fate 5            | ok 3 5
-        stop              | ok 0
-        confirm 1         | ok 0
-        confirm 2         | ok 0
-        install           | ok 0
-        show 1            | ok 5
-    ");
-}
-
-/// 02, S-4, while closing, and with numbers that have gone on: edits 1 and 2 are not kept, and 3 to 5 stand first to third.
-#[test]
-fn the_lowest_waiting_edit_while_closing_and_after_a_second_split() {
-    table("
-        measure 0         | ok 1
-        open              | ok 0
-        edit 1 5 0 1 2 1  | ok 1
-        edit 1 5 0 1 2 1  | ok 2
-        split 1           | ok 2
-        join              | ok 0
-        send 1            | ok 0
-        send 2            | ok 0
-        edit 1 5 0 1 2 1  | ok 3
-        edit 2 6 0 1 2 10 | ok 4
-        edit 2 6 0 1 2 10 | ok 5
-        stop              | ok 0
-        send 2            | ok 2
-        replay 5          | no 42
-        replay 3          | no 35
-        replay 2          | no 35
-        replay 1          | no 35
-        confirm 2         | ok 0
-        replay 5          | no 42
-        replay 4          | ok 3
-        send 1            | ok 1
-        replay 5          | no 42
-        confirm 1         | ok 0
-        install           | no 37
-        replay 3          | ok 3
-        replay 5          | ok 3
-        left              | ok 1
-        install           | ok 0
-        edit 1 5 3 1 2 1  | ok 6
-        split 1           | ok 2
-        edit 2 6 0 1 1 7  | ok 7
-        edit 1 5 0 1 1 8  | ok 8
-        join              | ok 0
-        send 1            | ok 1
-        send 2            | ok 1
-        replay 1          | no 35
-        replay 2          | no 35
-        replay 3          | no 35
-        replay 8          | no 42
-        replay 7          | ok 3
-        replay 8          | ok 3
-        fate 7            | ok 3 1
-        fate 8            | ok 3 2
-    ");
-}
-
-/// 02, S-4, as the request tells it: two desks join the same sheets. Edit 2 is in the way of edit 1, so that the one tried first stays;
-/// edit 4, built on edit 2, is refused and not revoked before its turn.
-#[test]
-fn two_desks_get_the_same_kitchen() {
-    let split = format!("{PAIR}split 1\nedit 1 5 0 1 1 10\nedit 2 6 0 2 1 5\nedit 1 5 0 1 1 9\nedit 2 6 2 1 1 2\njoin\nsend 1\nsend 2\n");
-    let end = "stop\nconfirm 1\nconfirm 2\ninstall\nshow 1\n";
-    let desks = ["replay 1\nreplay 2\nreplay 3\nreplay 4\n", "replay 2\nreplay 4\nreplay 1\nreplay 4\nreplay 3\nreplay 2\nreplay 4\nreplay 3\nreplay 4\n"];
-    let [first, second] = desks.map(|replays| text_of(&format!("{split}{replays}{end}")));
-    assert!(first.ends_with("ok 3\nok 4\nok 3\nok 4\nok 0\nok 0\nok 0\nok 0\nok 9 12\n"), "{first}");
-    let tries = "no 42\nno 42\nok 3\nno 42\nno 42\nok 4\nno 42\nok 3\nok 4\n";
-    assert!(second.ends_with(&format!("{tries}ok 0\nok 0\nok 0\nok 0\nok 9 12\n")), "{second}");
-    // The numbers decide: with side 2's edits entered first its own stay.
-    let entered = "split 1\nedit 2 6 0 2 1 5\nedit 2 6 1 1 1 2\nedit 1 5 0 1 1 10\nedit 1 5 0 1 1 9\njoin\nsend 1\nsend 2\n";
-    assert_eq!(after(PAIR, &format!("{entered}{}{end}", desks[0])), "ok 2 5");
 }
 
 /// A blank plan with these measures and these soft rules, each as a, c and b.
@@ -564,19 +409,6 @@ fn below(state: &mut u64, n: i32) -> i32 {
     (*state >> 33) as i32 % n
 }
 
-/// So many rules that the values keep, each with a room of less than 40.
-fn holding_rules(random: &mut impl FnMut(i32) -> i32, values: &[i32], count: i32) -> Vec<[i32; 3]> {
-    let measures = values.len() as i32;
-    (0..count)
-        .map(|_| {
-            let a = random(measures);
-            let b = (a + 1 + random(measures - 1)) % measures;
-            let room = random(40);
-            [a + 1, values[b as usize] - values[a as usize] - 1 - room, b + 1]
-        })
-        .collect()
-}
-
 /// 02, S-3: of all broken rules the highest number, on random plans that hold.
 #[test]
 fn highest_number_of_a_broken_rule() {
@@ -588,7 +420,14 @@ fn highest_number_of_a_broken_rule() {
         let measures = 2 + random(4);
         let values: Vec<i32> = (0..measures).map(|_| random(100)).collect();
         let count = random(65);
-        let rules = holding_rules(&mut random, &values, count);
+        let rules: Vec<[i32; 3]> = (0..count)
+            .map(|_| {
+                let a = random(measures);
+                let b = (a + 1 + random(measures - 1)) % measures;
+                let room = random(40);
+                [a + 1, values[b as usize] - values[a as usize] - 1 - room, b + 1]
+            })
+            .collect();
         for _ in 0..20 {
             let (m, value) = (1 + random(measures), random(200) - 50);
             let broken = broken(&changed(&values, m, value), &rules);
@@ -601,174 +440,9 @@ fn highest_number_of_a_broken_rule() {
 
 /// Makes one call of a sheet on a plan and gives its answer.
 fn made(plan: &mut Plan, call: &str) -> String {
-    let mut area = [0; 64];
+    let mut area = [0; 32];
     let given = run_on(plan, call.as_bytes(), &mut area);
     String::from_utf8_lossy(&area[..given as usize / 2]).trim_end().to_string()
-}
-
-/// Numbers of the kept edits that wait, in rising order.
-fn waiting(plan: &Plan) -> Vec<i32> {
-    let (first, count) = plan.kept();
-    (first..first + count).filter(|&n| plan.fate(n).0 == Fate::Waiting).collect()
-}
-
-/// A plan on which random calls are made.
-struct Desk {
-    plan: Plan,
-    state: u64,
-    calls: Vec<String>,
-}
-
-impl Desk {
-    /// A whole plan whose rules leave little room.
-    fn new(mut state: u64) -> Desk {
-        let mut random = |n| below(&mut state, n);
-        let values: Vec<i32> = (0..2 + random(3)).map(|_| random(100)).collect();
-        let rules = holding_rules(&mut random, &values, 4);
-        let mut plan = drawn(&values, &rules);
-        plan.open().unwrap();
-        Desk { plan, state, calls: Vec::new() }
-    }
-
-    fn below(&mut self, n: i32) -> i32 {
-        below(&mut self.state, n)
-    }
-
-    fn one_of<T: Copy>(&mut self, list: &[T]) -> T {
-        list[self.below(list.len() as i32) as usize]
-    }
-
-    fn make(&mut self, call: String) -> String {
-        let answer = made(&mut self.plan, &call);
-        self.calls.push(call);
-        answer
-    }
-
-    /// Some edits, at most so many. A third name another, which may be refused.
-    fn edits(&mut self, most: i32) {
-        for _ in 0..self.below(most + 1) {
-            let (s, client) = (1 + self.below(self.plan.sides()), 1 + self.below(2));
-            let after = if self.below(3) == 0 { self.plan.next_number() - 1 - self.below(8) } else { 0 };
-            let (m, constant) = (1 + self.below(self.plan.measures()), self.below(61) - 30);
-            self.make(format!("edit {s} {client} {} {m} 2 {constant}", after.max(0)));
-        }
-    }
-
-    /// Replays of the lowest waiting edit, at most so many.
-    fn replays(&mut self, most: i32) {
-        for n in waiting(&self.plan).into_iter().take(most as usize) {
-            self.make(format!("replay {n}"));
-        }
-    }
-
-    /// A random side that has to send.
-    fn side_to_send(&mut self) -> Option<i32> {
-        let sides: Vec<i32> =
-            (1..=self.plan.sides()).filter(|&s| !self.plan.has_arrived(s) || self.plan.has_unsent(s)).collect();
-        (!sides.is_empty()).then(|| self.one_of(&sides))
-    }
-
-    /// Sends while a side has to, with late edits in between at first, and replays at any time but behind the last.
-    fn sends(&mut self, late: i32) {
-        let mut late = self.below(late + 1);
-        while let Some(s) = self.side_to_send() {
-            self.make(format!("send {s}"));
-            if late > 0 {
-                late -= 1;
-                self.edits(4);
-            }
-            if self.side_to_send().is_some() {
-                let most = self.below(4);
-                self.replays(most);
-            }
-        }
-    }
-
-    /// From a whole plan to the last send of a join, in half of them while closing.
-    fn begin_join(&mut self) {
-        self.edits(2);
-        for _ in 0..=self.below(3) {
-            self.make("split 1".into());
-        }
-        self.edits(20);
-        self.make("join".into());
-        self.sends(8);
-        if self.below(2) == 0 {
-            self.replays(256);
-            self.edits(12);
-            self.make("stop".into());
-            self.sends(0);
-        }
-    }
-
-    /// Any call that neither sends nor keeps an edit where nothing is unsent.
-    fn other_call(&mut self) -> String {
-        let (first, count) = self.plan.kept();
-        let (s, n) = (self.below(self.plan.sides() + 2), first - 2 + self.below(count + 4));
-        let waiting = waiting(&self.plan);
-        match self.below(16) {
-            0..=2 => format!("replay {n}"),
-            3..=5 if !waiting.is_empty() => format!("replay {}", self.one_of(&waiting)),
-            6..=8 if !waiting.is_empty() => format!("replay {}", self.one_of(&waiting[..waiting.len().min(3)])),
-            9 => "stop".into(),
-            10 => format!("confirm {s}"),
-            11 => "install".into(),
-            12 => format!("send {s}"),
-            13 => format!("edit {s} 0 0 1 2 1"),
-            14 => self.one_of(&["open", "join", "split 1", "measure 1", "rule 1 1 2 0", "reply"]).into(),
-            _ => self.one_of(&[&format!("show {s}"), &format!("fate {n}"), "left"]).into(),
-        }
-    }
-
-    /// Other calls up to the install. Gives how many replays were refused as 42.
-    fn end_join(&mut self) -> usize {
-        let mut refused = 0;
-        while self.plan.mode() != Mode::Whole {
-            let call = self.other_call();
-            let waiting = waiting(&self.plan);
-            let answer = self.make(call.clone());
-            if let Some(n) = call.strip_prefix("replay ") {
-                // 35, then 42.
-                let due: &[&str] = match waiting.iter().position(|w| w.to_string() == n) {
-                    None => &["no 35"],
-                    Some(0) => &["ok 3", "ok 4"],
-                    Some(_) => &["no 42"],
-                };
-                assert!(due.contains(&answer.as_str()), "{call}: {answer}");
-                refused += (answer == "no 42") as usize;
-            }
-        }
-        refused
-    }
-
-    /// Values, fates and places, and the next number.
-    fn installed(&self) -> (Vec<i32>, Vec<(Fate, u32)>, i32) {
-        let (first, count) = self.plan.kept();
-        let fates = (first..first + count).map(|n| self.plan.fate(n)).collect();
-        (self.plan.values_of(1).unwrap().to_vec(), fates, self.plan.next_number())
-    }
-}
-
-/// 02, S-4: two joins of the same split plan with the same calls up to the last send, and no sends after it, install the same plan.
-#[test]
-fn joins_with_the_same_sends_install_the_same_plan() {
-    // Joins with edits accepted and revoked behind the last send, and those whose last send came while closing; replays refused as 42.
-    let (mut both, mut closing, mut refused) = (0, 0, 0);
-    for seed in 1..=1_000 {
-        let mut one = Desk::new(seed);
-        one.begin_join();
-        let mut other = Desk::new(seed);
-        for call in one.calls.clone() {
-            other.make(call);
-        }
-        other.state = seed << 32;
-        let waited = waiting(&one.plan);
-        closing += (one.plan.mode() == Mode::Closing) as u32;
-        refused += one.end_join() + other.end_join();
-        assert_eq!(one.installed(), other.installed(), "seed {seed}");
-        both += [Fate::Accepted, Fate::Revoked].iter().all(|&fate| waited.iter().any(|&n| one.plan.fate(n).0 == fate)) as u32;
-    }
-    assert!(both > 200 && closing > 400 && refused > 10_000, "{both}, {closing}, {refused}");
 }
 
 /// Whether the earlier edit of a kept one was revoked.
@@ -887,7 +561,7 @@ fn calls_of_another_mode() {
 #[test]
 fn flags_and_places_start_again_in_each_join() {
     let again = "split 1\njoin\nleft\nreplay 1\nstop\nsend 1\nsend 2\nstop\ninstall\nconfirm 1\n";
-    let closed = format!("{TO_SENT}replay 1\nreplay 2\nreplay 3\nstop\nconfirm 1\nconfirm 2\ninstall\n");
+    let closed = format!("{TO_SENT}replay 2\nreplay 1\nreplay 3\nstop\nconfirm 1\nconfirm 2\ninstall\n");
     let expected = "ok 2\nok 0\nok 6\nno 34\nno 34\nok 0\nok 0\nok 0\nno 40\nok 0\n";
     assert!(text_of(&format!("{closed}{again}")).ends_with(expected));
     let places = "split 1\nedit 2 1 0 1 2 -1\njoin\nsend 2\nsend 1\nreplay 4\nfate 4\n";

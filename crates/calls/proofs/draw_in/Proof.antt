@@ -45,8 +45,8 @@ returns c =
     let b-fits = to_z-of_z (fits32 l.b (After-struct-told-from-After-plain-effect c).struct_told.given.1.1.0.1) in
     let c-fits = to_z-of_z (fits32 l.c (After-struct-told-from-After-plain-effect c).struct_told.given.1.1.1.0.1) in
     let d-fits = to_z-of_z (fits32 l.d (After-struct-told-from-After-plain-effect c).struct_told.given.1.1.1.1.0.1) in
-    λ base draft arrived confirmed look t tags sound. lent refl c.plain-effect.ensures refl
-    (draw_making l _ base draft s.args.values.now arrived confirmed s.args.table.now s.args.index.now look t tags sound s.pre (rw (a-fits, b-fits, c-fits, d-fits) at stored)
+    λ base draft arrived confirmed look t sound. lent refl c.plain-effect.ensures refl
+    (draw_making l _ base draft s.args.values.now arrived confirmed s.args.table.now s.args.index.now look t sound s.pre (rw (a-fits, b-fits, c-fits, d-fits) at stored)
     (λ e. c.before.note-drawn.ensures.0 (accepted ∙ e)) (λ e. c.before.note-drawn.ensures.1 (accepted ∙ e)))
 
 pub draw-in-spec : {M : Type 1} → statement M

@@ -14,8 +14,6 @@ use Rattle.edit.specs.Edits.{spot_of}
 use Rattle.counts.specs.Tallies.{one_unsent}
 use Rattle.calls.specs.Makes.{stored}
 use Rattle.calls.proofs.Makes.{lent, Readied, made_anew, at_hand, edit_making, edit-refused, edit-broken, edit-made, edit-kept}
-use Rattle.records.specs.Records.{kept_at}
-use Rattle.records.specs.Tags.{tag_of}
 use borrow.Author.Rules.{rules}
 use Rattle.calls.proofs.edit_in.Statement.{statement}
 use Rattle.calls.proofs.edit_in.Tie as tie
@@ -37,12 +35,8 @@ use Rattle.heads.proofs.from_numbers.Reads as from-numbers-reads
 use Rattle.heads.proofs.index.Reads as index_Reads
 use Rattle.heads.proofs.numbers.Reads as numbers-reads
 use Rattle.rows.proofs.capped.Reads as capped-reads
-use Rattle.records.proofs.tag.Reads as tag-reads
 
 -- ---- the places of the code, as tools/named writes them
-
-abbrev Start-from-After-from-numbers-arg : tie.After-from-numbers-arg → tie.Start
-Start-from-After-from-numbers-arg c = c.before
 
 abbrev After-from-numbers-from-Joined1 : tie.Joined1 → tie.After-from-numbers
 After-from-numbers-from-Joined1 c = c.before.before.before
@@ -59,18 +53,6 @@ After-from-numbers-from-After-standing c = c.before.before.before.before
 abbrev Start-from-After-standing : tie.After-standing → tie.Start
 Start-from-After-standing c = c.before.before.before.before.before.before
 
-abbrev After-decide-edit-from-After-refusal2 : tie.After-refusal2 → tie.After-decide-edit
-After-decide-edit-from-After-refusal2 c = c.before.before.before
-
-abbrev Joined1-from-After-refusal2 : tie.After-refusal2 → tie.Joined1
-Joined1-from-After-refusal2 c = c.before.before.before.before.before.before.before
-
-abbrev After-from-numbers-from-After-refusal2 : tie.After-refusal2 → tie.After-from-numbers
-After-from-numbers-from-After-refusal2 c = c.before.before.before.before.before.before.before.before.before.before
-
-abbrev Start-from-After-refusal2 : tie.After-refusal2 → tie.Start
-Start-from-After-refusal2 c = c.before.before.before.before.before.before.before.before.before.before.before.before
-
 abbrev After-decide-edit-from-After-refusal : tie.After-refusal → tie.After-decide-edit
 After-decide-edit-from-After-refusal c = c.before.before.before.before
 
@@ -83,29 +65,38 @@ After-from-numbers-from-After-refusal c = c.before.before.before.before.before.b
 abbrev Start-from-After-refusal : tie.After-refusal → tie.Start
 Start-from-After-refusal c = c.before.before.before.before.before.before.before.before.before.before.before.before.before
 
-abbrev After-struct-told2-from-After-spot : tie.After-spot → tie.After-struct-told2
-After-struct-told2-from-After-spot c = c.before
+abbrev After-decide-edit-from-After-refusal2 : tie.After-refusal2 → tie.After-decide-edit
+After-decide-edit-from-After-refusal2 c = c.before.before.before
 
-abbrev After-struct-told-from-After-spot : tie.After-spot → tie.After-struct-told
-After-struct-told-from-After-spot c = c.before.before
+abbrev Joined1-from-After-refusal2 : tie.After-refusal2 → tie.Joined1
+Joined1-from-After-refusal2 c = c.before.before.before.before.before.before.before
 
-abbrev After-known-told2-from-After-spot : tie.After-spot → tie.After-known-told2
-After-known-told2-from-After-spot c = c.before.before.before
+abbrev After-from-numbers-from-After-refusal2 : tie.After-refusal2 → tie.After-from-numbers
+After-from-numbers-from-After-refusal2 c = c.before.before.before.before.before.before.before.before.before.before
 
-abbrev After-ruling2-from-After-spot : tie.After-spot → tie.After-ruling2
-After-ruling2-from-After-spot c = c.before.before.before.before
+abbrev Start-from-After-refusal2 : tie.After-refusal2 → tie.Start
+Start-from-After-refusal2 c = c.before.before.before.before.before.before.before.before.before.before.before.before
 
-abbrev After-decide-edit-from-After-spot : tie.After-spot → tie.After-decide-edit
-After-decide-edit-from-After-spot c = c.before.before.before.before.before.before
+abbrev After-struct-told-from-After-struct-told2 : tie.After-struct-told2 → tie.After-struct-told
+After-struct-told-from-After-struct-told2 c = c.before
 
-abbrev Joined1-from-After-spot : tie.After-spot → tie.Joined1
-Joined1-from-After-spot c = c.before.before.before.before.before.before.before.before.before.before
+abbrev After-known-told2-from-After-struct-told2 : tie.After-struct-told2 → tie.After-known-told2
+After-known-told2-from-After-struct-told2 c = c.before.before
 
-abbrev After-from-numbers-from-After-spot : tie.After-spot → tie.After-from-numbers
-After-from-numbers-from-After-spot c = c.before.before.before.before.before.before.before.before.before.before.before.before.before
+abbrev After-ruling2-from-After-struct-told2 : tie.After-struct-told2 → tie.After-ruling2
+After-ruling2-from-After-struct-told2 c = c.before.before.before
 
-abbrev After-from-numbers-arg-from-After-spot : tie.After-spot → tie.After-from-numbers-arg
-After-from-numbers-arg-from-After-spot c = c.before.before.before.before.before.before.before.before.before.before.before.before.before.before
+abbrev After-decide-edit-from-After-struct-told2 : tie.After-struct-told2 → tie.After-decide-edit
+After-decide-edit-from-After-struct-told2 c = c.before.before.before.before.before
+
+abbrev Joined1-from-After-struct-told2 : tie.After-struct-told2 → tie.Joined1
+Joined1-from-After-struct-told2 c = c.before.before.before.before.before.before.before.before.before
+
+abbrev After-from-numbers-from-After-struct-told2 : tie.After-struct-told2 → tie.After-from-numbers
+After-from-numbers-from-After-struct-told2 c = c.before.before.before.before.before.before.before.before.before.before.before.before
+
+abbrev Start-from-After-struct-told2 : tie.After-struct-told2 → tie.Start
+Start-from-After-struct-told2 c = c.before.before.before.before.before.before.before.before.before.before.before.before.before.before
 
 abbrev After-numbers-from-After-plain-effect : tie.After-plain-effect → tie.After-numbers
 After-numbers-from-After-plain-effect c = c.before.before.before
@@ -134,38 +125,35 @@ After-decide-edit-from-After-plain-effect c = c.before.before.before.before.befo
 abbrev After-standing-from-After-plain-effect : tie.After-plain-effect → tie.After-standing
 After-standing-from-After-plain-effect c = c.before.before.before.before.before.before.before.before.before.before.before.before.before.before
 
-abbrev After-capped-from-After-keeping : tie.After-keeping → tie.After-capped
-After-capped-from-After-keeping c = c.before.before.before
-
 abbrev After-note-kept-from-After-keeping : tie.After-keeping → tie.After-note-kept
-After-note-kept-from-After-keeping c = c.before.before.before.before
+After-note-kept-from-After-keeping c = c.before.before.before
 
 abbrev After-index-from-After-keeping : tie.After-keeping → tie.After-index
-After-index-from-After-keeping c = c.before.before.before.before.before.before.before
+After-index-from-After-keeping c = c.before.before.before.before.before.before
 
 abbrev After-number-from-After-keeping : tie.After-keeping → tie.After-number
-After-number-from-After-keeping c = c.before.before.before.before.before.before.before.before
+After-number-from-After-keeping c = c.before.before.before.before.before.before.before
 
 abbrev After-struct-told3-from-After-keeping : tie.After-keeping → tie.After-struct-told3
-After-struct-told3-from-After-keeping c = c.before.before.before.before.before.before.before.before.before
+After-struct-told3-from-After-keeping c = c.before.before.before.before.before.before.before.before
 
 abbrev Else2-from-After-keeping : tie.After-keeping → tie.Else2
-Else2-from-After-keeping c = c.before.before.before.before.before.before.before.before.before.before
+Else2-from-After-keeping c = c.before.before.before.before.before.before.before.before.before
 
 abbrev After-is-whole-from-After-keeping : tie.After-keeping → tie.After-is-whole
-After-is-whole-from-After-keeping c = c.before.before.before.before.before.before.before.before.before.before.before
+After-is-whole-from-After-keeping c = c.before.before.before.before.before.before.before.before.before.before
 
 abbrev After-numbers-from-After-keeping : tie.After-keeping → tie.After-numbers
-After-numbers-from-After-keeping c = c.before.before.before.before.before.before.before.before.before.before.before.before
+After-numbers-from-After-keeping c = c.before.before.before.before.before.before.before.before.before.before.before
 
 abbrev After-edit-head-from-After-keeping : tie.After-keeping → tie.After-edit-head
-After-edit-head-from-After-keeping c = c.before.before.before.before.before.before.before.before.before.before.before.before.before
+After-edit-head-from-After-keeping c = c.before.before.before.before.before.before.before.before.before.before.before.before
 
 abbrev After-spot-from-After-keeping : tie.After-keeping → tie.After-spot
-After-spot-from-After-keeping c = c.before.before.before.before.before.before.before.before.before.before.before.before.before.before
+After-spot-from-After-keeping c = c.before.before.before.before.before.before.before.before.before.before.before.before.before
 
-abbrev Start-from-After-spot : tie.After-spot → tie.Start
-Start-from-After-spot c = Start-from-After-from-numbers-arg (After-from-numbers-arg-from-After-spot c)
+abbrev After-struct-told2-from-After-keeping : tie.After-keeping → tie.After-struct-told2
+After-struct-told2-from-After-keeping c = c.before.before.before.before.before.before.before.before.before.before.before.before.before.before
 
 abbrev Joined1-from-After-plain-effect : tie.After-plain-effect → tie.Joined1
 Joined1-from-After-plain-effect c = Joined1-from-After-standing (After-standing-from-After-plain-effect c)
@@ -176,29 +164,26 @@ After-from-numbers-from-After-plain-effect c = After-from-numbers-from-After-sta
 abbrev Start-from-After-plain-effect : tie.After-plain-effect → tie.Start
 Start-from-After-plain-effect c = Start-from-After-standing (After-standing-from-After-plain-effect c)
 
-abbrev After-struct-told2-from-After-keeping : tie.After-keeping → tie.After-struct-told2
-After-struct-told2-from-After-keeping c = After-struct-told2-from-After-spot (After-spot-from-After-keeping c)
-
 abbrev After-struct-told-from-After-keeping : tie.After-keeping → tie.After-struct-told
-After-struct-told-from-After-keeping c = After-struct-told-from-After-spot (After-spot-from-After-keeping c)
+After-struct-told-from-After-keeping c = After-struct-told-from-After-struct-told2 (After-struct-told2-from-After-keeping c)
 
 abbrev After-known-told2-from-After-keeping : tie.After-keeping → tie.After-known-told2
-After-known-told2-from-After-keeping c = After-known-told2-from-After-spot (After-spot-from-After-keeping c)
+After-known-told2-from-After-keeping c = After-known-told2-from-After-struct-told2 (After-struct-told2-from-After-keeping c)
 
 abbrev After-ruling2-from-After-keeping : tie.After-keeping → tie.After-ruling2
-After-ruling2-from-After-keeping c = After-ruling2-from-After-spot (After-spot-from-After-keeping c)
+After-ruling2-from-After-keeping c = After-ruling2-from-After-struct-told2 (After-struct-told2-from-After-keeping c)
 
 abbrev After-decide-edit-from-After-keeping : tie.After-keeping → tie.After-decide-edit
-After-decide-edit-from-After-keeping c = After-decide-edit-from-After-spot (After-spot-from-After-keeping c)
+After-decide-edit-from-After-keeping c = After-decide-edit-from-After-struct-told2 (After-struct-told2-from-After-keeping c)
 
 abbrev Joined1-from-After-keeping : tie.After-keeping → tie.Joined1
-Joined1-from-After-keeping c = Joined1-from-After-spot (After-spot-from-After-keeping c)
+Joined1-from-After-keeping c = Joined1-from-After-struct-told2 (After-struct-told2-from-After-keeping c)
 
 abbrev After-from-numbers-from-After-keeping : tie.After-keeping → tie.After-from-numbers
-After-from-numbers-from-After-keeping c = After-from-numbers-from-After-spot (After-spot-from-After-keeping c)
+After-from-numbers-from-After-keeping c = After-from-numbers-from-After-struct-told2 (After-struct-told2-from-After-keeping c)
 
 abbrev Start-from-After-keeping : tie.After-keeping → tie.Start
-Start-from-After-keeping c = Start-from-After-spot (After-spot-from-After-keeping c)
+Start-from-After-keeping c = Start-from-After-struct-told2 (After-struct-told2-from-After-keeping c)
 
 from-numbers-requires : tie.Need-from-numbers-requires
 from-numbers-requires c κs = search rules
@@ -268,9 +253,9 @@ returns c =
     let to-d = to_z-of_z (fits32 l.d ((After-struct-told2-from-After-plain-effect c).struct-told2.given.1.1.1.1.0.1)) in
     let to-x = to_z-of_z (fits32 x ((After-known-told2-from-After-plain-effect c).known-told2.given.1.0.1)) in
     λ base draft confirmed. lent (After-from-numbers-from-After-plain-effect c).from-numbers.ensures refl refl
-    (edit_making l h base draft a.values.now a.arrived.now confirmed a.table.now a.index.now a.look a.counts.now a.tags.now a.sound s.pre
+    (edit_making l h base draft a.values.now a.arrived.now confirmed a.table.now a.index.now a.look a.counts.now a.sound s.pre
     (readied (Joined1-from-After-plain-effect c)) (After-decide-edit-from-After-plain-effect c).decide-edit.result (After-decide-edit-from-After-plain-effect c).decide-edit.ensures
-    (edit-made l h base draft a.values.now a.arrived.now confirmed a.table.now a.index.now a.look a.counts.now a.tags.now a.sound
+    (edit-made l h base draft a.values.now a.arrived.now confirmed a.table.now a.index.now a.look a.counts.now a.sound
     (After-ruling2-from-After-plain-effect c).ruling2.given.0.0 x (After-ruling2-from-After-plain-effect c).ruling2.given.1
     (sym c.before.before.is_whole.ensures ∙ c.before.if2.true) c.plain-effect.ensures
     (ap head_from (After-numbers-from-After-plain-effect c).numbers.ensures ∙ head-numbers (After-edit-head-from-After-plain-effect c).edit-head.result
@@ -295,12 +280,6 @@ capped-requires c κs = search rules
 edit-record-requires : tie.Need-edit-record-requires
 edit-record-requires c κs = search rules
 
-tag-requires : tie.Need-tag-requires
-tag-requires c κs = search rules
-
-element-write-tags : tie.Need-element-write-tags
-element-write-tags c = search rules
-
 keeping-requires : tie.Need-keeping-requires
 keeping-requires c κs = search rules
 
@@ -311,21 +290,21 @@ returns-2 c =
     let l = a.l in
     let h = (After-from-numbers-from-After-refusal c).from-numbers.result in
     λ base draft confirmed. lent (After-from-numbers-from-After-refusal c).from-numbers.ensures refl (sym (After-from-numbers-from-After-refusal c).from-numbers.ensures)
-    (edit_making l h base draft a.values.now a.arrived.now confirmed a.table.now a.index.now a.look a.counts.now a.tags.now a.sound s.pre
+    (edit_making l h base draft a.values.now a.arrived.now confirmed a.table.now a.index.now a.look a.counts.now a.sound s.pre
     (readied (Joined1-from-After-refusal c)) (After-decide-edit-from-After-refusal c).decide-edit.result (After-decide-edit-from-After-refusal c).decide-edit.ensures
-    (edit-refused l h base draft a.values.now a.arrived.now confirmed a.table.now a.index.now a.look a.counts.now a.tags.now a.sound c.before.before.ruling.given.0.0
+    (edit-refused l h base draft a.values.now a.arrived.now confirmed a.table.now a.index.now a.look a.counts.now a.sound c.before.before.ruling.given.0.0
     c.before.before.ruling.given.1 c.refusal.ensures))
 
 returns-3 : tie.Need-returns-3
 returns-3 c =
-    let s = ((Start-from-After-refusal2 c)) in
+    let s = Start-from-After-refusal2 c in
     let a = s.args in
     let l = a.l in
     let h = (After-from-numbers-from-After-refusal2 c).from-numbers.result in
     λ base draft confirmed. lent (After-from-numbers-from-After-refusal2 c).from-numbers.ensures refl (sym (After-from-numbers-from-After-refusal2 c).from-numbers.ensures)
-    (edit_making l h base draft a.values.now a.arrived.now confirmed a.table.now a.index.now a.look a.counts.now a.tags.now a.sound s.pre
+    (edit_making l h base draft a.values.now a.arrived.now confirmed a.table.now a.index.now a.look a.counts.now a.sound s.pre
     (readied (Joined1-from-After-refusal2 c)) (After-decide-edit-from-After-refusal2 c).decide-edit.result (After-decide-edit-from-After-refusal2 c).decide-edit.ensures
-    (edit-broken l h base draft a.values.now a.arrived.now confirmed a.table.now a.index.now a.look a.counts.now a.tags.now a.sound c.before.enum_told.given.0.0
+    (edit-broken l h base draft a.values.now a.arrived.now confirmed a.table.now a.index.now a.look a.counts.now a.sound c.before.enum_told.given.0.0
     c.before.enum_told.given.1 c.refusal2.ensures))
 
 returns-4 : tie.Need-returns-4
@@ -341,17 +320,16 @@ returns-4 c =
     let side = (After-number-from-After-keeping c).number.ensures ∙ ap natural (to_z-of_z (fits32 l.a ((After-struct-told3-from-After-keeping c).struct-told3.given.1.0.1))) in
     let place = (After-index-from-After-keeping c).index.ensures.0 ∙ ap index_of side in
     λ base draft confirmed. lent (After-from-numbers-from-After-keeping c).from-numbers.ensures refl refl
-    (edit_making l h base draft a.values.now a.arrived.now confirmed a.table.now a.index.now a.look a.counts.now a.tags.now a.sound s.pre
+    (edit_making l h base draft a.values.now a.arrived.now confirmed a.table.now a.index.now a.look a.counts.now a.sound s.pre
     (readied (Joined1-from-After-keeping c)) (After-decide-edit-from-After-keeping c).decide-edit.result (After-decide-edit-from-After-keeping c).decide-edit.ensures
-    (edit-kept l h base draft a.values.now a.arrived.now confirmed a.table.now a.index.now a.look a.counts.now a.tags.now a.sound
+    (edit-kept l h base draft a.values.now a.arrived.now confirmed a.table.now a.index.now a.look a.counts.now a.sound
     (After-ruling2-from-After-keeping c).ruling2.given.0.0 x (After-ruling2-from-After-keeping c).ruling2.given.1
     (sym (After-is-whole-from-After-keeping c).is_whole.ensures ∙ (Else2-from-After-keeping c).if2.left)
-    (c.keeping.ensures ∙ (λ j. stored (Answer.Given 1 h.next 0 0) ((After-capped-from-After-keeping c).capped.ensures j) (c.before.before.edit-record.ensures j)))
+    (c.keeping.ensures ∙ (λ j. stored (Answer.Given 1 h.next 0 0) (c.before.before.capped.ensures j) (c.before.edit-record.ensures j)))
     (ap head_from (After-numbers-from-After-keeping c).numbers.ensures ∙ head-numbers (After-edit-head-from-After-keeping c).edit-head.result
     ∙ (After-edit-head-from-After-keeping c).edit-head.ensures)
     (λ j. set a.values.now (((After-spot-from-After-keeping c).spot.ensures.0 ∙ (λ k. spot_of (natural (to-a k)) (natural (to-d k)))) j) (to-x j))
-    ((After-note-kept-from-After-keeping c).note-kept.ensures ∙ (λ j. one_unsent (side j) (get_or a.arrived.now (place j) false) a.counts.now))
-    (λ j. set a.tags.now ((After-capped-from-After-keeping c).capped.ensures j) ((c.before.tag.ensures ∙ ap (λ e. tag_of (kept_at 0 e)) c.before.before.edit-record.ensures) j))))
+    ((After-note-kept-from-After-keeping c).note-kept.ensures ∙ (λ j. one_unsent (side j) (get_or a.arrived.now (place j) false) a.counts.now))))
 
 pub edit-in-spec : {M : Type 1} → statement M
 edit-in-spec =
@@ -380,8 +358,6 @@ edit-in-spec =
     note-kept-requires
     capped-requires
     edit-record-requires
-    tag-requires
-    element-write-tags
     keeping-requires
     returns-2
     returns-3

@@ -20,7 +20,13 @@ edit-in-requires c κs = search rules
 -- ---- the places of the code, as tools/named writes them
 
 abbrev Start-from-After-send-in : tie.After-send-in → tie.Start
-Start-from-After-send-in c = c.before.before.before.before.before.before.before.before
+Start-from-After-send-in c = c.before.before.before.before.before.before.before
+
+abbrev Start-from-After-edit-in : tie.After-edit-in → tie.Start
+Start-from-After-edit-in c = c.before.before.before.before.before.before.before.before
+
+abbrev Start-from-After-replay-in : tie.After-replay-in → tie.Start
+Start-from-After-replay-in c = c.before.before.before.before.before.before.before.before
 
 abbrev After-draws-from-After-read-in-arg2 : tie.After-read-in-arg2 → tie.After-draws
 After-draws-from-After-read-in-arg2 c = c.before.before.before
@@ -40,14 +46,8 @@ Else2-from-After-read-in-arg2 c = c.before.before.before.before.before.before.be
 abbrev Else1-from-After-read-in-arg2 : tie.After-read-in-arg2 → tie.Else1
 Else1-from-After-read-in-arg2 c = c.before.before.before.before.before.before.before.before
 
-abbrev Start-from-After-edit-in : tie.After-edit-in → tie.Start
-Start-from-After-edit-in c = c.before.before.before.before.before.before.before.before.before
-
 abbrev Start-from-After-read-in-arg2 : tie.After-read-in-arg2 → tie.Start
 Start-from-After-read-in-arg2 c = c.before.before.before.before.before.before.before.before.before
-
-abbrev Start-from-After-replay-in : tie.After-replay-in → tie.Start
-Start-from-After-replay-in c = c.before.before.before.before.before.before.before.before.before
 
 abbrev Start-from-After-read-in : tie.After-read-in → tie.Start
 Start-from-After-read-in c = c.before.before.before.before.before.before.before.before.before.before
@@ -97,7 +97,7 @@ move-in-requires c κs =
 
 returns-4 : tie.Need-returns-4
 returns-4 c =
-    let a = (Start-from-After-move-in c).args in c.Move-in.ensures a.table.now a.index.now a.look a.tags.now a.sound
+    let a = (Start-from-After-move-in c).args in c.Move-in.ensures a.table.now a.index.now a.look a.sound
 
 draws-requires : tie.Need-draws-requires
 draws-requires c κs = search rules
@@ -108,7 +108,7 @@ draw-in-requires c κs =
 
 returns-5 : tie.Need-returns-5
 returns-5 c =
-    let a = (Start-from-After-draw-in c).args in c.draw-in.ensures a.base.now a.draft.now a.arrived.now a.confirmed.now a.look a.counts.now a.tags.now a.sound
+    let a = (Start-from-After-draw-in c).args in c.draw-in.ensures a.base.now a.draft.now a.arrived.now a.confirmed.now a.look a.counts.now a.sound
 
 read-in-requires : tie.Need-read-in-requires
 read-in-requires c κs =
@@ -119,7 +119,7 @@ read-in-requires c κs =
 returns-6 : tie.Need-returns-6
 returns-6 c =
     let a = (Start-from-After-read-in c).args in c.read-in.ensures a.base.now a.draft.now a.values.now a.arrived.now a.confirmed.now a.table.now a.index.now
-    a.tags.now a.sound
+    a.sound
 
 pub make_spec : {M : Type 1} → statement M
 make_spec =

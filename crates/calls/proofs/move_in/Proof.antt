@@ -119,9 +119,9 @@ returns c =
     let i = (After-index-from-After-plain-effect c).index.ensures.0 ∙ ap index_of ((After-number-from-After-plain-effect c).number.ensures ∙ ap natural to-a) in
     let m = subst (λ y. Moves (move_call l.op y) f (Counts f (natural y) (get_or a.counts.now (After-index-from-After-plain-effect c).index.result 0) (waiting_in a.counts.now))
     (moved_to r x.0 x.1.0 x.1.1.0 x.1.1.1.0 x.1.1.1.1.0)) to-a (After-make-move-from-After-plain-effect c).make-move.ensures in
-    λ table index look tags sound. lent (After-from-numbers-from-After-plain-effect c).from-numbers.ensures c.plain-effect.ensures
+    λ table index look sound. lent (After-from-numbers-from-After-plain-effect c).from-numbers.ensures c.plain-effect.ensures
     (ap head_from (After-numbers-from-After-plain-effect c).numbers.ensures ∙ head-numbers r.head)
-    (move_making l h a.base.now a.draft.now a.values.now a.arrived.now a.confirmed.now table index look a.counts.now tags sound s.pre r i
+    (move_making l h a.base.now a.draft.now a.values.now a.arrived.now a.confirmed.now table index look a.counts.now sound s.pre r i
     (c.before.note-move.ensures ∙ ap (λ b. cond b (move_tally l.op h a.counts.now) a.counts.now) c.before.before.accepted.ensures) m
     (After-lengths-from-After-plain-effect c).lengths.ensures)
 

@@ -41,9 +41,9 @@ returns c =
     let h = (After-from-numbers-from-After-plain-effect c).from-numbers.result in
     let to-a = to_z-of_z (fits32 l.a (c.before.before.struct_told.given.1.0.1)) in
     rw (c.plain-effect.ensures)
-    (λ base draft values arrived confirmed table index tags sound. lent (After-from-numbers-from-After-plain-effect c).from-numbers.ensures refl
+    (λ base draft values arrived confirmed table index sound. lent (After-from-numbers-from-After-plain-effect c).from-numbers.ensures refl
     (sym (After-from-numbers-from-After-plain-effect c).from-numbers.ensures)
-    (read_making l h base draft values arrived confirmed table index a.look a.counts.now tags sound s.pre.0 s.pre.1 c.before.read.result
+    (read_making l h base draft values arrived confirmed table index a.look a.counts.now sound s.pre.0 s.pre.1 c.before.read.result
     (c.before.read.ensures ∙ ap (λ y. reading_of l.op y h a.look.named a.look.standing (left_noted a.counts.now)) to-a)))
 
 pub read-in-spec : {M : Type 1} → statement M

@@ -1,13 +1,10 @@
-use mathlib.Core.Path.{◌≡◌, refl, ◌∙◌, sym, ap, subst}
+use mathlib.Core.Path.{◌≡◌, refl, ◌∙◌, sym, ap}
 use mir.Facts.{to_z-of_z}
 use Rattle.exact.proofs.Ints.{fits32}
 use Rattle.protocol.specs.Lists.{natural}
 use Rattle.counts.specs.Tallies.{all_sent}
 use mathlib.Core.Bool.{cond, false}
 use lib.ListN.{get_or}
-use Rattle.heads.specs.Heads.{kept_in}
-use Rattle.records.specs.Tags.{waiting_from}
-use Rattle.calls.specs.Makes.{SentIf}
 use Rattle.calls.proofs.Makes.{lent, send_making}
 use borrow.Author.Rules.{rules}
 use Rattle.calls.proofs.send_in.Statement.{statement}
@@ -25,22 +22,22 @@ use Rattle.calls.proofs.plain_effect.Reads as plain-effect-reads
 -- ---- the places of the code, as tools/named writes them
 
 abbrev After-decide-send-from-After-plain-effect : tie.After-plain-effect → tie.After-decide-send
-After-decide-send-from-After-plain-effect c = c.before.before.before.before.before
+After-decide-send-from-After-plain-effect c = c.before.before.before.before
 
 abbrev After-index-from-After-plain-effect : tie.After-plain-effect → tie.After-index
-After-index-from-After-plain-effect c = c.before.before.before.before.before.before.before.before
+After-index-from-After-plain-effect c = c.before.before.before.before.before.before.before
 
 abbrev After-number-from-After-plain-effect : tie.After-plain-effect → tie.After-number
-After-number-from-After-plain-effect c = c.before.before.before.before.before.before.before.before.before
+After-number-from-After-plain-effect c = c.before.before.before.before.before.before.before.before
 
 abbrev After-struct-told-from-After-plain-effect : tie.After-plain-effect → tie.After-struct-told
-After-struct-told-from-After-plain-effect c = c.before.before.before.before.before.before.before.before.before.before
+After-struct-told-from-After-plain-effect c = c.before.before.before.before.before.before.before.before.before
 
 abbrev After-from-numbers-from-After-plain-effect : tie.After-plain-effect → tie.After-from-numbers
-After-from-numbers-from-After-plain-effect c = c.before.before.before.before.before.before.before.before.before.before.before
+After-from-numbers-from-After-plain-effect c = c.before.before.before.before.before.before.before.before.before.before
 
 abbrev Start-from-After-plain-effect : tie.After-plain-effect → tie.Start
-Start-from-After-plain-effect c = c.before.before.before.before.before.before.before.before.before.before.before.before
+Start-from-After-plain-effect c = c.before.before.before.before.before.before.before.before.before.before.before
 
 from-numbers-requires : tie.Need-from-numbers-requires
 from-numbers-requires c κs = search rules
@@ -86,12 +83,11 @@ returns c =
     rw c.plain-effect.ensures
     (λ base draft values confirmed table index look sound. lent (After-from-numbers-from-After-plain-effect c).from-numbers.ensures
     refl (sym (After-from-numbers-from-After-plain-effect c).from-numbers.ensures)
-    (send_making l h base draft values a.arrived.now confirmed table index look a.counts.now a.tags.now sound s.pre d
+    (send_making l h base draft values a.arrived.now confirmed table index look a.counts.now sound s.pre d
     ((After-number-from-After-plain-effect c).number.ensures ∙ ap natural to-a) (After-index-from-After-plain-effect c).index.ensures.0
-    (c.before.note-sent.ensures.1
-    ∙ ap (λ b. cond b (all_sent (After-number-from-After-plain-effect c).number.result (get_or a.arrived.now (After-index-from-After-plain-effect c).index.result false) (waiting_from c.before.note-sent.new.1.0 0 h)
+    (c.before.note-sent.ensures
+    ∙ ap (λ b. cond b (all_sent (After-number-from-After-plain-effect c).number.result (get_or a.arrived.now (After-index-from-After-plain-effect c).index.result false)
     a.counts.now) a.counts.now) c.before.before.accepted.ensures)
-    (subst (λ b. SentIf b (After-number-from-After-plain-effect c).number.result (kept_in h) a.tags.now c.before.note-sent.new.1.0) c.before.before.accepted.ensures c.before.note-sent.ensures.0)
     (After-decide-send-from-After-plain-effect c).decide-send.ensures))
 
 pub send-in-spec : {M : Type 1} → statement M

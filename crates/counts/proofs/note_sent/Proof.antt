@@ -62,17 +62,13 @@ element-write-t-3 c = search rules
 element-write-t-4 : tie.Need-element-write-t-4
 element-write-t-4 c = search rules
 
-element-write-t-5 : tie.Need-element-write-t-5
-element-write-t-5 c = search rules
-
 returns : tie.Need-returns
 returns c =
     let t = c.before.before.before.before.before.before.before.before.before.args.t.now in
     let i = c.before.before.before.before.before.before.before.before.index.ensures.0 in
-    λ k. set (set (set (set (set t (i k) 0) 8
+    λ k. set (set (set (set t (i k) 0) 8
     (c.before.before.before.before.before.capped.ensures k + (c.before.before.before.before.capped2.ensures ∙ ap (λ j. min (get_or t j 0) 256) i) k)) 10
-    (c.before.before.one_less.ensures k)) 11 (c.still-missing.ensures k)) 12
-    c.before.before.before.before.before.before.before.before.before.args.lowest
+    (c.before.before.one_less.ensures k)) 11 (c.still-missing.ensures k)
 
 pub note-sent-spec : {M : Type 1} → statement M
 note-sent-spec =
@@ -95,5 +91,4 @@ note-sent-spec =
     element-write-t-2
     element-write-t-3
     element-write-t-4
-    element-write-t-5
     returns)

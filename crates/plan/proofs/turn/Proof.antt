@@ -17,10 +17,11 @@ use Rattle.query.proofs.Right.{tallies_right}
 use Rattle.state.specs.View.{view, state_of}
 use Rattle.counts.specs.Tallies.{Tallied}
 use Rattle.moves.specs.Moves.{Marked}
+use Rattle.replay.specs.Replays.{earlier_at}
 use Rattle.state.specs.Spread.{spread}
 use Rattle.state.proofs.Owned.{owned_spread, owned_table}
-use Rattle.calls.specs.Makes.{noted, TaggedIn}
-use Rattle.calls.proofs.Makes.{lent, first_looked, noted-length, bare-answer}
+use Rattle.calls.specs.Makes.{noted}
+use Rattle.calls.proofs.Makes.{lent, first_looked, second_looked, noted-length, bare-answer}
 use Rattle.moves.proofs.Sends.{marked_begin, marked_next, marked_passed, mark_sent-other}
 use Rattle.plan.specs.Turns.{Turns}
 use Rattle.plan.proofs.turn.Statement.{statement}
@@ -30,6 +31,7 @@ use Rattle.plan.proofs.turn.Lts as lts
 use Rattle.calls.proofs.first_look.Reads as first-look-reads
 use Rattle.calls.proofs.looking.Reads as looking-reads
 use Rattle.calls.proofs.make.Reads as make-reads
+use Rattle.calls.proofs.second_look.Reads as second-look-reads
 use Rattle.counts.proofs.no_tallies.Reads as no-tallies-reads
 use Rattle.exact.proofs.number.Reads as number-reads
 use Rattle.heads.proofs.from_numbers.Reads as from-numbers-reads
@@ -39,14 +41,13 @@ use Rattle.moves.proofs.sent_record.Reads as sent-record-reads
 use Rattle.query.proofs.tallies.Reads as tallies-reads
 use Rattle.records.proofs.satisfies.Reads as satisfies-reads
 use Rattle.state.proofs.of.Reads as of-reads
-use Rattle.records.proofs.tags.Reads as tags-reads
 
 abbrev invariant-loop : tie.invariant-loop
-invariant-loop head base draft values arrived confirmed table edits₀ named looked e side marked j₀ edits j =
+invariant-loop head base draft values arrived confirmed table edits₀ named first next second e side marked j₀ edits j =
     (Marked side edits₀ edits j) × (j ≤ marked) × (marked ≤ 256)
 
 abbrev decreases-loop : tie.decreases-loop
-decreases-loop head base draft values arrived confirmed table edits₀ named looked e side marked j₀ edits j =
+decreases-loop head base draft values arrived confirmed table edits₀ named first next second e side marked j₀ edits j =
     marked - j
 
 numbers-requires : tie.Need-numbers-requires invariant-loop decreases-loop
@@ -54,9 +55,6 @@ numbers-requires c κs = search rules
 
 no-tallies-requires : tie.Need-no-tallies-requires invariant-loop decreases-loop
 no-tallies-requires c κs = search rules
-
-tags-requires : tie.Need-tags-requires invariant-loop decreases-loop
-tags-requires c κs = search rules
 
 tallies-requires : tie.Need-tallies-requires invariant-loop decreases-loop
 tallies-requires c κs = search rules
@@ -73,6 +71,18 @@ mul-standing c = omega arith
 array-copy-out-standing : tie.Need-array-copy-out-standing invariant-loop decreases-loop
 array-copy-out-standing c = omega arith
 
+second-look-requires : tie.Need-second-look-requires invariant-loop decreases-loop
+second-look-requires c κs = search rules
+
+slot-requires-2 : tie.Need-slot-requires-2 invariant-loop decreases-loop
+slot-requires-2 c κs = search rules
+
+mul-seen : tie.Need-overflow-mul-seen invariant-loop decreases-loop
+mul-seen c = omega arith
+
+array-copy-out-seen : tie.Need-array-copy-out-seen invariant-loop decreases-loop
+array-copy-out-seen c = omega arith
+
 looking-requires : tie.Need-looking-requires invariant-loop decreases-loop
 looking-requires c κs = search rules
 
@@ -87,44 +97,53 @@ mul-edits c = omega (arith, c.before.before.make.ensures.slot)
 abbrev Start-from-After-numbers : tie.After-numbers invariant-loop decreases-loop → tie.Start invariant-loop decreases-loop
 Start-from-After-numbers c = c.before.before
 
-abbrev After-numbers-from-After-confirmed : tie.After-confirmed invariant-loop decreases-loop → tie.After-numbers invariant-loop decreases-loop
-After-numbers-from-After-confirmed c = c.before.before.before.before.before
+abbrev Start-from-After-draft : tie.After-draft invariant-loop decreases-loop → tie.Start invariant-loop decreases-loop
+Start-from-After-draft c = c.before.before.before.before
 
-abbrev Start-from-After-confirmed : tie.After-confirmed invariant-loop decreases-loop → tie.Start invariant-loop decreases-loop
-Start-from-After-confirmed c = c.before.before.before.before.before.before.before
+abbrev After-numbers-from-After-edits : tie.After-edits invariant-loop decreases-loop → tie.After-numbers invariant-loop decreases-loop
+After-numbers-from-After-edits c = c.before.before.before.before.before.before.before
+
+abbrev Start-from-After-edits : tie.After-edits invariant-loop decreases-loop → tie.Start invariant-loop decreases-loop
+Start-from-After-edits c = c.before.before.before.before.before.before.before.before.before
 
 abbrev Start-from-Joined1 : tie.Joined1 invariant-loop decreases-loop → tie.Start invariant-loop decreases-loop
 Start-from-Joined1 c = c.before.before.before.before.before.before.before.before.before.before.before.before
 
-abbrev Start-from-After-slot : tie.After-slot invariant-loop decreases-loop → tie.Start invariant-loop decreases-loop
-Start-from-After-slot c = c.before.before.before.before.before.before.before.before.before.before.before.before.before.before
+abbrev After-numbers-from-After-second-look : tie.After-second-look invariant-loop decreases-loop → tie.After-numbers invariant-loop decreases-loop
+After-numbers-from-After-second-look c = c.before.before.before.before.before.before.before.before.before.before.before.before.before.before
 
-abbrev After-numbers-from-After-looking : tie.After-looking invariant-loop decreases-loop → tie.After-numbers invariant-loop decreases-loop
-After-numbers-from-After-looking c = c.before.before.before.before.before.before.before.before.before.before.before.before.before.before
+abbrev After-draft-from-After-seen : tie.After-seen invariant-loop decreases-loop → tie.After-draft invariant-loop decreases-loop
+After-draft-from-After-seen c = c.before.before.before.before.before.before.before.before.before.before.before.before.before.before
 
-abbrev After-looking-from-After-arrived2 : tie.After-arrived2 invariant-loop decreases-loop → tie.After-looking invariant-loop decreases-loop
-After-looking-from-After-arrived2 c = c.before.before.before.before.before
+abbrev After-looking-from-After-values2 : tie.After-values2 invariant-loop decreases-loop → tie.After-looking invariant-loop decreases-loop
+After-looking-from-After-values2 c = c.before.before.before.before
 
-abbrev After-slot-from-After-arrived2 : tie.After-arrived2 invariant-loop decreases-loop → tie.After-slot invariant-loop decreases-loop
-After-slot-from-After-arrived2 c = c.before.before.before.before.before.before.before
+abbrev After-slot2-from-After-values2 : tie.After-values2 invariant-loop decreases-loop → tie.After-slot2 invariant-loop decreases-loop
+After-slot2-from-After-values2 c = c.before.before.before.before.before.before
 
-abbrev After-first-look-from-After-arrived2 : tie.After-arrived2 invariant-loop decreases-loop → tie.After-first-look invariant-loop decreases-loop
-After-first-look-from-After-arrived2 c = c.before.before.before.before.before.before.before.before
+abbrev After-second-look-from-After-values2 : tie.After-values2 invariant-loop decreases-loop → tie.After-second-look invariant-loop decreases-loop
+After-second-look-from-After-values2 c = c.before.before.before.before.before.before.before
 
-abbrev Joined1-from-After-arrived2 : tie.After-arrived2 invariant-loop decreases-loop → tie.Joined1 invariant-loop decreases-loop
-Joined1-from-After-arrived2 c = c.before.before.before.before.before.before.before.before.before
+abbrev After-slot-from-After-values2 : tie.After-values2 invariant-loop decreases-loop → tie.After-slot invariant-loop decreases-loop
+After-slot-from-After-values2 c = c.before.before.before.before.before.before.before.before.before
 
-abbrev After-confirmed-from-After-arrived2 : tie.After-arrived2 invariant-loop decreases-loop → tie.After-confirmed invariant-loop decreases-loop
-After-confirmed-from-After-arrived2 c = c.before.before.before.before.before.before.before.before.before.before.before.before.before.before
+abbrev After-first-look-from-After-values2 : tie.After-values2 invariant-loop decreases-loop → tie.After-first-look invariant-loop decreases-loop
+After-first-look-from-After-values2 c = c.before.before.before.before.before.before.before.before.before.before
 
-abbrev After-slot-from-Joined2 : tie.Joined2 invariant-loop decreases-loop → tie.After-slot invariant-loop decreases-loop
-After-slot-from-Joined2 c = c.before.before.before.before.before.before.before.before.before.before.before.before.before.before
+abbrev Joined1-from-After-values2 : tie.After-values2 invariant-loop decreases-loop → tie.Joined1 invariant-loop decreases-loop
+Joined1-from-After-values2 c = c.before.before.before.before.before.before.before.before.before.before.before
+
+abbrev After-edits-from-After-values2 : tie.After-values2 invariant-loop decreases-loop → tie.After-edits invariant-loop decreases-loop
+After-edits-from-After-values2 c = c.before.before.before.before.before.before.before.before.before.before.before.before.before.before
+
+abbrev After-second-look-from-Joined2 : tie.Joined2 invariant-loop decreases-loop → tie.After-second-look invariant-loop decreases-loop
+After-second-look-from-Joined2 c = c.before.before.before.before.before.before.before.before.before.before.before.before.before.before
 
 abbrev After-make-from-After-number : tie.After-number invariant-loop decreases-loop → tie.After-make invariant-loop decreases-loop
 After-make-from-After-number c = c.before.before.before
 
-abbrev After-looking-from-After-number : tie.After-number invariant-loop decreases-loop → tie.After-looking invariant-loop decreases-loop
-After-looking-from-After-number c = c.before.before.before.before.before.before.before.before.before.before.before.before.before.before
+abbrev After-seen-from-After-number : tie.After-number invariant-loop decreases-loop → tie.After-seen invariant-loop decreases-loop
+After-seen-from-After-number c = c.before.before.before.before.before.before.before.before.before.before.before.before.before.before
 
 abbrev After-loop-from-After-of : tie.After-of invariant-loop decreases-loop → tie.After-loop invariant-loop decreases-loop
 After-loop-from-After-of c = c.before.before.before
@@ -156,8 +175,8 @@ Joined2-from-Joined3 c = c.before.before.before.before.before.before.before
 abbrev After-make-from-After-of : tie.After-of invariant-loop decreases-loop → tie.After-make invariant-loop decreases-loop
 After-make-from-After-of c = c.before.before.before.before.before.before.before.before
 
-abbrev After-arrived2-from-After-of : tie.After-of invariant-loop decreases-loop → tie.After-arrived2 invariant-loop decreases-loop
-After-arrived2-from-After-of c = c.before.before.before.before.before.before.before.before.before.before.before.before.before.before
+abbrev After-values2-from-After-of : tie.After-of invariant-loop decreases-loop → tie.After-values2 invariant-loop decreases-loop
+After-values2-from-After-of c = c.before.before.before.before.before.before.before.before.before.before.before.before.before.before
 
 abbrev In-loop-from-After-sent-record : tie.After-sent-record invariant-loop decreases-loop → tie.In-loop invariant-loop decreases-loop
 In-loop-from-After-sent-record c = c.before.before.before.before
@@ -165,38 +184,47 @@ In-loop-from-After-sent-record c = c.before.before.before.before
 abbrev At-loop-from-After-sent-record : tie.After-sent-record invariant-loop decreases-loop → tie.At-loop invariant-loop decreases-loop
 At-loop-from-After-sent-record c = c.before.before.before.before.before
 
-abbrev Start-from-After-looking : tie.After-looking invariant-loop decreases-loop → tie.Start invariant-loop decreases-loop
-Start-from-After-looking c = Start-from-After-numbers (After-numbers-from-After-looking c)
+abbrev Start-from-After-second-look : tie.After-second-look invariant-loop decreases-loop → tie.Start invariant-loop decreases-loop
+Start-from-After-second-look c = Start-from-After-numbers (After-numbers-from-After-second-look c)
 
-abbrev After-numbers-from-After-arrived2 : tie.After-arrived2 invariant-loop decreases-loop → tie.After-numbers invariant-loop decreases-loop
-After-numbers-from-After-arrived2 c = After-numbers-from-After-confirmed (After-confirmed-from-After-arrived2 c)
+abbrev Start-from-After-seen : tie.After-seen invariant-loop decreases-loop → tie.Start invariant-loop decreases-loop
+Start-from-After-seen c = Start-from-After-draft (After-draft-from-After-seen c)
 
-abbrev Start-from-After-arrived2 : tie.After-arrived2 invariant-loop decreases-loop → tie.Start invariant-loop decreases-loop
-Start-from-After-arrived2 c = Start-from-After-confirmed (After-confirmed-from-After-arrived2 c)
+abbrev After-numbers-from-After-values2 : tie.After-values2 invariant-loop decreases-loop → tie.After-numbers invariant-loop decreases-loop
+After-numbers-from-After-values2 c = After-numbers-from-After-edits (After-edits-from-After-values2 c)
+
+abbrev Start-from-After-values2 : tie.After-values2 invariant-loop decreases-loop → tie.Start invariant-loop decreases-loop
+Start-from-After-values2 c = Start-from-After-edits (After-edits-from-After-values2 c)
 
 abbrev Start-from-Joined2 : tie.Joined2 invariant-loop decreases-loop → tie.Start invariant-loop decreases-loop
-Start-from-Joined2 c = Start-from-After-slot (After-slot-from-Joined2 c)
+Start-from-Joined2 c = Start-from-After-second-look (After-second-look-from-Joined2 c)
 
 abbrev Start-from-After-number : tie.After-number invariant-loop decreases-loop → tie.Start invariant-loop decreases-loop
-Start-from-After-number c = Start-from-After-looking (After-looking-from-After-number c)
+Start-from-After-number c = Start-from-After-seen (After-seen-from-After-number c)
 
 abbrev After-looking-from-After-of : tie.After-of invariant-loop decreases-loop → tie.After-looking invariant-loop decreases-loop
-After-looking-from-After-of c = After-looking-from-After-arrived2 (After-arrived2-from-After-of c)
+After-looking-from-After-of c = After-looking-from-After-values2 (After-values2-from-After-of c)
+
+abbrev After-slot2-from-After-of : tie.After-of invariant-loop decreases-loop → tie.After-slot2 invariant-loop decreases-loop
+After-slot2-from-After-of c = After-slot2-from-After-values2 (After-values2-from-After-of c)
+
+abbrev After-second-look-from-After-of : tie.After-of invariant-loop decreases-loop → tie.After-second-look invariant-loop decreases-loop
+After-second-look-from-After-of c = After-second-look-from-After-values2 (After-values2-from-After-of c)
 
 abbrev After-slot-from-After-of : tie.After-of invariant-loop decreases-loop → tie.After-slot invariant-loop decreases-loop
-After-slot-from-After-of c = After-slot-from-After-arrived2 (After-arrived2-from-After-of c)
+After-slot-from-After-of c = After-slot-from-After-values2 (After-values2-from-After-of c)
 
 abbrev After-first-look-from-After-of : tie.After-of invariant-loop decreases-loop → tie.After-first-look invariant-loop decreases-loop
-After-first-look-from-After-of c = After-first-look-from-After-arrived2 (After-arrived2-from-After-of c)
+After-first-look-from-After-of c = After-first-look-from-After-values2 (After-values2-from-After-of c)
 
 abbrev Joined1-from-After-of : tie.After-of invariant-loop decreases-loop → tie.Joined1 invariant-loop decreases-loop
-Joined1-from-After-of c = Joined1-from-After-arrived2 (After-arrived2-from-After-of c)
+Joined1-from-After-of c = Joined1-from-After-values2 (After-values2-from-After-of c)
 
 abbrev After-numbers-from-After-of : tie.After-of invariant-loop decreases-loop → tie.After-numbers invariant-loop decreases-loop
-After-numbers-from-After-of c = After-numbers-from-After-arrived2 (After-arrived2-from-After-of c)
+After-numbers-from-After-of c = After-numbers-from-After-values2 (After-values2-from-After-of c)
 
 abbrev Start-from-After-of : tie.After-of invariant-loop decreases-loop → tie.Start invariant-loop decreases-loop
-Start-from-After-of c = Start-from-After-arrived2 (After-arrived2-from-After-of c)
+Start-from-After-of c = Start-from-After-values2 (After-values2-from-After-of c)
 
 array-set-from-edits : tie.Need-array-set-from-edits invariant-loop decreases-loop
 array-set-from-edits c = omega arith
@@ -204,17 +232,12 @@ array-set-from-edits c = omega arith
 number-requires : tie.Need-number-requires invariant-loop decreases-loop
 number-requires c κs = search rules
 
--- the counts and the tags are the plan's, but for an edit
-counted : (c : tie.Joined1 invariant-loop decreases-loop) → eqb (Start-from-Joined1 c).args.l.op 5 ≡ false
-    → Tallied c.if1.counts (view (Start-from-Joined1 c).args.t1) × TaggedIn c.if1.tags (Start-from-Joined1 c).args.t1
+-- the counts are the plan's, but for an edit
+counted : (c : tie.Joined1 invariant-loop decreases-loop) → eqb (Start-from-Joined1 c).args.l.op 5 ≡ false → Tallied c.if1.counts (view (Start-from-Joined1 c).args.t1)
 counted c y =
     let p = (Start-from-Joined1 c).args.t1 in
     on c.if1.branch
-    (λ w.
-    let t = w.6.ensures in (
-      subst (λ u. Tallied u (view p)) (sym w.7) (tallies_right (spread p) w.6.result t.0 t.1 t.2 t.3 w.1.ensures t.4),
-      subst (λ u. TaggedIn u p) (sym w.8) w.1.ensures,
-    ))
+    (λ w. let t = w.4.ensures in subst (λ u. Tallied u (view p)) (sym w.5) (tallies_right (spread p) w.4.result t.0 t.1 t.2 t.3))
     (λ w. absurd (subst T (sym (ap (λ o. eqb o 5) w.0.left) ∙ y) tt))
 
 -- the record is stored where it is kept
@@ -299,12 +322,14 @@ returns c =
     (record {
       sized = owned_spread p s.good.0;
       long = owned_table p s.good.0;
-      tallied = λ y. (counted ((Joined1-from-After-of c)) y).0;
-      tagged = λ y. (counted ((Joined1-from-After-of c)) y).1;
+      tallied = λ y. counted ((Joined1-from-After-of c)) y;
       held = λ x. absurd (is_yes x);
       indexed = λ x. absurd (is_yes x);
       named = λ y. ap (λ k. k.named) seen ∙ first_looked p.head l (After-first-look-from-After-of c).first-look.ensures y;
       stood = λ y. ap (λ k. k.standing) seen ∙ ap (λ n. get_or es n no_record) ((After-slot-from-After-of c).slot.ensures.0 ∙ sym (ap (λ k. slot_at k.named) seen));
+      next = λ y. ap (λ k. k.next) seen ∙ second_looked p.head l (After-first-look-from-After-of c).first-look.result (get_or es (After-slot-from-After-of c).slot.result no_record)
+          (After-second-look-from-After-of c).second-look.ensures y ∙ sym (ap (λ k. earlier_at p.head k.named k.standing) seen);
+      saw = λ y. ap (λ k. k.seen) seen ∙ ap (λ n. get_or es n no_record) ((After-slot2-from-After-of c).slot2.ensures.0 ∙ sym (ap (λ k. slot_at k.next) seen));
     })
     (subst (λ x. Marked (natural l.a) (noted e es) (At-loop-from-After-of c).loop.edits x) n
     (subst (λ x. Marked (natural l.a) x (At-loop-from-After-of c).loop.edits (At-loop-from-After-of c).loop.j) (noted-is ((Joined2-from-After-of c)))
@@ -323,12 +348,15 @@ turn_spec =
     decreases-loop
     numbers-requires
     no-tallies-requires
-    tags-requires
     tallies-requires
     first-look-requires
     slot-requires
     mul-standing
     array-copy-out-standing
+    second-look-requires
+    slot-requires-2
+    mul-seen
+    array-copy-out-seen
     looking-requires
     make-requires
     mul-edits

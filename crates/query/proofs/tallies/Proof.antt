@@ -14,7 +14,6 @@ use Rattle.heads.proofs.unset.Reads as unset-reads
 use Rattle.query.proofs.left_number.Reads as left-number-reads
 use Rattle.query.proofs.unsent_counts.Reads as unsent-counts-reads
 use Rattle.records.proofs.count.Reads as count-reads
-use Rattle.records.proofs.next_waiting.Reads as next-waiting-reads
 
 unsent-counts-requires : tie.Need-unsent-counts-requires
 unsent-counts-requires c κs = search rules
@@ -34,9 +33,6 @@ left-number-requires c κs = search rules
 unset-requires : tie.Need-unset-requires
 unset-requires c κs = search rules
 
-next-waiting-requires : tie.Need-next-waiting-requires
-next-waiting-requires c κs = search rules
-
 array-write-t : tie.Need-array-write-t
 array-write-t c = search rules
 
@@ -49,35 +45,28 @@ array-write-t-3 c = search rules
 array-write-t-4 : tie.Need-array-write-t-4
 array-write-t-4 c = search rules
 
-cast_t : tie.Need-overflow-cast-t
-cast_t c = search rules
-
-array-write-t-5 : tie.Need-array-write-t-5
-array-write-t-5 c = search rules
-
 returns : tie.Need-returns
 returns c =
-    let a = c.before.before.before.before.before.before.before.before.args in
-    let t = c.before.before.before.before.before.before.before.unsent-counts.result in
-    let w = c.before.before.before.before.before.before.count.result in
-    let s = c.before.before.before.before.before.count2.result in
-    let l = c.before.before.left-number.result in
-    let m = c.before.unset.result in
-    let f = c.next-waiting.result in
-    let u = c.before.before.before.before.before.before.before.unsent-counts.ensures in
+    let a = c.before.before.before.before.before.before.before.args in
+    let t = c.before.before.before.before.before.before.unsent-counts.result in
+    let w = c.before.before.before.before.before.count.result in
+    let s = c.before.before.before.before.count2.result in
+    let l = c.before.left-number.result in
+    let m = c.unset.result in
+    let u = c.before.before.before.before.before.before.unsent-counts.ensures in
     let n = ap length u ∙ counts_length a.h a.edits 8 in
-    let g = behind-stored t w s l m f n in (
+    let f = behind-stored t w s l m n in (
       record {
-        unsent = λ x p q. behind-side t w s l m f x ∙ ap (λ xs. get_or xs (index_of x) 0) u ∙ counts_side a.h a.edits x p q;
-        waiting = g.0 ∙ c.before.before.before.before.before.before.count.ensures.0;
-        settled = g.1 ∙ c.before.before.before.before.before.count2.ensures.0;
+        unsent = λ x p q. behind-side t w s l m x ∙ ap (λ xs. get_or xs (index_of x) 0) u ∙ counts_side a.h a.edits x p q;
+        waiting = f.0
+            ∙ c.before.before.before.before.before.count.ensures.0;
+        settled = f.1 ∙ c.before.before.before.before.count2.ensures.0;
       },
-      behind-length t w s l m f n,
-      g.2 ∙ c.before.before.left-number.ensures ∙ ap (λ k. left_number a.h a.arrived.now a.confirmed.now t (min k 256))
-          (c.before.before.before.before.unsettled.ensures.0 ∙ ap (λ k. kept_in a.h - k) (sym g.1))
-          ∙ sym (left-same a.h a.arrived.now a.confirmed.now (behind t w s l m f) t _ (behind-side t w s l m f)),
-      g.3 ∙ c.before.unset.ensures.0,
-      g.4 ∙ c.next-waiting.ensures.0,
+      behind-length t w s l m n,
+      f.2 ∙ c.before.left-number.ensures ∙ ap (λ k. left_number a.h a.arrived.now a.confirmed.now t (min k 256))
+          (c.before.before.before.unsettled.ensures.0 ∙ ap (λ k. kept_in a.h - k) (sym f.1))
+          ∙ sym (left-same a.h a.arrived.now a.confirmed.now (behind t w s l m) t _ (behind-side t w s l m)),
+      f.3 ∙ c.unset.ensures.0,
     )
 
 pub tallies-spec : {M : Type 1} → statement M
@@ -90,11 +79,8 @@ tallies-spec =
     unsettled-requires
     left-number-requires
     unset-requires
-    next-waiting-requires
     array-write-t
     array-write-t-2
     array-write-t-3
     array-write-t-4
-    cast_t
-    array-write-t-5
     returns)

@@ -1,11 +1,7 @@
-use Rattle.run.proofs.previous.Reads as previous-reads
-use Rattle.run.proofs.due.Reads as due-reads
-use Rattle.run.proofs.link.Reads as link-reads
-use Rattle.run.proofs.remaining.Reads as remaining-reads
-use Rattle.run.proofs.unlink.Reads as unlink-reads
 use Rattle.heads.specs.Heads.{slot_at}
 use Rattle.heads.specs.Numbers.{head_from}
 use Rattle.heads.proofs.Heads.{head-numbers}
+use Rattle.replay.specs.Replays.{earlier_at}
 use Rattle.protocol.specs.Plan.{is}
 use Rattle.calls.proofs.looking.Reads as looking-reads
 use Rattle.heads.proofs.from_numbers.Reads as from-numbers-reads
@@ -26,17 +22,15 @@ use mir.Facts.{to_z-of_z, Fits-le}
 use Rattle.exact.proofs.Ints.{fits32}
 use Rattle.protocol.specs.Lists.{natural}
 use Rattle.protocol.specs.Plan.{Plan}
-use Rattle.protocol.proofs.Laws.{on, is_yes, bit_most}
-use mathlib.Core.Logic.{◌≢◌}
+use Rattle.protocol.proofs.Laws.{on, is_yes}
 use Rattle.format.specs.Lines.{line_feed, line_call}
 use Rattle.format.specs.Sheets.{text, line_step, step_of, in_front}
 use Rattle.rows.specs.Rows.{row}
 use Rattle.rows.proofs.Spans.{get_or-blank}
-use Rattle.records.specs.Records.{kept_at, no_record, test_of}
-use Rattle.records.specs.declared.Test.TheVariants.{UnsentOf}
+use Rattle.records.specs.Records.{no_record}
 use Rattle.writer.specs.Writes.{line_of, put_in, put_length}
 use Rattle.moves.specs.Moves.{Marked}
-use Rattle.moves.proofs.Sends.{marked_begin, marked_next, marked_passed, mark_sent-other, unsent_among, unsent_among_lem, Partly, partly_begin, partly_next, marked_all}
+use Rattle.moves.proofs.Sends.{marked_begin, marked_next, marked_passed, mark_sent-other}
 use Rattle.reader.specs.Cut.{up_to}
 use Rattle.reader.specs.Reads.{line_in}
 use Rattle.reader.proofs.Cut.{line_within}
@@ -45,12 +39,12 @@ use Rattle.state.specs.declared.State.{State}
 use Rattle.state.specs.Spread.{spread}
 use Rattle.state.specs.View.{view, state_of}
 use Rattle.counts.specs.Tallies.{Tallied}
-use Rattle.calls.specs.Makes.{asked_at, SoundIn, TaggedIn, Known, Makes, noted}
+use Rattle.calls.specs.Makes.{asked_at, SoundIn, Makes, noted}
 use Rattle.rules.specs.Index.{is_made}
 use Rattle.calls.proofs.Turning.{sound_made}
 use Rattle.query.proofs.tallies.Reads as tallies-reads
 use Rattle.query.proofs.Right.{tallies_right}
-use Rattle.calls.proofs.Makes.{first_looked, noted-length}
+use Rattle.calls.proofs.Makes.{first_looked, second_looked, noted-length}
 use Rattle.run.specs.Progress.{last_of, Advanced}
 use Rattle.run.specs.Advance.{Lent}
 use Rattle.run.proofs.Running.{Going, Within, Course, inside, finished, unfit, dropped, next_line, begins, lent_rest, put_back}
@@ -61,6 +55,7 @@ use Rattle.run.proofs.advance.Reads as reads
 use Rattle.run.proofs.advance.Lts as lts
 use Rattle.calls.proofs.first_look.Reads as first-look-reads
 use Rattle.calls.proofs.make.Reads as make-reads
+use Rattle.calls.proofs.second_look.Reads as second-look-reads
 use Rattle.exact.proofs.number.Reads as number-reads
 use Rattle.heads.proofs.slot.Reads as slot-reads
 use Rattle.reader.proofs.read_line.Reads as read-line-reads
@@ -69,407 +64,339 @@ use Rattle.run.proofs.last.Reads as last-reads
 use Rattle.moves.proofs.sent_record.Reads as sent-record-reads
 use Rattle.run.proofs.ends.Reads as ends-reads
 use Rattle.run.proofs.tell.Reads as tell-reads
-use Rattle.records.proofs.tags.Reads as tags-reads
 
 abbrev invariant-loop2 : tie.invariant-loop2
-invariant-loop2 base draft values arrived confirmed table way sheet area head edits₀ tags counts chain lasts index at i ended stop line named looked e answer side marked found₀ p₀ edits found p =
-    Partly side edits₀ edits marked found × (p ≤ marked) × (marked ≤ 256) × (found + p ≤ 256)
+invariant-loop2 base draft values arrived confirmed table way sheet area head edits₀ counts index at i ended stop line named first next second e side marked j₀ edits j =
+    (Marked side edits₀ edits j) × (j ≤ marked) × (marked ≤ 256)
 
 abbrev decreases-loop2 : tie.decreases-loop2
-decreases-loop2 base draft values arrived confirmed table way sheet area head edits₀ tags counts chain lasts index at i ended stop line named looked e answer side marked found₀ p₀ edits found p = p
-
-abbrev invariant-loop3 : tie.invariant-loop3
-invariant-loop3 base draft values arrived confirmed table way sheet area head edits₀ tags counts chain lasts index at i ended stop line named looked e answer side marked found p rest j₀ edits j =
-    (Marked side edits₀ edits j) × (j ≤ rest) × (rest ≤ 256)
-
-abbrev decreases-loop3 : tie.decreases-loop3
-decreases-loop3 base draft values arrived confirmed table way sheet area head edits₀ tags counts chain lasts index at i ended stop line named looked e answer side marked found p rest j₀ edits j = rest - j
+decreases-loop2 base draft values arrived confirmed table way sheet area head edits₀ counts index at i ended stop line named first next second e side marked j₀ edits j = marked - j
 
 abbrev invariant-loop : tie.invariant-loop
-invariant-loop base₀ draft₀ values₀ arrived₀ confirmed₀ table₀ way sheet area₀ head₀ edits₀ tags₀ counts₀ chain₀ lasts₀ index₀ at₀ i₀ ended₀ stop₀ base draft values arrived confirmed table area head
-    edits tags counts chain lasts index at i ended stop =
+invariant-loop base₀ draft₀ values₀ arrived₀ confirmed₀ table₀ way sheet area₀ head₀ edits₀ counts₀ index₀ at₀ i₀ ended₀ stop₀ base draft values arrived confirmed table area head edits counts index at i
+    ended stop =
     let p = state_of (head_from head₀) base₀ draft₀ values₀ arrived₀ confirmed₀ table₀ edits₀ in
     Within way.reserve sheet area₀ area edits at ended stop
-    × (Lent way.sound p → Course way sheet area₀ (view p) area (state_of (head_from head) base draft values arrived confirmed table edits) counts tags index at i ended)
+    × (Lent way.sound p → Course way sheet area₀ (view p) area (state_of (head_from head) base draft values arrived confirmed table edits) counts index at i ended)
 
 abbrev decreases-loop : tie.decreases-loop
-decreases-loop base₀ draft₀ values₀ arrived₀ confirmed₀ table₀ way sheet area₀ head₀ edits₀ tags₀ counts₀ chain₀ lasts₀ index₀ at₀ i₀ ended₀ stop₀ base draft values arrived confirmed table area head
-    edits tags counts chain lasts index at i ended stop = length sheet - i
+decreases-loop base₀ draft₀ values₀ arrived₀ confirmed₀ table₀ way sheet area₀ head₀ edits₀ counts₀ index₀ at₀ i₀ ended₀ stop₀ base draft values arrived confirmed table area head edits counts index at i
+    ended stop = length sheet - i
 
 -- the plan that was lent, and as it is before the first line
-abbrev lent : tie.Start invariant-loop2 decreases-loop2 invariant-loop3 decreases-loop3 invariant-loop decreases-loop → State
+abbrev lent : tie.Start invariant-loop2 decreases-loop2 invariant-loop decreases-loop → State
 lent c = let a = c.args in state_of a.first a.base.now a.draft.now a.values.now a.arrived.now a.confirmed.now a.table.now a.kept
 
 -- ---- the places of the code, as tools/named writes them
 
-abbrev Start-from-After-slice-known : tie.After-slice-known invariant-loop2 decreases-loop2 invariant-loop3 decreases-loop3 invariant-loop decreases-loop → tie.Start invariant-loop2 decreases-loop2 invariant-loop3 decreases-loop3 invariant-loop decreases-loop
-Start-from-After-slice-known c = c.before.before
-
-abbrev Start-from-After-numbers : tie.After-numbers invariant-loop2 decreases-loop2 invariant-loop3 decreases-loop3 invariant-loop decreases-loop → tie.Start invariant-loop2 decreases-loop2 invariant-loop3 decreases-loop3 invariant-loop decreases-loop
+abbrev Start-from-After-numbers : tie.After-numbers invariant-loop2 decreases-loop2 invariant-loop decreases-loop → tie.Start invariant-loop2 decreases-loop2 invariant-loop decreases-loop
 Start-from-After-numbers c = c.before.before.before
 
-abbrev After-numbers-from-After-tags2 : tie.After-tags2 invariant-loop2 decreases-loop2 invariant-loop3 decreases-loop3 invariant-loop decreases-loop → tie.After-numbers invariant-loop2 decreases-loop2 invariant-loop3 decreases-loop3 invariant-loop decreases-loop
-After-numbers-from-After-tags2 c = c.before.before
+abbrev After-numbers-from-After-last : tie.After-last invariant-loop2 decreases-loop2 invariant-loop decreases-loop → tie.After-numbers invariant-loop2 decreases-loop2 invariant-loop decreases-loop
+After-numbers-from-After-last c = c.before.before.before.before
 
-abbrev Start-from-After-tags2 : tie.After-tags2 invariant-loop2 decreases-loop2 invariant-loop3 decreases-loop3 invariant-loop decreases-loop → tie.Start invariant-loop2 decreases-loop2 invariant-loop3 decreases-loop3 invariant-loop decreases-loop
-Start-from-After-tags2 c = c.before.before.before.before.before
+abbrev Start-from-After-last : tie.After-last invariant-loop2 decreases-loop2 invariant-loop decreases-loop → tie.Start invariant-loop2 decreases-loop2 invariant-loop decreases-loop
+Start-from-After-last c = c.before.before.before.before.before.before.before
 
-abbrev After-slice-known-from-After-tallies : tie.After-tallies invariant-loop2 decreases-loop2 invariant-loop3 decreases-loop3 invariant-loop decreases-loop → tie.After-slice-known invariant-loop2 decreases-loop2 invariant-loop3 decreases-loop3 invariant-loop decreases-loop
-After-slice-known-from-After-tallies c = c.before.before.before.before.before.before
+abbrev After-numbers-from-In-loop : tie.In-loop invariant-loop2 decreases-loop2 invariant-loop decreases-loop → tie.After-numbers invariant-loop2 decreases-loop2 invariant-loop decreases-loop
+After-numbers-from-In-loop c = c.before.before.before.before.before.before
 
-abbrev After-tags-from-After-last : tie.After-last invariant-loop2 decreases-loop2 invariant-loop3 decreases-loop3 invariant-loop decreases-loop → tie.After-tags invariant-loop2 decreases-loop2 invariant-loop3 decreases-loop3 invariant-loop decreases-loop
-After-tags-from-After-last c = c.before.before.before.before.before
+abbrev Start-from-In-loop : tie.In-loop invariant-loop2 decreases-loop2 invariant-loop decreases-loop → tie.Start invariant-loop2 decreases-loop2 invariant-loop decreases-loop
+Start-from-In-loop c = c.before.before.before.before.before.before.before.before.before
 
-abbrev After-numbers-from-After-last : tie.After-last invariant-loop2 decreases-loop2 invariant-loop3 decreases-loop3 invariant-loop decreases-loop → tie.After-numbers invariant-loop2 decreases-loop2 invariant-loop3 decreases-loop3 invariant-loop decreases-loop
-After-numbers-from-After-last c = c.before.before.before.before.before.before
+abbrev In-loop-from-After-read-line-arg : tie.After-read-line-arg invariant-loop2 decreases-loop2 invariant-loop decreases-loop → tie.In-loop invariant-loop2 decreases-loop2 invariant-loop decreases-loop
+In-loop-from-After-read-line-arg c = c.before
 
-abbrev Start-from-After-last : tie.After-last invariant-loop2 decreases-loop2 invariant-loop3 decreases-loop3 invariant-loop decreases-loop → tie.Start invariant-loop2 decreases-loop2 invariant-loop3 decreases-loop3 invariant-loop decreases-loop
-Start-from-After-last c = c.before.before.before.before.before.before.before.before.before
+abbrev At-loop-from-After-read-line-arg : tie.After-read-line-arg invariant-loop2 decreases-loop2 invariant-loop decreases-loop → tie.At-loop invariant-loop2 decreases-loop2 invariant-loop decreases-loop
+At-loop-from-After-read-line-arg c = c.before.before
 
-abbrev After-numbers-from-In-loop : tie.In-loop invariant-loop2 decreases-loop2 invariant-loop3 decreases-loop3 invariant-loop decreases-loop → tie.After-numbers invariant-loop2 decreases-loop2 invariant-loop3 decreases-loop3 invariant-loop decreases-loop
-After-numbers-from-In-loop c = c.before.before.before.before.before.before.before.before
+abbrev After-numbers-from-After-read-line-arg : tie.After-read-line-arg invariant-loop2 decreases-loop2 invariant-loop decreases-loop → tie.After-numbers invariant-loop2 decreases-loop2 invariant-loop decreases-loop
+After-numbers-from-After-read-line-arg c = c.before.before.before.before.before.before.before
 
-abbrev Start-from-In-loop : tie.In-loop invariant-loop2 decreases-loop2 invariant-loop3 decreases-loop3 invariant-loop decreases-loop → tie.Start invariant-loop2 decreases-loop2 invariant-loop3 decreases-loop3 invariant-loop decreases-loop
-Start-from-In-loop c = c.before.before.before.before.before.before.before.before.before.before.before
+abbrev Start-from-After-read-line-arg : tie.After-read-line-arg invariant-loop2 decreases-loop2 invariant-loop decreases-loop → tie.Start invariant-loop2 decreases-loop2 invariant-loop decreases-loop
+Start-from-After-read-line-arg c = c.before.before.before.before.before.before.before.before.before.before
 
-abbrev At-loop-from-After-from-numbers2 : tie.After-from-numbers2 invariant-loop2 decreases-loop2 invariant-loop3 decreases-loop3 invariant-loop decreases-loop → tie.At-loop invariant-loop2 decreases-loop2 invariant-loop3 decreases-loop3 invariant-loop decreases-loop
+abbrev At-loop-from-After-from-numbers2 : tie.After-from-numbers2 invariant-loop2 decreases-loop2 invariant-loop decreases-loop → tie.At-loop invariant-loop2 decreases-loop2 invariant-loop decreases-loop
 At-loop-from-After-from-numbers2 c = c.before.before.before
 
-abbrev At-loop-from-After-read-line : tie.After-read-line invariant-loop2 decreases-loop2 invariant-loop3 decreases-loop3 invariant-loop decreases-loop → tie.At-loop invariant-loop2 decreases-loop2 invariant-loop3 decreases-loop3 invariant-loop decreases-loop
+abbrev At-loop-from-After-read-line : tie.After-read-line invariant-loop2 decreases-loop2 invariant-loop decreases-loop → tie.At-loop invariant-loop2 decreases-loop2 invariant-loop decreases-loop
 At-loop-from-After-read-line c = c.before.before.before
 
-abbrev After-numbers-from-After-from-numbers2 : tie.After-from-numbers2 invariant-loop2 decreases-loop2 invariant-loop3 decreases-loop3 invariant-loop decreases-loop → tie.After-numbers invariant-loop2 decreases-loop2 invariant-loop3 decreases-loop3 invariant-loop decreases-loop
-After-numbers-from-After-from-numbers2 c = c.before.before.before.before.before.before.before.before.before.before
+abbrev After-numbers-from-After-from-numbers2 : tie.After-from-numbers2 invariant-loop2 decreases-loop2 invariant-loop decreases-loop → tie.After-numbers invariant-loop2 decreases-loop2 invariant-loop decreases-loop
+After-numbers-from-After-from-numbers2 c = c.before.before.before.before.before.before.before.before
 
-abbrev After-shared-slice-known-from-After-read-line : tie.After-read-line invariant-loop2 decreases-loop2 invariant-loop3 decreases-loop3 invariant-loop decreases-loop → tie.After-shared-slice-known invariant-loop2 decreases-loop2 invariant-loop3 decreases-loop3 invariant-loop decreases-loop
-After-shared-slice-known-from-After-read-line c = c.before.before.before.before.before.before.before.before.before.before.before.before
+abbrev After-shared-slice-known-from-After-read-line : tie.After-read-line invariant-loop2 decreases-loop2 invariant-loop decreases-loop → tie.After-shared-slice-known invariant-loop2 decreases-loop2 invariant-loop decreases-loop
+After-shared-slice-known-from-After-read-line c = c.before.before.before.before.before.before.before.before.before.before
 
-abbrev Start-from-After-from-numbers2 : tie.After-from-numbers2 invariant-loop2 decreases-loop2 invariant-loop3 decreases-loop3 invariant-loop decreases-loop → tie.Start invariant-loop2 decreases-loop2 invariant-loop3 decreases-loop3 invariant-loop decreases-loop
-Start-from-After-from-numbers2 c = c.before.before.before.before.before.before.before.before.before.before.before.before.before
+abbrev Start-from-After-from-numbers2 : tie.After-from-numbers2 invariant-loop2 decreases-loop2 invariant-loop decreases-loop → tie.Start invariant-loop2 decreases-loop2 invariant-loop decreases-loop
+Start-from-After-from-numbers2 c = c.before.before.before.before.before.before.before.before.before.before.before
 
-abbrev Start-from-After-read-line : tie.After-read-line invariant-loop2 decreases-loop2 invariant-loop3 decreases-loop3 invariant-loop decreases-loop → tie.Start invariant-loop2 decreases-loop2 invariant-loop3 decreases-loop3 invariant-loop decreases-loop
-Start-from-After-read-line c = c.before.before.before.before.before.before.before.before.before.before.before.before.before
+abbrev Start-from-After-read-line : tie.After-read-line invariant-loop2 decreases-loop2 invariant-loop decreases-loop → tie.Start invariant-loop2 decreases-loop2 invariant-loop decreases-loop
+Start-from-After-read-line c = c.before.before.before.before.before.before.before.before.before.before.before
 
-abbrev After-from-numbers-from-After-first-look : tie.After-first-look invariant-loop2 decreases-loop2 invariant-loop3 decreases-loop3 invariant-loop decreases-loop → tie.After-from-numbers invariant-loop2 decreases-loop2 invariant-loop3 decreases-loop3 invariant-loop decreases-loop
-After-from-numbers-from-After-first-look c = c.before
+abbrev After-slice-known-from-After-from-numbers : tie.After-from-numbers invariant-loop2 decreases-loop2 invariant-loop decreases-loop → tie.After-slice-known invariant-loop2 decreases-loop2 invariant-loop decreases-loop
+After-slice-known-from-After-from-numbers c = c.before.before.before.before.before.before.before.before.before.before.before
 
-abbrev After-read-line-from-After-first-look : tie.After-first-look invariant-loop2 decreases-loop2 invariant-loop3 decreases-loop3 invariant-loop decreases-loop → tie.After-read-line invariant-loop2 decreases-loop2 invariant-loop3 decreases-loop3 invariant-loop decreases-loop
+abbrev After-read-line-from-After-first-look : tie.After-first-look invariant-loop2 decreases-loop2 invariant-loop decreases-loop → tie.After-read-line invariant-loop2 decreases-loop2 invariant-loop decreases-loop
 After-read-line-from-After-first-look c = c.before.before.before
 
-abbrev In-loop-from-After-first-look : tie.After-first-look invariant-loop2 decreases-loop2 invariant-loop3 decreases-loop3 invariant-loop decreases-loop → tie.In-loop invariant-loop2 decreases-loop2 invariant-loop3 decreases-loop3 invariant-loop decreases-loop
-In-loop-from-After-first-look c = c.before.before.before.before.before
+abbrev After-read-line-from-After-slot : tie.After-slot invariant-loop2 decreases-loop2 invariant-loop decreases-loop → tie.After-read-line invariant-loop2 decreases-loop2 invariant-loop decreases-loop
+After-read-line-from-After-slot c = c.before.before.before.before
 
-abbrev At-loop-from-After-first-look : tie.After-first-look invariant-loop2 decreases-loop2 invariant-loop3 decreases-loop3 invariant-loop decreases-loop → tie.At-loop invariant-loop2 decreases-loop2 invariant-loop3 decreases-loop3 invariant-loop decreases-loop
-At-loop-from-After-first-look c = c.before.before.before.before.before.before
+abbrev In-loop-from-After-slot : tie.After-slot invariant-loop2 decreases-loop2 invariant-loop decreases-loop → tie.In-loop invariant-loop2 decreases-loop2 invariant-loop decreases-loop
+In-loop-from-After-slot c = c.before.before.before.before.before.before
 
-abbrev After-numbers-from-After-first-look : tie.After-first-look invariant-loop2 decreases-loop2 invariant-loop3 decreases-loop3 invariant-loop decreases-loop → tie.After-numbers invariant-loop2 decreases-loop2 invariant-loop3 decreases-loop3 invariant-loop decreases-loop
-After-numbers-from-After-first-look c = c.before.before.before.before.before.before.before.before.before.before.before.before.before
-
-abbrev After-slice-known-from-After-first-look : tie.After-first-look invariant-loop2 decreases-loop2 invariant-loop3 decreases-loop3 invariant-loop decreases-loop → tie.After-slice-known invariant-loop2 decreases-loop2 invariant-loop3 decreases-loop3 invariant-loop decreases-loop
-After-slice-known-from-After-first-look c = c.before.before.before.before.before.before.before.before.before.before.before.before.before.before
-
-abbrev At-loop-from-After-slot : tie.After-slot invariant-loop2 decreases-loop2 invariant-loop3 decreases-loop3 invariant-loop decreases-loop → tie.At-loop invariant-loop2 decreases-loop2 invariant-loop3 decreases-loop3 invariant-loop decreases-loop
+abbrev At-loop-from-After-slot : tie.After-slot invariant-loop2 decreases-loop2 invariant-loop decreases-loop → tie.At-loop invariant-loop2 decreases-loop2 invariant-loop decreases-loop
 At-loop-from-After-slot c = c.before.before.before.before.before.before.before
 
-abbrev At-loop-from-After-standing : tie.After-standing invariant-loop2 decreases-loop2 invariant-loop3 decreases-loop3 invariant-loop decreases-loop → tie.At-loop invariant-loop2 decreases-loop2 invariant-loop3 decreases-loop3 invariant-loop decreases-loop
-At-loop-from-After-standing c = c.before.before.before.before.before.before.before.before
+abbrev At-loop-from-After-second-look : tie.After-second-look invariant-loop2 decreases-loop2 invariant-loop decreases-loop → tie.At-loop invariant-loop2 decreases-loop2 invariant-loop decreases-loop
+At-loop-from-After-second-look c = c.before.before.before.before.before.before.before.before.before
 
-abbrev After-read-line-from-After-looking : tie.After-looking invariant-loop2 decreases-loop2 invariant-loop3 decreases-loop3 invariant-loop decreases-loop → tie.After-read-line invariant-loop2 decreases-loop2 invariant-loop3 decreases-loop3 invariant-loop decreases-loop
-After-read-line-from-After-looking c = c.before.before.before.before.before.before
+abbrev At-loop-from-After-slot2 : tie.After-slot2 invariant-loop2 decreases-loop2 invariant-loop decreases-loop → tie.At-loop invariant-loop2 decreases-loop2 invariant-loop decreases-loop
+At-loop-from-After-slot2 c = c.before.before.before.before.before.before.before.before.before.before
 
-abbrev In-loop-from-After-looking : tie.After-looking invariant-loop2 decreases-loop2 invariant-loop3 decreases-loop3 invariant-loop decreases-loop → tie.In-loop invariant-loop2 decreases-loop2 invariant-loop3 decreases-loop3 invariant-loop decreases-loop
-In-loop-from-After-looking c = c.before.before.before.before.before.before.before.before
+abbrev At-loop-from-After-seen : tie.After-seen invariant-loop2 decreases-loop2 invariant-loop decreases-loop → tie.At-loop invariant-loop2 decreases-loop2 invariant-loop decreases-loop
+At-loop-from-After-seen c = c.before.before.before.before.before.before.before.before.before.before.before
 
-abbrev At-loop-from-After-looking : tie.After-looking invariant-loop2 decreases-loop2 invariant-loop3 decreases-loop3 invariant-loop decreases-loop → tie.At-loop invariant-loop2 decreases-loop2 invariant-loop3 decreases-loop3 invariant-loop decreases-loop
-At-loop-from-After-looking c = c.before.before.before.before.before.before.before.before.before
+abbrev After-looking-from-After-head2 : tie.After-head2 invariant-loop2 decreases-loop2 invariant-loop decreases-loop → tie.After-looking invariant-loop2 decreases-loop2 invariant-loop decreases-loop
+After-looking-from-After-head2 c = c.before
 
-abbrev After-tags2-from-After-looking : tie.After-looking invariant-loop2 decreases-loop2 invariant-loop3 decreases-loop3 invariant-loop decreases-loop → tie.After-tags2 invariant-loop2 decreases-loop2 invariant-loop3 decreases-loop3 invariant-loop decreases-loop
-After-tags2-from-After-looking c = c.before.before.before.before.before.before.before.before.before.before.before.before.before.before
+abbrev After-slot2-from-After-head2 : tie.After-head2 invariant-loop2 decreases-loop2 invariant-loop decreases-loop → tie.After-slot2 invariant-loop2 decreases-loop2 invariant-loop decreases-loop
+After-slot2-from-After-head2 c = c.before.before.before
 
-abbrev After-tallies-from-After-make-arg2 : tie.After-make-arg2 invariant-loop2 decreases-loop2 invariant-loop3 decreases-loop3 invariant-loop decreases-loop → tie.After-tallies invariant-loop2 decreases-loop2 invariant-loop3 decreases-loop3 invariant-loop decreases-loop
-After-tallies-from-After-make-arg2 c = c.before.before.before.before.before.before.before.before.before.before.before.before.before.before
+abbrev After-second-look-from-After-head2 : tie.After-head2 invariant-loop2 decreases-loop2 invariant-loop decreases-loop → tie.After-second-look invariant-loop2 decreases-loop2 invariant-loop decreases-loop
+After-second-look-from-After-head2 c = c.before.before.before.before
 
-abbrev After-read-line-from-After-make-arg3 : tie.After-make-arg3 invariant-loop2 decreases-loop2 invariant-loop3 decreases-loop3 invariant-loop decreases-loop → tie.After-read-line invariant-loop2 decreases-loop2 invariant-loop3 decreases-loop3 invariant-loop decreases-loop
-After-read-line-from-After-make-arg3 c = c.before.before.before.before.before.before.before.before.before.before
+abbrev After-slot-from-After-head2 : tie.After-head2 invariant-loop2 decreases-loop2 invariant-loop decreases-loop → tie.After-slot invariant-loop2 decreases-loop2 invariant-loop decreases-loop
+After-slot-from-After-head2 c = c.before.before.before.before.before.before
 
-abbrev After-read-line-from-After-make-arg4 : tie.After-make-arg4 invariant-loop2 decreases-loop2 invariant-loop3 decreases-loop3 invariant-loop decreases-loop → tie.After-read-line invariant-loop2 decreases-loop2 invariant-loop3 decreases-loop3 invariant-loop decreases-loop
-After-read-line-from-After-make-arg4 c = c.before.before.before.before.before.before.before.before.before.before.before
+abbrev After-first-look-from-After-head2 : tie.After-head2 invariant-loop2 decreases-loop2 invariant-loop decreases-loop → tie.After-first-look invariant-loop2 decreases-loop2 invariant-loop decreases-loop
+After-first-look-from-After-head2 c = c.before.before.before.before.before.before.before
 
-abbrev In-loop-from-After-make-arg4 : tie.After-make-arg4 invariant-loop2 decreases-loop2 invariant-loop3 decreases-loop3 invariant-loop decreases-loop → tie.In-loop invariant-loop2 decreases-loop2 invariant-loop3 decreases-loop3 invariant-loop decreases-loop
-In-loop-from-After-make-arg4 c = c.before.before.before.before.before.before.before.before.before.before.before.before.before
+abbrev After-from-numbers-from-After-head2 : tie.After-head2 invariant-loop2 decreases-loop2 invariant-loop decreases-loop → tie.After-from-numbers invariant-loop2 decreases-loop2 invariant-loop decreases-loop
+After-from-numbers-from-After-head2 c = c.before.before.before.before.before.before.before.before
 
-abbrev At-loop-from-After-make-arg4 : tie.After-make-arg4 invariant-loop2 decreases-loop2 invariant-loop3 decreases-loop3 invariant-loop decreases-loop → tie.At-loop invariant-loop2 decreases-loop2 invariant-loop3 decreases-loop3 invariant-loop decreases-loop
-At-loop-from-After-make-arg4 c = c.before.before.before.before.before.before.before.before.before.before.before.before.before.before
+abbrev After-read-line-from-After-head2 : tie.After-head2 invariant-loop2 decreases-loop2 invariant-loop decreases-loop → tie.After-read-line invariant-loop2 decreases-loop2 invariant-loop decreases-loop
+After-read-line-from-After-head2 c = c.before.before.before.before.before.before.before.before.before.before
 
-abbrev After-looking-from-After-make : tie.After-make invariant-loop2 decreases-loop2 invariant-loop3 decreases-loop3 invariant-loop decreases-loop → tie.After-looking invariant-loop2 decreases-loop2 invariant-loop3 decreases-loop3 invariant-loop decreases-loop
-After-looking-from-After-make c = c.before.before.before.before.before.before.before.before.before.before.before
+abbrev In-loop-from-After-head2 : tie.After-head2 invariant-loop2 decreases-loop2 invariant-loop decreases-loop → tie.In-loop invariant-loop2 decreases-loop2 invariant-loop decreases-loop
+In-loop-from-After-head2 c = c.before.before.before.before.before.before.before.before.before.before.before.before
 
-abbrev After-slot-from-After-make : tie.After-make invariant-loop2 decreases-loop2 invariant-loop3 decreases-loop3 invariant-loop decreases-loop → tie.After-slot invariant-loop2 decreases-loop2 invariant-loop3 decreases-loop3 invariant-loop decreases-loop
-After-slot-from-After-make c = c.before.before.before.before.before.before.before.before.before.before.before.before.before
+abbrev At-loop-from-After-head2 : tie.After-head2 invariant-loop2 decreases-loop2 invariant-loop decreases-loop → tie.At-loop invariant-loop2 decreases-loop2 invariant-loop decreases-loop
+At-loop-from-After-head2 c = c.before.before.before.before.before.before.before.before.before.before.before.before.before
 
-abbrev After-first-look-from-After-make : tie.After-make invariant-loop2 decreases-loop2 invariant-loop3 decreases-loop3 invariant-loop decreases-loop → tie.After-first-look invariant-loop2 decreases-loop2 invariant-loop3 decreases-loop3 invariant-loop decreases-loop
-After-first-look-from-After-make c = c.before.before.before.before.before.before.before.before.before.before.before.before.before.before
+abbrev After-last-from-After-head2 : tie.After-head2 invariant-loop2 decreases-loop2 invariant-loop decreases-loop → tie.After-last invariant-loop2 decreases-loop2 invariant-loop decreases-loop
+After-last-from-After-head2 c = c.before.before.before.before.before.before.before.before.before.before.before.before.before.before
 
-abbrev After-slot-from-Joined1 : tie.Joined1 invariant-loop2 decreases-loop2 invariant-loop3 decreases-loop3 invariant-loop decreases-loop → tie.After-slot invariant-loop2 decreases-loop2 invariant-loop3 decreases-loop3 invariant-loop decreases-loop
-After-slot-from-Joined1 c = c.before.before.before.before.before.before.before.before.before.before.before.before.before.before
+abbrev At-loop-from-After-make-arg : tie.After-make-arg invariant-loop2 decreases-loop2 invariant-loop decreases-loop → tie.At-loop invariant-loop2 decreases-loop2 invariant-loop decreases-loop
+At-loop-from-After-make-arg c = c.before.before.before.before.before.before.before.before.before.before.before.before.before.before
 
-abbrev After-make-from-After-chain : tie.After-chain invariant-loop2 decreases-loop2 invariant-loop3 decreases-loop3 invariant-loop decreases-loop → tie.After-make invariant-loop2 decreases-loop2 invariant-loop3 decreases-loop3 invariant-loop decreases-loop
-After-make-from-After-chain c = c.before.before
+abbrev After-read-line-from-After-make-arg3 : tie.After-make-arg3 invariant-loop2 decreases-loop2 invariant-loop decreases-loop → tie.After-read-line invariant-loop2 decreases-loop2 invariant-loop decreases-loop
+After-read-line-from-After-make-arg3 c = c.before.before.before.before.before.before.before.before.before.before.before.before.before
 
-abbrev After-standing-from-After-entry : tie.After-entry invariant-loop2 decreases-loop2 invariant-loop3 decreases-loop3 invariant-loop decreases-loop → tie.After-standing invariant-loop2 decreases-loop2 invariant-loop3 decreases-loop3 invariant-loop decreases-loop
-After-standing-from-After-entry c = c.before.before.before.before.before.before.before.before.before.before.before.before.before.before
+abbrev After-read-line-arg-from-After-make-arg3 : tie.After-make-arg3 invariant-loop2 decreases-loop2 invariant-loop decreases-loop → tie.After-read-line-arg invariant-loop2 decreases-loop2 invariant-loop decreases-loop
+After-read-line-arg-from-After-make-arg3 c = c.before.before.before.before.before.before.before.before.before.before.before.before.before.before
 
-abbrev After-make-from-After-lasts : tie.After-lasts invariant-loop2 decreases-loop2 invariant-loop3 decreases-loop3 invariant-loop decreases-loop → tie.After-make invariant-loop2 decreases-loop2 invariant-loop3 decreases-loop3 invariant-loop decreases-loop
-After-make-from-After-lasts c = c.before.before.before
+abbrev After-from-numbers-from-After-make-arg6 : tie.After-make-arg6 invariant-loop2 decreases-loop2 invariant-loop decreases-loop → tie.After-from-numbers invariant-loop2 decreases-loop2 invariant-loop decreases-loop
+After-from-numbers-from-After-make-arg6 c = c.before.before.before.before.before.before.before.before.before.before.before.before.before.before
 
-abbrev After-looking-from-After-lasts : tie.After-lasts invariant-loop2 decreases-loop2 invariant-loop3 decreases-loop3 invariant-loop decreases-loop → tie.After-looking invariant-loop2 decreases-loop2 invariant-loop3 decreases-loop3 invariant-loop decreases-loop
-After-looking-from-After-lasts c = c.before.before.before.before.before.before.before.before.before.before.before.before.before.before
+abbrev After-first-look-from-After-index : tie.After-index invariant-loop2 decreases-loop2 invariant-loop decreases-loop → tie.After-first-look invariant-loop2 decreases-loop2 invariant-loop decreases-loop
+After-first-look-from-After-index c = c.before.before.before.before.before.before.before.before.before.before.before.before.before.before
 
-abbrev After-make-arg2-from-After-number : tie.After-number invariant-loop2 decreases-loop2 invariant-loop3 decreases-loop3 invariant-loop decreases-loop → tie.After-make-arg2 invariant-loop2 decreases-loop2 invariant-loop3 decreases-loop3 invariant-loop decreases-loop
-After-make-arg2-from-After-number c = c.before.before.before.before.before.before.before.before.before.before.before.before.before.before
+abbrev After-slot-from-After-counts : tie.After-counts invariant-loop2 decreases-loop2 invariant-loop decreases-loop → tie.After-slot invariant-loop2 decreases-loop2 invariant-loop decreases-loop
+After-slot-from-After-counts c = c.before.before.before.before.before.before.before.before.before.before.before.before.before.before
 
-abbrev After-make-arg3-from-After-lasts2 : tie.After-lasts2 invariant-loop2 decreases-loop2 invariant-loop3 decreases-loop3 invariant-loop decreases-loop → tie.After-make-arg3 invariant-loop2 decreases-loop2 invariant-loop3 decreases-loop3 invariant-loop decreases-loop
-After-make-arg3-from-After-lasts2 c = c.before.before.before.before.before.before.before.before.before.before.before.before.before.before
+abbrev After-second-look-from-Joined1 : tie.Joined1 invariant-loop2 decreases-loop2 invariant-loop decreases-loop → tie.After-second-look invariant-loop2 decreases-loop2 invariant-loop decreases-loop
+After-second-look-from-Joined1 c = c.before.before.before.before.before.before.before.before.before.before.before.before.before.before
 
-abbrev Joined1-from-After-unlink : tie.After-unlink invariant-loop2 decreases-loop2 invariant-loop3 decreases-loop3 invariant-loop decreases-loop → tie.Joined1 invariant-loop2 decreases-loop2 invariant-loop3 decreases-loop3 invariant-loop decreases-loop
-Joined1-from-After-unlink c = c.before.before.before.before.before.before.before
+abbrev After-slot2-from-After-entry : tie.After-entry invariant-loop2 decreases-loop2 invariant-loop decreases-loop → tie.After-slot2 invariant-loop2 decreases-loop2 invariant-loop decreases-loop
+After-slot2-from-After-entry c = c.before.before.before.before.before.before.before.before.before.before.before.before.before.before
 
-abbrev After-make-from-After-unlink : tie.After-unlink invariant-loop2 decreases-loop2 invariant-loop3 decreases-loop3 invariant-loop decreases-loop → tie.After-make invariant-loop2 decreases-loop2 invariant-loop3 decreases-loop3 invariant-loop decreases-loop
-After-make-from-After-unlink c = c.before.before.before.before.before.before.before.before
+abbrev After-make-from-After-number : tie.After-number invariant-loop2 decreases-loop2 invariant-loop decreases-loop → tie.After-make invariant-loop2 decreases-loop2 invariant-loop decreases-loop
+After-make-from-After-number c = c.before.before.before
 
-abbrev After-make-arg4-from-After-unlink : tie.After-unlink invariant-loop2 decreases-loop2 invariant-loop3 decreases-loop3 invariant-loop decreases-loop → tie.After-make-arg4 invariant-loop2 decreases-loop2 invariant-loop3 decreases-loop3 invariant-loop decreases-loop
-After-make-arg4-from-After-unlink c = c.before.before.before.before.before.before.before.before.before.before.before.before.before.before
+abbrev After-seen-from-After-number : tie.After-number invariant-loop2 decreases-loop2 invariant-loop decreases-loop → tie.After-seen invariant-loop2 decreases-loop2 invariant-loop decreases-loop
+After-seen-from-After-number c = c.before.before.before.before.before.before.before.before.before.before.before.before.before.before
 
-abbrev At-loop2-from-After-remaining : tie.After-remaining invariant-loop2 decreases-loop2 invariant-loop3 decreases-loop3 invariant-loop decreases-loop → tie.At-loop2 invariant-loop2 decreases-loop2 invariant-loop3 decreases-loop3 invariant-loop decreases-loop
-At-loop2-from-After-remaining c = c.before.before.before
+abbrev After-struct-told-from-After-loop2 : tie.After-loop2 invariant-loop2 decreases-loop2 invariant-loop decreases-loop → tie.After-struct-told invariant-loop2 decreases-loop2 invariant-loop decreases-loop
+After-struct-told-from-After-loop2 c = c.before.before.before
 
-abbrev At-loop2-from-After-satisfies : tie.After-satisfies invariant-loop2 decreases-loop2 invariant-loop3 decreases-loop3 invariant-loop decreases-loop → tie.At-loop2 invariant-loop2 decreases-loop2 invariant-loop3 decreases-loop3 invariant-loop decreases-loop
-At-loop2-from-After-satisfies c = c.before.before.before
+abbrev Joined1-from-After-loop2 : tie.After-loop2 invariant-loop2 decreases-loop2 invariant-loop decreases-loop → tie.Joined1 invariant-loop2 decreases-loop2 invariant-loop decreases-loop
+Joined1-from-After-loop2 c = c.before.before.before.before
 
-abbrev After-number-from-After-satisfies : tie.After-satisfies invariant-loop2 decreases-loop2 invariant-loop3 decreases-loop3 invariant-loop decreases-loop → tie.After-number invariant-loop2 decreases-loop2 invariant-loop3 decreases-loop3 invariant-loop decreases-loop
-After-number-from-After-satisfies c = c.before.before.before.before.before.before
+abbrev After-make-from-After-loop2 : tie.After-loop2 invariant-loop2 decreases-loop2 invariant-loop decreases-loop → tie.After-make invariant-loop2 decreases-loop2 invariant-loop decreases-loop
+After-make-from-After-loop2 c = c.before.before.before.before.before
 
-abbrev After-make-from-After-remaining : tie.After-remaining invariant-loop2 decreases-loop2 invariant-loop3 decreases-loop3 invariant-loop decreases-loop → tie.After-make invariant-loop2 decreases-loop2 invariant-loop3 decreases-loop3 invariant-loop decreases-loop
-After-make-from-After-remaining c = c.before.before.before.before.before.before.before.before.before.before.before.before
+abbrev After-head2-from-After-loop2 : tie.After-loop2 invariant-loop2 decreases-loop2 invariant-loop decreases-loop → tie.After-head2 invariant-loop2 decreases-loop2 invariant-loop decreases-loop
+After-head2-from-After-loop2 c = c.before.before.before.before.before.before.before.before.before.before.before.before.before.before
 
-abbrev In-loop2-from-After-sent-record : tie.After-sent-record invariant-loop2 decreases-loop2 invariant-loop3 decreases-loop3 invariant-loop decreases-loop → tie.In-loop2 invariant-loop2 decreases-loop2 invariant-loop3 decreases-loop3 invariant-loop decreases-loop
-In-loop2-from-After-sent-record c = c.before.before.before
+abbrev After-make-arg-from-After-tell-arg : tie.After-tell-arg invariant-loop2 decreases-loop2 invariant-loop decreases-loop → tie.After-make-arg invariant-loop2 decreases-loop2 invariant-loop decreases-loop
+After-make-arg-from-After-tell-arg c = c.before.before.before.before.before.before.before.before.before.before.before.before.before.before
 
-abbrev At-loop2-from-After-sent-record : tie.After-sent-record invariant-loop2 decreases-loop2 invariant-loop3 decreases-loop3 invariant-loop decreases-loop → tie.At-loop2 invariant-loop2 decreases-loop2 invariant-loop3 decreases-loop3 invariant-loop decreases-loop
-At-loop2-from-After-sent-record c = c.before.before.before.before
+abbrev After-make-from-After-tell-arg2 : tie.After-tell-arg2 invariant-loop2 decreases-loop2 invariant-loop decreases-loop → tie.After-make invariant-loop2 decreases-loop2 invariant-loop decreases-loop
+After-make-from-After-tell-arg2 c = c.before.before.before.before.before.before.before
 
-abbrev After-due-from-After-loop3 : tie.After-loop3 invariant-loop2 decreases-loop2 invariant-loop3 decreases-loop3 invariant-loop decreases-loop → tie.After-due invariant-loop2 decreases-loop2 invariant-loop3 decreases-loop3 invariant-loop decreases-loop
-After-due-from-After-loop3 c = c.before.before.before
+abbrev After-loop2-from-After-tell : tie.After-tell invariant-loop2 decreases-loop2 invariant-loop decreases-loop → tie.After-loop2 invariant-loop2 decreases-loop2 invariant-loop decreases-loop
+After-loop2-from-After-tell c = c.before.before.before
 
-abbrev In-loop2-from-After-chain2 : tie.After-chain2 invariant-loop2 decreases-loop2 invariant-loop3 decreases-loop3 invariant-loop decreases-loop → tie.In-loop2 invariant-loop2 decreases-loop2 invariant-loop3 decreases-loop3 invariant-loop decreases-loop
-In-loop2-from-After-chain2 c = c.before.before.before.before
+abbrev In-loop2-from-Joined2 : tie.Joined2 invariant-loop2 decreases-loop2 invariant-loop decreases-loop → tie.In-loop2 invariant-loop2 decreases-loop2 invariant-loop decreases-loop
+In-loop2-from-Joined2 c = c.before.before.before
 
-abbrev At-loop2-from-After-chain2 : tie.After-chain2 invariant-loop2 decreases-loop2 invariant-loop3 decreases-loop3 invariant-loop decreases-loop → tie.At-loop2 invariant-loop2 decreases-loop2 invariant-loop3 decreases-loop3 invariant-loop decreases-loop
-At-loop2-from-After-chain2 c = c.before.before.before.before.before
+abbrev At-loop2-from-Joined2 : tie.Joined2 invariant-loop2 decreases-loop2 invariant-loop decreases-loop → tie.At-loop2 invariant-loop2 decreases-loop2 invariant-loop decreases-loop
+At-loop2-from-Joined2 c = c.before.before.before.before
 
-abbrev At-loop2-from-After-loop3 : tie.After-loop3 invariant-loop2 decreases-loop2 invariant-loop3 decreases-loop3 invariant-loop decreases-loop → tie.At-loop2 invariant-loop2 decreases-loop2 invariant-loop3 decreases-loop3 invariant-loop decreases-loop
-At-loop2-from-After-loop3 c = c.before.before.before.before.before
+abbrev After-number-from-Joined2 : tie.Joined2 invariant-loop2 decreases-loop2 invariant-loop decreases-loop → tie.After-number invariant-loop2 decreases-loop2 invariant-loop decreases-loop
+After-number-from-Joined2 c = c.before.before.before.before.before
 
-abbrev After-number-from-After-loop3 : tie.After-loop3 invariant-loop2 decreases-loop2 invariant-loop3 decreases-loop3 invariant-loop decreases-loop → tie.After-number invariant-loop2 decreases-loop2 invariant-loop3 decreases-loop3 invariant-loop decreases-loop
-After-number-from-After-loop3 c = c.before.before.before.before.before.before.before.before
+abbrev Joined1-from-Joined2 : tie.Joined2 invariant-loop2 decreases-loop2 invariant-loop decreases-loop → tie.Joined1 invariant-loop2 decreases-loop2 invariant-loop decreases-loop
+Joined1-from-Joined2 c = c.before.before.before.before.before.before.before
 
-abbrev After-struct-told-from-After-loop3 : tie.After-loop3 invariant-loop2 decreases-loop2 invariant-loop3 decreases-loop3 invariant-loop decreases-loop → tie.After-struct-told invariant-loop2 decreases-loop2 invariant-loop3 decreases-loop3 invariant-loop decreases-loop
-After-struct-told-from-After-loop3 c = c.before.before.before.before.before.before.before.before.before
+abbrev After-make-from-After-tell : tie.After-tell invariant-loop2 decreases-loop2 invariant-loop decreases-loop → tie.After-make invariant-loop2 decreases-loop2 invariant-loop decreases-loop
+After-make-from-After-tell c = c.before.before.before.before.before.before.before.before
 
-abbrev Joined1-from-After-loop3 : tie.After-loop3 invariant-loop2 decreases-loop2 invariant-loop3 decreases-loop3 invariant-loop decreases-loop → tie.Joined1 invariant-loop2 decreases-loop2 invariant-loop3 decreases-loop3 invariant-loop decreases-loop
-Joined1-from-After-loop3 c = c.before.before.before.before.before.before.before.before.before.before.before.before.before
+abbrev After-make-arg3-from-After-tell : tie.After-tell invariant-loop2 decreases-loop2 invariant-loop decreases-loop → tie.After-make-arg3 invariant-loop2 decreases-loop2 invariant-loop decreases-loop
+After-make-arg3-from-After-tell c = c.before.before.before.before.before.before.before.before.before.before.before.before.before.before
 
-abbrev After-make-from-After-loop3 : tie.After-loop3 invariant-loop2 decreases-loop2 invariant-loop3 decreases-loop3 invariant-loop decreases-loop → tie.After-make invariant-loop2 decreases-loop2 invariant-loop3 decreases-loop3 invariant-loop decreases-loop
-After-make-from-After-loop3 c = c.before.before.before.before.before.before.before.before.before.before.before.before.before.before
+abbrev In-loop2-from-After-sent-record : tie.After-sent-record invariant-loop2 decreases-loop2 invariant-loop decreases-loop → tie.In-loop2 invariant-loop2 decreases-loop2 invariant-loop decreases-loop
+In-loop2-from-After-sent-record c = c.before.before.before.before
 
-abbrev After-satisfies-from-After-previous : tie.After-previous invariant-loop2 decreases-loop2 invariant-loop3 decreases-loop3 invariant-loop decreases-loop → tie.After-satisfies invariant-loop2 decreases-loop2 invariant-loop3 decreases-loop3 invariant-loop decreases-loop
-After-satisfies-from-After-previous c = c.before.before.before
+abbrev At-loop2-from-After-sent-record : tie.After-sent-record invariant-loop2 decreases-loop2 invariant-loop decreases-loop → tie.At-loop2 invariant-loop2 decreases-loop2 invariant-loop decreases-loop
+At-loop2-from-After-sent-record c = c.before.before.before.before.before
 
-abbrev In-loop2-from-After-previous : tie.After-previous invariant-loop2 decreases-loop2 invariant-loop3 decreases-loop3 invariant-loop decreases-loop → tie.In-loop2 invariant-loop2 decreases-loop2 invariant-loop3 decreases-loop3 invariant-loop decreases-loop
-In-loop2-from-After-previous c = c.before.before.before.before.before
-
-abbrev At-loop2-from-After-previous : tie.After-previous invariant-loop2 decreases-loop2 invariant-loop3 decreases-loop3 invariant-loop decreases-loop → tie.At-loop2 invariant-loop2 decreases-loop2 invariant-loop3 decreases-loop3 invariant-loop decreases-loop
-At-loop2-from-After-previous c = c.before.before.before.before.before.before
-
-abbrev After-number-from-After-previous : tie.After-previous invariant-loop2 decreases-loop2 invariant-loop3 decreases-loop3 invariant-loop decreases-loop → tie.After-number invariant-loop2 decreases-loop2 invariant-loop3 decreases-loop3 invariant-loop decreases-loop
-After-number-from-After-previous c = c.before.before.before.before.before.before.before.before.before
-
-abbrev Joined1-from-After-tell-arg : tie.After-tell-arg invariant-loop2 decreases-loop2 invariant-loop3 decreases-loop3 invariant-loop decreases-loop → tie.Joined1 invariant-loop2 decreases-loop2 invariant-loop3 decreases-loop3 invariant-loop decreases-loop
-Joined1-from-After-tell-arg c = c.before.before.before.before.before.before.before.before.before.before.before.before.before.before
-
-abbrev After-chain-from-After-tell-arg2 : tie.After-tell-arg2 invariant-loop2 decreases-loop2 invariant-loop3 decreases-loop3 invariant-loop decreases-loop → tie.After-chain invariant-loop2 decreases-loop2 invariant-loop3 decreases-loop3 invariant-loop decreases-loop
-After-chain-from-After-tell-arg2 c = c.before.before.before.before.before.before.before.before.before.before.before.before.before.before
-
-abbrev After-loop3-from-After-tell : tie.After-tell invariant-loop2 decreases-loop2 invariant-loop3 decreases-loop3 invariant-loop decreases-loop → tie.After-loop3 invariant-loop2 decreases-loop2 invariant-loop3 decreases-loop3 invariant-loop decreases-loop
-After-loop3-from-After-tell c = c.before.before.before
-
-abbrev In-loop3-from-Joined2 : tie.Joined2 invariant-loop2 decreases-loop2 invariant-loop3 decreases-loop3 invariant-loop decreases-loop → tie.In-loop3 invariant-loop2 decreases-loop2 invariant-loop3 decreases-loop3 invariant-loop decreases-loop
-In-loop3-from-Joined2 c = c.before.before.before
-
-abbrev At-loop3-from-Joined2 : tie.Joined2 invariant-loop2 decreases-loop2 invariant-loop3 decreases-loop3 invariant-loop decreases-loop → tie.At-loop3 invariant-loop2 decreases-loop2 invariant-loop3 decreases-loop3 invariant-loop decreases-loop
-At-loop3-from-Joined2 c = c.before.before.before.before
-
-abbrev At-loop2-from-Joined2 : tie.Joined2 invariant-loop2 decreases-loop2 invariant-loop3 decreases-loop3 invariant-loop decreases-loop → tie.At-loop2 invariant-loop2 decreases-loop2 invariant-loop3 decreases-loop3 invariant-loop decreases-loop
-At-loop2-from-Joined2 c = c.before.before.before.before.before.before.before.before
-
-abbrev After-number-from-Joined2 : tie.Joined2 invariant-loop2 decreases-loop2 invariant-loop3 decreases-loop3 invariant-loop decreases-loop → tie.After-number invariant-loop2 decreases-loop2 invariant-loop3 decreases-loop3 invariant-loop decreases-loop
-After-number-from-Joined2 c = c.before.before.before.before.before.before.before.before.before.before.before
-
-abbrev After-lasts-from-After-tell : tie.After-tell invariant-loop2 decreases-loop2 invariant-loop3 decreases-loop3 invariant-loop decreases-loop → tie.After-lasts invariant-loop2 decreases-loop2 invariant-loop3 decreases-loop3 invariant-loop decreases-loop
-After-lasts-from-After-tell c = c.before.before.before.before.before.before.before.before.before.before.before.before.before.before
-
-abbrev In-loop3-from-After-sent-record2 : tie.After-sent-record2 invariant-loop2 decreases-loop2 invariant-loop3 decreases-loop3 invariant-loop decreases-loop → tie.In-loop3 invariant-loop2 decreases-loop2 invariant-loop3 decreases-loop3 invariant-loop decreases-loop
-In-loop3-from-After-sent-record2 c = c.before.before.before.before
-
-abbrev At-loop3-from-After-sent-record2 : tie.After-sent-record2 invariant-loop2 decreases-loop2 invariant-loop3 decreases-loop3 invariant-loop decreases-loop → tie.At-loop3 invariant-loop2 decreases-loop2 invariant-loop3 decreases-loop3 invariant-loop decreases-loop
-At-loop3-from-After-sent-record2 c = c.before.before.before.before.before
-
-abbrev After-tell-from-After-ends : tie.After-ends invariant-loop2 decreases-loop2 invariant-loop3 decreases-loop3 invariant-loop decreases-loop → tie.After-tell invariant-loop2 decreases-loop2 invariant-loop3 decreases-loop3 invariant-loop decreases-loop
+abbrev After-tell-from-After-ends : tie.After-ends invariant-loop2 decreases-loop2 invariant-loop decreases-loop → tie.After-tell invariant-loop2 decreases-loop2 invariant-loop decreases-loop
 After-tell-from-After-ends c = c.before.before.before
 
-abbrev After-number-from-After-ends : tie.After-ends invariant-loop2 decreases-loop2 invariant-loop3 decreases-loop3 invariant-loop decreases-loop → tie.After-number invariant-loop2 decreases-loop2 invariant-loop3 decreases-loop3 invariant-loop decreases-loop
-After-number-from-After-ends c = c.before.before.before.before.before.before.before.before.before.before.before.before.before.before
+abbrev After-make-arg6-from-After-ends : tie.After-ends invariant-loop2 decreases-loop2 invariant-loop decreases-loop → tie.After-make-arg6 invariant-loop2 decreases-loop2 invariant-loop decreases-loop
+After-make-arg6-from-After-ends c = c.before.before.before.before.before.before.before.before.before.before.before.before.before.before
 
-abbrev After-tell-from-After-struct-known : tie.After-struct-known invariant-loop2 decreases-loop2 invariant-loop3 decreases-loop3 invariant-loop decreases-loop → tie.After-tell invariant-loop2 decreases-loop2 invariant-loop3 decreases-loop3 invariant-loop decreases-loop
+abbrev After-tell-from-After-struct-known : tie.After-struct-known invariant-loop2 decreases-loop2 invariant-loop decreases-loop → tie.After-tell invariant-loop2 decreases-loop2 invariant-loop decreases-loop
 After-tell-from-After-struct-known c = c.before.before.before.before
 
-abbrev After-lasts2-from-After-struct-known : tie.After-struct-known invariant-loop2 decreases-loop2 invariant-loop3 decreases-loop3 invariant-loop decreases-loop → tie.After-lasts2 invariant-loop2 decreases-loop2 invariant-loop3 decreases-loop3 invariant-loop decreases-loop
-After-lasts2-from-After-struct-known c = c.before.before.before.before.before.before.before.before.before.before.before.before.before.before
+abbrev After-index-from-After-struct-known : tie.After-struct-known invariant-loop2 decreases-loop2 invariant-loop decreases-loop → tie.After-index invariant-loop2 decreases-loop2 invariant-loop decreases-loop
+After-index-from-After-struct-known c = c.before.before.before.before.before.before.before.before.before.before.before.before.before.before
 
-abbrev After-tell-from-After-last2 : tie.After-last2 invariant-loop2 decreases-loop2 invariant-loop3 decreases-loop3 invariant-loop decreases-loop → tie.After-tell invariant-loop2 decreases-loop2 invariant-loop3 decreases-loop3 invariant-loop decreases-loop
+abbrev After-tell-from-After-last2 : tie.After-last2 invariant-loop2 decreases-loop2 invariant-loop decreases-loop → tie.After-tell invariant-loop2 decreases-loop2 invariant-loop decreases-loop
 After-tell-from-After-last2 c = c.before.before.before.before.before
 
-abbrev After-loop3-from-After-last2 : tie.After-last2 invariant-loop2 decreases-loop2 invariant-loop3 decreases-loop3 invariant-loop decreases-loop → tie.After-loop3 invariant-loop2 decreases-loop2 invariant-loop3 decreases-loop3 invariant-loop decreases-loop
-After-loop3-from-After-last2 c = c.before.before.before.before.before.before.before.before
+abbrev After-loop2-from-After-last2 : tie.After-last2 invariant-loop2 decreases-loop2 invariant-loop decreases-loop → tie.After-loop2 invariant-loop2 decreases-loop2 invariant-loop decreases-loop
+After-loop2-from-After-last2 c = c.before.before.before.before.before.before.before.before
 
-abbrev At-loop3-from-After-last2 : tie.After-last2 invariant-loop2 decreases-loop2 invariant-loop3 decreases-loop3 invariant-loop decreases-loop → tie.At-loop3 invariant-loop2 decreases-loop2 invariant-loop3 decreases-loop3 invariant-loop decreases-loop
-At-loop3-from-After-last2 c = c.before.before.before.before.before.before.before.before.before
+abbrev At-loop2-from-After-last2 : tie.After-last2 invariant-loop2 decreases-loop2 invariant-loop decreases-loop → tie.At-loop2 invariant-loop2 decreases-loop2 invariant-loop decreases-loop
+At-loop2-from-After-last2 c = c.before.before.before.before.before.before.before.before.before
 
-abbrev After-unlink-from-After-last2 : tie.After-last2 invariant-loop2 decreases-loop2 invariant-loop3 decreases-loop3 invariant-loop decreases-loop → tie.After-unlink invariant-loop2 decreases-loop2 invariant-loop3 decreases-loop3 invariant-loop decreases-loop
-After-unlink-from-After-last2 c = c.before.before.before.before.before.before.before.before.before.before.before.before.before.before
+abbrev After-make-from-After-last2 : tie.After-last2 invariant-loop2 decreases-loop2 invariant-loop decreases-loop → tie.After-make invariant-loop2 decreases-loop2 invariant-loop decreases-loop
+After-make-from-After-last2 c = c.before.before.before.before.before.before.before.before.before.before.before.before.before
 
-abbrev Start-from-After-first-look : tie.After-first-look invariant-loop2 decreases-loop2 invariant-loop3 decreases-loop3 invariant-loop decreases-loop → tie.Start invariant-loop2 decreases-loop2 invariant-loop3 decreases-loop3 invariant-loop decreases-loop
-Start-from-After-first-look c = Start-from-After-slice-known (After-slice-known-from-After-first-look c)
+abbrev After-counts-from-After-last2 : tie.After-last2 invariant-loop2 decreases-loop2 invariant-loop decreases-loop → tie.After-counts invariant-loop2 decreases-loop2 invariant-loop decreases-loop
+After-counts-from-After-last2 c = c.before.before.before.before.before.before.before.before.before.before.before.before.before.before
 
-abbrev After-numbers-from-After-looking : tie.After-looking invariant-loop2 decreases-loop2 invariant-loop3 decreases-loop3 invariant-loop decreases-loop → tie.After-numbers invariant-loop2 decreases-loop2 invariant-loop3 decreases-loop3 invariant-loop decreases-loop
-After-numbers-from-After-looking c = After-numbers-from-After-tags2 (After-tags2-from-After-looking c)
+abbrev After-numbers-from-After-head2 : tie.After-head2 invariant-loop2 decreases-loop2 invariant-loop decreases-loop → tie.After-numbers invariant-loop2 decreases-loop2 invariant-loop decreases-loop
+After-numbers-from-After-head2 c = After-numbers-from-After-last (After-last-from-After-head2 c)
 
-abbrev Start-from-After-looking : tie.After-looking invariant-loop2 decreases-loop2 invariant-loop3 decreases-loop3 invariant-loop decreases-loop → tie.Start invariant-loop2 decreases-loop2 invariant-loop3 decreases-loop3 invariant-loop decreases-loop
-Start-from-After-looking c = Start-from-After-tags2 (After-tags2-from-After-looking c)
+abbrev In-loop-from-After-make-arg3 : tie.After-make-arg3 invariant-loop2 decreases-loop2 invariant-loop decreases-loop → tie.In-loop invariant-loop2 decreases-loop2 invariant-loop decreases-loop
+In-loop-from-After-make-arg3 c = In-loop-from-After-read-line-arg (After-read-line-arg-from-After-make-arg3 c)
 
-abbrev After-slice-known-from-After-make-arg2 : tie.After-make-arg2 invariant-loop2 decreases-loop2 invariant-loop3 decreases-loop3 invariant-loop decreases-loop → tie.After-slice-known invariant-loop2 decreases-loop2 invariant-loop3 decreases-loop3 invariant-loop decreases-loop
-After-slice-known-from-After-make-arg2 c = After-slice-known-from-After-tallies (After-tallies-from-After-make-arg2 c)
+abbrev At-loop-from-After-make-arg3 : tie.After-make-arg3 invariant-loop2 decreases-loop2 invariant-loop decreases-loop → tie.At-loop invariant-loop2 decreases-loop2 invariant-loop decreases-loop
+At-loop-from-After-make-arg3 c = At-loop-from-After-read-line-arg (After-read-line-arg-from-After-make-arg3 c)
 
-abbrev After-from-numbers-from-After-make : tie.After-make invariant-loop2 decreases-loop2 invariant-loop3 decreases-loop3 invariant-loop decreases-loop → tie.After-from-numbers invariant-loop2 decreases-loop2 invariant-loop3 decreases-loop3 invariant-loop decreases-loop
-After-from-numbers-from-After-make c = After-from-numbers-from-After-first-look (After-first-look-from-After-make c)
+abbrev After-numbers-from-After-make-arg3 : tie.After-make-arg3 invariant-loop2 decreases-loop2 invariant-loop decreases-loop → tie.After-numbers invariant-loop2 decreases-loop2 invariant-loop decreases-loop
+After-numbers-from-After-make-arg3 c = After-numbers-from-After-read-line-arg (After-read-line-arg-from-After-make-arg3 c)
 
-abbrev After-read-line-from-After-make : tie.After-make invariant-loop2 decreases-loop2 invariant-loop3 decreases-loop3 invariant-loop decreases-loop → tie.After-read-line invariant-loop2 decreases-loop2 invariant-loop3 decreases-loop3 invariant-loop decreases-loop
-After-read-line-from-After-make c = After-read-line-from-After-first-look (After-first-look-from-After-make c)
+abbrev Start-from-After-make-arg3 : tie.After-make-arg3 invariant-loop2 decreases-loop2 invariant-loop decreases-loop → tie.Start invariant-loop2 decreases-loop2 invariant-loop decreases-loop
+Start-from-After-make-arg3 c = Start-from-After-read-line-arg (After-read-line-arg-from-After-make-arg3 c)
 
-abbrev In-loop-from-After-make : tie.After-make invariant-loop2 decreases-loop2 invariant-loop3 decreases-loop3 invariant-loop decreases-loop → tie.In-loop invariant-loop2 decreases-loop2 invariant-loop3 decreases-loop3 invariant-loop decreases-loop
-In-loop-from-After-make c = In-loop-from-After-first-look (After-first-look-from-After-make c)
+abbrev After-slice-known-from-After-make-arg6 : tie.After-make-arg6 invariant-loop2 decreases-loop2 invariant-loop decreases-loop → tie.After-slice-known invariant-loop2 decreases-loop2 invariant-loop decreases-loop
+After-slice-known-from-After-make-arg6 c = After-slice-known-from-After-from-numbers (After-from-numbers-from-After-make-arg6 c)
 
-abbrev At-loop-from-After-make : tie.After-make invariant-loop2 decreases-loop2 invariant-loop3 decreases-loop3 invariant-loop decreases-loop → tie.At-loop invariant-loop2 decreases-loop2 invariant-loop3 decreases-loop3 invariant-loop decreases-loop
-At-loop-from-After-make c = At-loop-from-After-first-look (After-first-look-from-After-make c)
+abbrev After-read-line-from-After-index : tie.After-index invariant-loop2 decreases-loop2 invariant-loop decreases-loop → tie.After-read-line invariant-loop2 decreases-loop2 invariant-loop decreases-loop
+After-read-line-from-After-index c = After-read-line-from-After-first-look (After-first-look-from-After-index c)
 
-abbrev After-numbers-from-After-make : tie.After-make invariant-loop2 decreases-loop2 invariant-loop3 decreases-loop3 invariant-loop decreases-loop → tie.After-numbers invariant-loop2 decreases-loop2 invariant-loop3 decreases-loop3 invariant-loop decreases-loop
-After-numbers-from-After-make c = After-numbers-from-After-first-look (After-first-look-from-After-make c)
+abbrev After-read-line-from-After-counts : tie.After-counts invariant-loop2 decreases-loop2 invariant-loop decreases-loop → tie.After-read-line invariant-loop2 decreases-loop2 invariant-loop decreases-loop
+After-read-line-from-After-counts c = After-read-line-from-After-slot (After-slot-from-After-counts c)
 
-abbrev Start-from-After-make : tie.After-make invariant-loop2 decreases-loop2 invariant-loop3 decreases-loop3 invariant-loop decreases-loop → tie.Start invariant-loop2 decreases-loop2 invariant-loop3 decreases-loop3 invariant-loop decreases-loop
-Start-from-After-make c = Start-from-After-first-look (After-first-look-from-After-make c)
+abbrev In-loop-from-After-counts : tie.After-counts invariant-loop2 decreases-loop2 invariant-loop decreases-loop → tie.In-loop invariant-loop2 decreases-loop2 invariant-loop decreases-loop
+In-loop-from-After-counts c = In-loop-from-After-slot (After-slot-from-After-counts c)
 
-abbrev At-loop-from-Joined1 : tie.Joined1 invariant-loop2 decreases-loop2 invariant-loop3 decreases-loop3 invariant-loop decreases-loop → tie.At-loop invariant-loop2 decreases-loop2 invariant-loop3 decreases-loop3 invariant-loop decreases-loop
-At-loop-from-Joined1 c = At-loop-from-After-slot (After-slot-from-Joined1 c)
+abbrev At-loop-from-After-counts : tie.After-counts invariant-loop2 decreases-loop2 invariant-loop decreases-loop → tie.At-loop invariant-loop2 decreases-loop2 invariant-loop decreases-loop
+At-loop-from-After-counts c = At-loop-from-After-slot (After-slot-from-After-counts c)
 
-abbrev At-loop-from-After-entry : tie.After-entry invariant-loop2 decreases-loop2 invariant-loop3 decreases-loop3 invariant-loop decreases-loop → tie.At-loop invariant-loop2 decreases-loop2 invariant-loop3 decreases-loop3 invariant-loop decreases-loop
-At-loop-from-After-entry c = At-loop-from-After-standing (After-standing-from-After-entry c)
+abbrev At-loop-from-Joined1 : tie.Joined1 invariant-loop2 decreases-loop2 invariant-loop decreases-loop → tie.At-loop invariant-loop2 decreases-loop2 invariant-loop decreases-loop
+At-loop-from-Joined1 c = At-loop-from-After-second-look (After-second-look-from-Joined1 c)
 
-abbrev After-read-line-from-After-lasts : tie.After-lasts invariant-loop2 decreases-loop2 invariant-loop3 decreases-loop3 invariant-loop decreases-loop → tie.After-read-line invariant-loop2 decreases-loop2 invariant-loop3 decreases-loop3 invariant-loop decreases-loop
-After-read-line-from-After-lasts c = After-read-line-from-After-looking (After-looking-from-After-lasts c)
+abbrev At-loop-from-After-entry : tie.After-entry invariant-loop2 decreases-loop2 invariant-loop decreases-loop → tie.At-loop invariant-loop2 decreases-loop2 invariant-loop decreases-loop
+At-loop-from-After-entry c = At-loop-from-After-slot2 (After-slot2-from-After-entry c)
 
-abbrev In-loop-from-After-lasts : tie.After-lasts invariant-loop2 decreases-loop2 invariant-loop3 decreases-loop3 invariant-loop decreases-loop → tie.In-loop invariant-loop2 decreases-loop2 invariant-loop3 decreases-loop3 invariant-loop decreases-loop
-In-loop-from-After-lasts c = In-loop-from-After-looking (After-looking-from-After-lasts c)
+abbrev At-loop-from-After-number : tie.After-number invariant-loop2 decreases-loop2 invariant-loop decreases-loop → tie.At-loop invariant-loop2 decreases-loop2 invariant-loop decreases-loop
+At-loop-from-After-number c = At-loop-from-After-seen (After-seen-from-After-number c)
 
-abbrev At-loop-from-After-lasts : tie.After-lasts invariant-loop2 decreases-loop2 invariant-loop3 decreases-loop3 invariant-loop decreases-loop → tie.At-loop invariant-loop2 decreases-loop2 invariant-loop3 decreases-loop3 invariant-loop decreases-loop
-At-loop-from-After-lasts c = At-loop-from-After-looking (After-looking-from-After-lasts c)
+abbrev After-looking-from-After-loop2 : tie.After-loop2 invariant-loop2 decreases-loop2 invariant-loop decreases-loop → tie.After-looking invariant-loop2 decreases-loop2 invariant-loop decreases-loop
+After-looking-from-After-loop2 c = After-looking-from-After-head2 (After-head2-from-After-loop2 c)
 
-abbrev After-numbers-from-After-lasts : tie.After-lasts invariant-loop2 decreases-loop2 invariant-loop3 decreases-loop3 invariant-loop decreases-loop → tie.After-numbers invariant-loop2 decreases-loop2 invariant-loop3 decreases-loop3 invariant-loop decreases-loop
-After-numbers-from-After-lasts c = After-numbers-from-After-looking (After-looking-from-After-lasts c)
+abbrev After-slot2-from-After-loop2 : tie.After-loop2 invariant-loop2 decreases-loop2 invariant-loop decreases-loop → tie.After-slot2 invariant-loop2 decreases-loop2 invariant-loop decreases-loop
+After-slot2-from-After-loop2 c = After-slot2-from-After-head2 (After-head2-from-After-loop2 c)
 
-abbrev Start-from-After-lasts : tie.After-lasts invariant-loop2 decreases-loop2 invariant-loop3 decreases-loop3 invariant-loop decreases-loop → tie.Start invariant-loop2 decreases-loop2 invariant-loop3 decreases-loop3 invariant-loop decreases-loop
-Start-from-After-lasts c = Start-from-After-looking (After-looking-from-After-lasts c)
+abbrev After-second-look-from-After-loop2 : tie.After-loop2 invariant-loop2 decreases-loop2 invariant-loop decreases-loop → tie.After-second-look invariant-loop2 decreases-loop2 invariant-loop decreases-loop
+After-second-look-from-After-loop2 c = After-second-look-from-After-head2 (After-head2-from-After-loop2 c)
 
-abbrev After-slice-known-from-After-number : tie.After-number invariant-loop2 decreases-loop2 invariant-loop3 decreases-loop3 invariant-loop decreases-loop → tie.After-slice-known invariant-loop2 decreases-loop2 invariant-loop3 decreases-loop3 invariant-loop decreases-loop
-After-slice-known-from-After-number c = After-slice-known-from-After-make-arg2 (After-make-arg2-from-After-number c)
+abbrev After-slot-from-After-loop2 : tie.After-loop2 invariant-loop2 decreases-loop2 invariant-loop decreases-loop → tie.After-slot invariant-loop2 decreases-loop2 invariant-loop decreases-loop
+After-slot-from-After-loop2 c = After-slot-from-After-head2 (After-head2-from-After-loop2 c)
 
-abbrev After-read-line-from-After-lasts2 : tie.After-lasts2 invariant-loop2 decreases-loop2 invariant-loop3 decreases-loop3 invariant-loop decreases-loop → tie.After-read-line invariant-loop2 decreases-loop2 invariant-loop3 decreases-loop3 invariant-loop decreases-loop
-After-read-line-from-After-lasts2 c = After-read-line-from-After-make-arg3 (After-make-arg3-from-After-lasts2 c)
+abbrev After-first-look-from-After-loop2 : tie.After-loop2 invariant-loop2 decreases-loop2 invariant-loop decreases-loop → tie.After-first-look invariant-loop2 decreases-loop2 invariant-loop decreases-loop
+After-first-look-from-After-loop2 c = After-first-look-from-After-head2 (After-head2-from-After-loop2 c)
 
-abbrev After-read-line-from-After-unlink : tie.After-unlink invariant-loop2 decreases-loop2 invariant-loop3 decreases-loop3 invariant-loop decreases-loop → tie.After-read-line invariant-loop2 decreases-loop2 invariant-loop3 decreases-loop3 invariant-loop decreases-loop
-After-read-line-from-After-unlink c = After-read-line-from-After-make-arg4 (After-make-arg4-from-After-unlink c)
+abbrev After-from-numbers-from-After-loop2 : tie.After-loop2 invariant-loop2 decreases-loop2 invariant-loop decreases-loop → tie.After-from-numbers invariant-loop2 decreases-loop2 invariant-loop decreases-loop
+After-from-numbers-from-After-loop2 c = After-from-numbers-from-After-head2 (After-head2-from-After-loop2 c)
 
-abbrev In-loop-from-After-unlink : tie.After-unlink invariant-loop2 decreases-loop2 invariant-loop3 decreases-loop3 invariant-loop decreases-loop → tie.In-loop invariant-loop2 decreases-loop2 invariant-loop3 decreases-loop3 invariant-loop decreases-loop
-In-loop-from-After-unlink c = In-loop-from-After-make-arg4 (After-make-arg4-from-After-unlink c)
+abbrev After-read-line-from-After-loop2 : tie.After-loop2 invariant-loop2 decreases-loop2 invariant-loop decreases-loop → tie.After-read-line invariant-loop2 decreases-loop2 invariant-loop decreases-loop
+After-read-line-from-After-loop2 c = After-read-line-from-After-head2 (After-head2-from-After-loop2 c)
 
-abbrev At-loop-from-After-unlink : tie.After-unlink invariant-loop2 decreases-loop2 invariant-loop3 decreases-loop3 invariant-loop decreases-loop → tie.At-loop invariant-loop2 decreases-loop2 invariant-loop3 decreases-loop3 invariant-loop decreases-loop
-At-loop-from-After-unlink c = At-loop-from-After-make-arg4 (After-make-arg4-from-After-unlink c)
+abbrev In-loop-from-After-loop2 : tie.After-loop2 invariant-loop2 decreases-loop2 invariant-loop decreases-loop → tie.In-loop invariant-loop2 decreases-loop2 invariant-loop decreases-loop
+In-loop-from-After-loop2 c = In-loop-from-After-head2 (After-head2-from-After-loop2 c)
 
-abbrev After-read-line-from-After-loop3 : tie.After-loop3 invariant-loop2 decreases-loop2 invariant-loop3 decreases-loop3 invariant-loop decreases-loop → tie.After-read-line invariant-loop2 decreases-loop2 invariant-loop3 decreases-loop3 invariant-loop decreases-loop
-After-read-line-from-After-loop3 c = After-read-line-from-After-make (After-make-from-After-loop3 c)
+abbrev At-loop-from-After-loop2 : tie.After-loop2 invariant-loop2 decreases-loop2 invariant-loop decreases-loop → tie.At-loop invariant-loop2 decreases-loop2 invariant-loop decreases-loop
+At-loop-from-After-loop2 c = At-loop-from-After-head2 (After-head2-from-After-loop2 c)
 
-abbrev At-loop-from-After-loop3 : tie.After-loop3 invariant-loop2 decreases-loop2 invariant-loop3 decreases-loop3 invariant-loop decreases-loop → tie.At-loop invariant-loop2 decreases-loop2 invariant-loop3 decreases-loop3 invariant-loop decreases-loop
-At-loop-from-After-loop3 c = At-loop-from-After-make (After-make-from-After-loop3 c)
+abbrev After-numbers-from-After-loop2 : tie.After-loop2 invariant-loop2 decreases-loop2 invariant-loop decreases-loop → tie.After-numbers invariant-loop2 decreases-loop2 invariant-loop decreases-loop
+After-numbers-from-After-loop2 c = After-numbers-from-After-head2 (After-head2-from-After-loop2 c)
 
-abbrev After-numbers-from-After-loop3 : tie.After-loop3 invariant-loop2 decreases-loop2 invariant-loop3 decreases-loop3 invariant-loop decreases-loop → tie.After-numbers invariant-loop2 decreases-loop2 invariant-loop3 decreases-loop3 invariant-loop decreases-loop
-After-numbers-from-After-loop3 c = After-numbers-from-After-make (After-make-from-After-loop3 c)
+abbrev At-loop-from-After-tell-arg : tie.After-tell-arg invariant-loop2 decreases-loop2 invariant-loop decreases-loop → tie.At-loop invariant-loop2 decreases-loop2 invariant-loop decreases-loop
+At-loop-from-After-tell-arg c = At-loop-from-After-make-arg (After-make-arg-from-After-tell-arg c)
 
-abbrev At-loop-from-After-tell-arg : tie.After-tell-arg invariant-loop2 decreases-loop2 invariant-loop3 decreases-loop3 invariant-loop decreases-loop → tie.At-loop invariant-loop2 decreases-loop2 invariant-loop3 decreases-loop3 invariant-loop decreases-loop
-At-loop-from-After-tell-arg c = At-loop-from-Joined1 (Joined1-from-After-tell-arg c)
+abbrev After-read-line-from-After-tell : tie.After-tell invariant-loop2 decreases-loop2 invariant-loop decreases-loop → tie.After-read-line invariant-loop2 decreases-loop2 invariant-loop decreases-loop
+After-read-line-from-After-tell c = After-read-line-from-After-make-arg3 (After-make-arg3-from-After-tell c)
 
-abbrev After-make-from-After-tell-arg2 : tie.After-tell-arg2 invariant-loop2 decreases-loop2 invariant-loop3 decreases-loop3 invariant-loop decreases-loop → tie.After-make invariant-loop2 decreases-loop2 invariant-loop3 decreases-loop3 invariant-loop decreases-loop
-After-make-from-After-tell-arg2 c = After-make-from-After-chain (After-chain-from-After-tell-arg2 c)
+abbrev In-loop-from-After-tell : tie.After-tell invariant-loop2 decreases-loop2 invariant-loop decreases-loop → tie.In-loop invariant-loop2 decreases-loop2 invariant-loop decreases-loop
+In-loop-from-After-tell c = In-loop-from-After-make-arg3 (After-make-arg3-from-After-tell c)
 
-abbrev After-make-from-After-tell : tie.After-tell invariant-loop2 decreases-loop2 invariant-loop3 decreases-loop3 invariant-loop decreases-loop → tie.After-make invariant-loop2 decreases-loop2 invariant-loop3 decreases-loop3 invariant-loop decreases-loop
-After-make-from-After-tell c = After-make-from-After-lasts (After-lasts-from-After-tell c)
+abbrev At-loop-from-After-tell : tie.After-tell invariant-loop2 decreases-loop2 invariant-loop decreases-loop → tie.At-loop invariant-loop2 decreases-loop2 invariant-loop decreases-loop
+At-loop-from-After-tell c = At-loop-from-After-make-arg3 (After-make-arg3-from-After-tell c)
 
-abbrev After-read-line-from-After-tell : tie.After-tell invariant-loop2 decreases-loop2 invariant-loop3 decreases-loop3 invariant-loop decreases-loop → tie.After-read-line invariant-loop2 decreases-loop2 invariant-loop3 decreases-loop3 invariant-loop decreases-loop
-After-read-line-from-After-tell c = After-read-line-from-After-lasts (After-lasts-from-After-tell c)
+abbrev After-numbers-from-After-tell : tie.After-tell invariant-loop2 decreases-loop2 invariant-loop decreases-loop → tie.After-numbers invariant-loop2 decreases-loop2 invariant-loop decreases-loop
+After-numbers-from-After-tell c = After-numbers-from-After-make-arg3 (After-make-arg3-from-After-tell c)
 
-abbrev In-loop-from-After-tell : tie.After-tell invariant-loop2 decreases-loop2 invariant-loop3 decreases-loop3 invariant-loop decreases-loop → tie.In-loop invariant-loop2 decreases-loop2 invariant-loop3 decreases-loop3 invariant-loop decreases-loop
-In-loop-from-After-tell c = In-loop-from-After-lasts (After-lasts-from-After-tell c)
+abbrev Start-from-After-tell : tie.After-tell invariant-loop2 decreases-loop2 invariant-loop decreases-loop → tie.Start invariant-loop2 decreases-loop2 invariant-loop decreases-loop
+Start-from-After-tell c = Start-from-After-make-arg3 (After-make-arg3-from-After-tell c)
 
-abbrev At-loop-from-After-tell : tie.After-tell invariant-loop2 decreases-loop2 invariant-loop3 decreases-loop3 invariant-loop decreases-loop → tie.At-loop invariant-loop2 decreases-loop2 invariant-loop3 decreases-loop3 invariant-loop decreases-loop
-At-loop-from-After-tell c = At-loop-from-After-lasts (After-lasts-from-After-tell c)
+abbrev After-slice-known-from-After-ends : tie.After-ends invariant-loop2 decreases-loop2 invariant-loop decreases-loop → tie.After-slice-known invariant-loop2 decreases-loop2 invariant-loop decreases-loop
+After-slice-known-from-After-ends c = After-slice-known-from-After-make-arg6 (After-make-arg6-from-After-ends c)
 
-abbrev After-numbers-from-After-tell : tie.After-tell invariant-loop2 decreases-loop2 invariant-loop3 decreases-loop3 invariant-loop decreases-loop → tie.After-numbers invariant-loop2 decreases-loop2 invariant-loop3 decreases-loop3 invariant-loop decreases-loop
-After-numbers-from-After-tell c = After-numbers-from-After-lasts (After-lasts-from-After-tell c)
+abbrev After-read-line-from-After-struct-known : tie.After-struct-known invariant-loop2 decreases-loop2 invariant-loop decreases-loop → tie.After-read-line invariant-loop2 decreases-loop2 invariant-loop decreases-loop
+After-read-line-from-After-struct-known c = After-read-line-from-After-index (After-index-from-After-struct-known c)
 
-abbrev Start-from-After-tell : tie.After-tell invariant-loop2 decreases-loop2 invariant-loop3 decreases-loop3 invariant-loop decreases-loop → tie.Start invariant-loop2 decreases-loop2 invariant-loop3 decreases-loop3 invariant-loop decreases-loop
-Start-from-After-tell c = Start-from-After-lasts (After-lasts-from-After-tell c)
+abbrev After-read-line-from-After-last2 : tie.After-last2 invariant-loop2 decreases-loop2 invariant-loop decreases-loop → tie.After-read-line invariant-loop2 decreases-loop2 invariant-loop decreases-loop
+After-read-line-from-After-last2 c = After-read-line-from-After-counts (After-counts-from-After-last2 c)
 
-abbrev After-slice-known-from-After-ends : tie.After-ends invariant-loop2 decreases-loop2 invariant-loop3 decreases-loop3 invariant-loop decreases-loop → tie.After-slice-known invariant-loop2 decreases-loop2 invariant-loop3 decreases-loop3 invariant-loop decreases-loop
-After-slice-known-from-After-ends c = After-slice-known-from-After-number (After-number-from-After-ends c)
+abbrev In-loop-from-After-last2 : tie.After-last2 invariant-loop2 decreases-loop2 invariant-loop decreases-loop → tie.In-loop invariant-loop2 decreases-loop2 invariant-loop decreases-loop
+In-loop-from-After-last2 c = In-loop-from-After-counts (After-counts-from-After-last2 c)
 
-abbrev After-read-line-from-After-struct-known : tie.After-struct-known invariant-loop2 decreases-loop2 invariant-loop3 decreases-loop3 invariant-loop decreases-loop → tie.After-read-line invariant-loop2 decreases-loop2 invariant-loop3 decreases-loop3 invariant-loop decreases-loop
-After-read-line-from-After-struct-known c = After-read-line-from-After-lasts2 (After-lasts2-from-After-struct-known c)
+abbrev At-loop-from-After-last2 : tie.After-last2 invariant-loop2 decreases-loop2 invariant-loop decreases-loop → tie.At-loop invariant-loop2 decreases-loop2 invariant-loop decreases-loop
+At-loop-from-After-last2 c = At-loop-from-After-counts (After-counts-from-After-last2 c)
 
-abbrev After-make-from-After-last2 : tie.After-last2 invariant-loop2 decreases-loop2 invariant-loop3 decreases-loop3 invariant-loop decreases-loop → tie.After-make invariant-loop2 decreases-loop2 invariant-loop3 decreases-loop3 invariant-loop decreases-loop
-After-make-from-After-last2 c = After-make-from-After-unlink (After-unlink-from-After-last2 c)
-
-abbrev After-read-line-from-After-last2 : tie.After-last2 invariant-loop2 decreases-loop2 invariant-loop3 decreases-loop3 invariant-loop decreases-loop → tie.After-read-line invariant-loop2 decreases-loop2 invariant-loop3 decreases-loop3 invariant-loop decreases-loop
-After-read-line-from-After-last2 c = After-read-line-from-After-unlink (After-unlink-from-After-last2 c)
-
-abbrev In-loop-from-After-last2 : tie.After-last2 invariant-loop2 decreases-loop2 invariant-loop3 decreases-loop3 invariant-loop decreases-loop → tie.In-loop invariant-loop2 decreases-loop2 invariant-loop3 decreases-loop3 invariant-loop decreases-loop
-In-loop-from-After-last2 c = In-loop-from-After-unlink (After-unlink-from-After-last2 c)
-
-abbrev At-loop-from-After-last2 : tie.After-last2 invariant-loop2 decreases-loop2 invariant-loop3 decreases-loop3 invariant-loop decreases-loop → tie.At-loop invariant-loop2 decreases-loop2 invariant-loop3 decreases-loop3 invariant-loop decreases-loop
-At-loop-from-After-last2 c = At-loop-from-After-unlink (After-unlink-from-After-last2 c)
-
-abbrev started : tie.After-numbers invariant-loop2 decreases-loop2 invariant-loop3 decreases-loop3 invariant-loop decreases-loop → State
+abbrev started : tie.After-numbers invariant-loop2 decreases-loop2 invariant-loop decreases-loop → State
 started c = let a = (Start-from-After-numbers c).args in state_of (head_from c.numbers.result) a.base.now a.draft.now a.values.now a.arrived.now a.confirmed.now
     a.table.now a.kept
 
-started-is : (c : tie.After-numbers invariant-loop2 decreases-loop2 invariant-loop3 decreases-loop3 invariant-loop decreases-loop) → started c ≡ lent ((Start-from-After-numbers c))
+started-is : (c : tie.After-numbers invariant-loop2 decreases-loop2 invariant-loop decreases-loop) → started c ≡ lent ((Start-from-After-numbers c))
 started-is c =
     let a = (Start-from-After-numbers c).args in
     ap (λ h. state_of h a.base.now a.draft.now a.values.now a.arrived.now a.confirmed.now a.table.now a.kept) (ap head_from c.numbers.ensures ∙ head-numbers a.first)
@@ -480,14 +407,14 @@ unfolding is_made
 none_made = ap (λ z. eqb (natural z) 1) (get_or-blank 512 127 (pos 0))
 
 -- what the owner said is true of it
-abbrev Told : tie.After-numbers invariant-loop2 decreases-loop2 invariant-loop3 decreases-loop3 invariant-loop decreases-loop → Type 0
+abbrev Told : tie.After-numbers invariant-loop2 decreases-loop2 invariant-loop decreases-loop → Type 0
 Told c = Lent (Start-from-After-numbers c).args.way.sound (started c)
 
-kept_full : (c : tie.Start invariant-loop2 decreases-loop2 invariant-loop3 decreases-loop3 invariant-loop decreases-loop) → length c.args.kept ≡ 256
+kept_full : (c : tie.Start invariant-loop2 decreases-loop2 invariant-loop decreases-loop) → length c.args.kept ≡ 256
 kept_full c = search rules
 
 -- what is owned before a line, and what is lent to it
-abbrev state-at : tie.At-loop invariant-loop2 decreases-loop2 invariant-loop3 decreases-loop3 invariant-loop decreases-loop → State
+abbrev state-at : tie.At-loop invariant-loop2 decreases-loop2 invariant-loop decreases-loop → State
 state-at c = state_of (head_from c.loop.head) c.loop.base c.loop.draft c.loop.values c.loop.arrived c.loop.confirmed c.loop.table c.loop.edits
 
 le_same : {a b n : ℕ} → a ≤ b → n ≡ b → a ≤ n
@@ -502,28 +429,28 @@ le_next h = omega (arith, h)
 le-self : (a : ℕ) → a ≤ a
 le-self a = omega arith
 
-lent_fits : (c : tie.After-slice-known invariant-loop2 decreases-loop2 invariant-loop3 decreases-loop3 invariant-loop decreases-loop) → Fits w64 (length c.before.before.args.area.now)
+lent_fits : (c : tie.After-slice-known invariant-loop2 decreases-loop2 invariant-loop decreases-loop) → Fits w64 (length c.before.before.args.area.now)
 lent_fits c = search rules
 
-sheet-fits : (c : tie.After-shared-slice-known invariant-loop2 decreases-loop2 invariant-loop3 decreases-loop3 invariant-loop decreases-loop) → Fits w64 (length c.before.args.sheet.now + 1)
+sheet-fits : (c : tie.After-shared-slice-known invariant-loop2 decreases-loop2 invariant-loop decreases-loop) → Fits w64 (length c.before.args.sheet.now + 1)
 sheet-fits c = omega arith
 
 -- a line is begun: the sheet and the area have room for it, and the run goes on
-begun : (c : tie.In-loop invariant-loop2 decreases-loop2 invariant-loop3 decreases-loop3 invariant-loop decreases-loop) → c.before.loop.i < length (Start-from-In-loop c).args.sheet.now
+begun : (c : tie.In-loop invariant-loop2 decreases-loop2 invariant-loop decreases-loop) → c.before.loop.i < length (Start-from-In-loop c).args.sheet.now
 begun c = (inside c.before.loop.invariant.0 c.loop-test.true).1
 
-on_line : (c : tie.In-loop invariant-loop2 decreases-loop2 invariant-loop3 decreases-loop3 invariant-loop decreases-loop) → Told ((After-numbers-from-In-loop c)) → SoundIn (Start-from-In-loop c).args.way.sound
+on_line : (c : tie.In-loop invariant-loop2 decreases-loop2 invariant-loop decreases-loop) → Told ((After-numbers-from-In-loop c)) → SoundIn (Start-from-In-loop c).args.way.sound
     (spread (state-at c.before)) × Going (Start-from-In-loop c).args.way.on
     (Start-from-In-loop c).args.way.reserve (Start-from-In-loop c).args.sheet.now (Start-from-In-loop c).args.way.from (Start-from-In-loop c).args.area.now
     (view (started ((After-numbers-from-In-loop c))))
-    c.before.loop.area (state-at c.before) c.before.loop.counts c.before.loop.tags c.before.loop.at c.before.loop.i
+    c.before.loop.area (state-at c.before) c.before.loop.counts c.before.loop.at c.before.loop.i
 on_line c x = (c.before.loop.invariant.1 x).under (inside c.before.loop.invariant.0 c.loop-test.true).0
 
 -- the line at hand; what was read is its call, and its length
-abbrev line : tie.After-read-line invariant-loop2 decreases-loop2 invariant-loop3 decreases-loop3 invariant-loop decreases-loop → List ℕ
+abbrev line : tie.After-read-line invariant-loop2 decreases-loop2 invariant-loop decreases-loop → List ℕ
 line c = up_to line_feed (drop (At-loop-from-After-read-line c).loop.i (Start-from-After-read-line c).args.sheet.now)
 
-read-is-line : (c : tie.After-read-line invariant-loop2 decreases-loop2 invariant-loop3 decreases-loop3 invariant-loop decreases-loop) → (line_in c.read-line.result ≡ line_call (line c)) × (c.read-line.result.end ≡ length (line c))
+read-is-line : (c : tie.After-read-line invariant-loop2 decreases-loop2 invariant-loop decreases-loop) → (line_in c.read-line.result ≡ line_call (line c)) × (c.read-line.result.end ≡ length (line c))
 read-is-line c =
     let i = (At-loop-from-After-read-line c).loop.i in
     let sheet = (Start-from-After-read-line c).args.sheet.now in
@@ -534,28 +461,28 @@ read-is-line c =
           ∙ ap (λ bs. length (up_to line_feed bs)) e,
     )
 
-end_is : (c : tie.After-read-line invariant-loop2 decreases-loop2 invariant-loop3 decreases-loop3 invariant-loop decreases-loop) → (At-loop-from-After-read-line c).loop.i + c.read-line.result.end ≡ (At-loop-from-After-read-line c).loop.i +
+end_is : (c : tie.After-read-line invariant-loop2 decreases-loop2 invariant-loop decreases-loop) → (At-loop-from-After-read-line c).loop.i + c.read-line.result.end ≡ (At-loop-from-After-read-line c).loop.i +
     length (line c)
 end_is c = ap (λ n. (At-loop-from-After-read-line c).loop.i + n) (read-is-line c).1
 
-end-most : (c : tie.After-read-line invariant-loop2 decreases-loop2 invariant-loop3 decreases-loop3 invariant-loop decreases-loop) → (At-loop-from-After-read-line c).loop.i + c.read-line.result.end ≤ length
+end-most : (c : tie.After-read-line invariant-loop2 decreases-loop2 invariant-loop decreases-loop) → (At-loop-from-After-read-line c).loop.i + c.read-line.result.end ≤ length
     (Start-from-After-read-line c).args.sheet.now
 end-most c =
     let h = begun c.before.before in
     line_within (Start-from-After-read-line c).args.sheet.now (At-loop-from-After-read-line c).loop.i ((At-loop-from-After-read-line c).loop.i + c.read-line.result.end) (end_is c)
     (omega (arith, h))
 
-end_fits : (c : tie.After-read-line invariant-loop2 decreases-loop2 invariant-loop3 decreases-loop3 invariant-loop decreases-loop) → Fits w64 ((At-loop-from-After-read-line c).loop.i + c.read-line.result.end + 1)
+end_fits : (c : tie.After-read-line invariant-loop2 decreases-loop2 invariant-loop decreases-loop) → Fits w64 ((At-loop-from-After-read-line c).loop.i + c.read-line.result.end + 1)
 end_fits c = let e = end-most c in Fits-le (le_next e) (sheet-fits ((After-shared-slice-known-from-After-read-line c)))
 
-nearer : (c : tie.After-read-line invariant-loop2 decreases-loop2 invariant-loop3 decreases-loop3 invariant-loop decreases-loop) → length (Start-from-After-read-line c).args.sheet.now -
+nearer : (c : tie.After-read-line invariant-loop2 decreases-loop2 invariant-loop decreases-loop) → length (Start-from-After-read-line c).args.sheet.now -
     ((At-loop-from-After-read-line c).loop.i + c.read-line.result.end + 1) < length (Start-from-After-read-line c).args.sheet.now - (At-loop-from-After-read-line c).loop.i
 nearer c = let h = begun c.before.before in omega (arith, h)
 
 -- ---- the call
 
 -- the record is stored where it is kept
-noted-is : (c : tie.Joined1 invariant-loop2 decreases-loop2 invariant-loop3 decreases-loop3 invariant-loop decreases-loop) → c.if1.edits ≡ noted c.before.make.result (At-loop-from-Joined1 c).loop.edits
+noted-is : (c : tie.Joined1 invariant-loop2 decreases-loop2 invariant-loop decreases-loop) → c.if1.edits ≡ noted c.before.make.result (At-loop-from-Joined1 c).loop.edits
 noted-is c =
     let e = c.before.make.result in
     on c.if1.branch
@@ -563,117 +490,102 @@ noted-is c =
     (λ w. w.1 ∙ sym (ap (λ b. cond b (set (At-loop-from-Joined1 c).loop.edits e.slot e.entry) (At-loop-from-Joined1 c).loop.edits) w.0.left))
 
 -- what is owned after it
-abbrev state-next : tie.After-loop3 invariant-loop2 decreases-loop2 invariant-loop3 decreases-loop3 invariant-loop decreases-loop → State
+abbrev state-next : tie.After-loop2 invariant-loop2 decreases-loop2 invariant-loop decreases-loop → State
 state-next c =
-    let x = (After-make-from-After-loop3 c).make.last.1 in
-    state_of (head_from x.0) x.1.0 x.1.1.0 x.1.1.1.0 x.1.1.1.1.0 x.1.1.1.1.1.0 x.1.1.1.1.1.1.0 c.before.loop3.edits
+    let x = (After-make-from-After-loop2 c).make.last.1 in
+    state_of (head_from x.0) x.1.0 x.1.1.0 x.1.1.1.0 x.1.1.1.1.0 x.1.1.1.1.1.0 x.1.1.1.1.1.1.0 c.before.loop2.edits
 
-abbrev counts-next : tie.After-loop3 invariant-loop2 decreases-loop2 invariant-loop3 decreases-loop3 invariant-loop decreases-loop → List ℕ
-counts-next c = (After-make-from-After-loop3 c).make.last.1.1.1.1.1.1.1.1.1.1.0
+abbrev counts-next : tie.After-loop2 invariant-loop2 decreases-loop2 invariant-loop decreases-loop → List ℕ
+counts-next c = (After-make-from-After-loop2 c).make.last.1.1.1.1.1.1.1.1.1.1.0
 
-abbrev tags-next : tie.After-loop3 invariant-loop2 decreases-loop2 invariant-loop3 decreases-loop3 invariant-loop decreases-loop → List ℕ
-tags-next c = (After-make-from-After-loop3 c).make.last.1.1.1.1.1.1.1.1.1.1.1.0
-
--- what was handed over with the line is true of the plan
-known : (c : tie.After-make invariant-loop2 decreases-loop2 invariant-loop3 decreases-loop3 invariant-loop decreases-loop) → Told ((After-numbers-from-After-make c))
-    → Known (After-read-line-from-After-make c).read-line.result (state-at ((At-loop-from-After-make c))) (At-loop-from-After-make c).loop.index (After-looking-from-After-make c).looking.result (At-loop-from-After-make c).loop.counts (At-loop-from-After-make c).loop.tags (Start-from-After-make c).args.way.sound
-known c x =
-    let l = (After-read-line-from-After-make c).read-line.result in
-    let es = (At-loop-from-After-make c).loop.edits in
-    let k = on_line ((In-loop-from-After-make c)) x in
-    let seen = (After-looking-from-After-make c).looking.ensures in
-    let head = (After-from-numbers-from-After-make c).from-numbers.ensures in
-    record {
+made : (c : tie.After-loop2 invariant-loop2 decreases-loop2 invariant-loop decreases-loop) → Told ((After-numbers-from-After-loop2 c)) → Makes (After-read-line-from-After-loop2 c).read-line.result
+    (state-at ((At-loop-from-After-loop2 c))) (state-next c)
+    (At-loop-from-After-loop2 c).loop.counts (counts-next c) (At-loop-from-After-loop2 c).loop.index (After-make-from-After-loop2 c).make.last.1.1.1.1.1.1.1.1.0
+    (After-make-from-After-loop2 c).make.result
+made c x =
+    let l = (After-read-line-from-After-loop2 c).read-line.result in
+    let e = (After-make-from-After-loop2 c).make.result in
+    let es = (At-loop-from-After-loop2 c).loop.edits in
+    let k = on_line ((In-loop-from-After-loop2 c)) x in
+    let side = c.before.before.number.ensures ∙ ap natural (to_z-of_z (fits32 l.a (After-struct-told-from-After-loop2 c).struct_told.given.1.0.1)) in
+    let j : c.before.loop2.j ≡ e.marked = (let a = c.before.loop2.invariant.1 in let b = c.loop2-test.false in omega (arith, a, b)) in
+    let note = noted-is ((Joined1-from-After-loop2 c)) in
+    let seen = (After-looking-from-After-loop2 c).looking.ensures in
+    let head = (After-from-numbers-from-After-loop2 c).from-numbers.ensures in
+    (After-make-from-After-loop2 c).make.ensures.made es c.before.loop2.edits
+    (record {
       sized = k.1.sized;
       long = k.1.long;
       tallied = λ y. k.1.tallied;
-      tagged = λ y. k.1.tagged;
       held = k.0;
-      indexed = ((At-loop-from-After-make c).loop.inv.1 x).indexed;
-      named = λ y. ap (λ k. k.named) seen ∙ first_looked (After-from-numbers-from-After-make c).from-numbers.result l (After-first-look-from-After-make c).first-look.ensures y
+      indexed = ((At-loop-from-After-loop2 c).loop.inv.1 x).indexed;
+      named = λ y. ap (λ k. k.named) seen ∙ first_looked (After-from-numbers-from-After-loop2 c).from-numbers.result l (After-first-look-from-After-loop2 c).first-look.ensures y
           ∙ ap (λ h. asked_at h l) head;
-      stood = λ y. ap (λ k. k.standing) seen ∙ ap (λ n. get_or es n no_record) ((After-slot-from-After-make c).slot.ensures.0 ∙ sym (ap (λ k. slot_at k.named) seen));
-    }
-
--- the edits of the side are marked: those that were found, and where they were too few, the rest
-marked-are : (c : tie.After-loop3 invariant-loop2 decreases-loop2 invariant-loop3 decreases-loop3 invariant-loop decreases-loop) → Told ((After-numbers-from-After-loop3 c))
-    → Marked (natural (After-read-line-from-After-loop3 c).read-line.result.a) (noted (After-make-from-After-loop3 c).make.result (At-loop-from-After-loop3 c).loop.edits) c.before.loop3.edits (After-make-from-After-loop3 c).make.result.marked
-marked-are c x =
-    let l = (After-read-line-from-After-loop3 c).read-line.result in
-    let e = (After-make-from-After-loop3 c).make.result in
-    let es = (At-loop-from-After-loop3 c).loop.edits in
-    let h = head_from (At-loop-from-After-loop3 c).loop.head in
-    let side = (After-number-from-After-loop3 c).number.ensures ∙ ap natural (to_z-of_z (fits32 l.a (After-struct-told-from-After-loop3 c).struct_told.given.1.0.1)) in
-    let j : c.before.loop3.j ≡ cond (eqb (At-loop2-from-After-loop3 c).loop2.found (After-due-from-After-loop3 c).due.result) 0 e.marked = (let a = c.before.loop3.invariant.1 in let b = c.loop3-test.false in let r = c.before.before.remaining.ensures.0 in omega (arith, a, b, r)) in
-    let due : e.marked ≢ 0 → (After-due-from-After-loop3 c).due.result ≡ unsent_among (After-number-from-After-loop3 c).number.result e.marked (Joined1-from-After-loop3 c).if1.edits = λ ne.
-    let d = (After-make-from-After-loop3 c).make.ensures.due es (known ((After-make-from-After-loop3 c)) x) ne in
-    let same : (Joined1-from-After-loop3 c).if1.edits ≡ es = noted-is ((Joined1-from-After-loop3 c)) ∙ ap (λ b. cond b (set es e.slot e.entry) es) d.0 in
-    (After-due-from-After-loop3 c).due.ensures ∙ d.2 ∙ sym (unsent_among_lem (natural l.a) h es) ∙ sym (λ i. unsent_among (side i) (d.1 i) (same i)) in
-    subst (λ y. Marked (natural l.a) y c.before.loop3.edits e.marked) (noted-is ((Joined1-from-After-loop3 c)))
-    (subst (λ y. Marked y (Joined1-from-After-loop3 c).if1.edits c.before.loop3.edits e.marked) side
-    (marked_all (At-loop2-from-After-loop3 c).loop2.inv.0 (After-due-from-After-loop3 c).due.result due (subst (Marked (After-number-from-After-loop3 c).number.result (At-loop2-from-After-loop3 c).loop2.edits c.before.loop3.edits) j c.before.loop3.invariant.0)))
-
-made : (c : tie.After-loop3 invariant-loop2 decreases-loop2 invariant-loop3 decreases-loop3 invariant-loop decreases-loop) → Told ((After-numbers-from-After-loop3 c)) → Makes (After-read-line-from-After-loop3 c).read-line.result
-    (state-at ((At-loop-from-After-loop3 c))) (state-next c)
-    (At-loop-from-After-loop3 c).loop.counts (counts-next c) (At-loop-from-After-loop3 c).loop.tags (tags-next c) (At-loop-from-After-loop3 c).loop.index (After-make-from-After-loop3 c).make.last.1.1.1.1.1.1.1.1.0
-    (After-make-from-After-loop3 c).make.result
-made c x = (After-make-from-After-loop3 c).make.ensures.made (At-loop-from-After-loop3 c).loop.edits c.before.loop3.edits (known ((After-make-from-After-loop3 c)) x) (marked-are c x)
+      stood = λ y. ap (λ k. k.standing) seen ∙ ap (λ n. get_or es n no_record) ((After-slot-from-After-loop2 c).slot.ensures.0 ∙ sym (ap (λ k. slot_at k.named) seen));
+      next = λ y. ap (λ k. k.next) seen ∙ second_looked (After-from-numbers-from-After-loop2 c).from-numbers.result l (After-first-look-from-After-loop2 c).first-look.result
+          (get_or es (After-slot-from-After-loop2 c).slot.result no_record) (After-second-look-from-After-loop2 c).second-look.ensures y
+          ∙ (λ i. earlier_at (head i) (sym seen i).named (sym seen i).standing);
+      saw = λ y. ap (λ k. k.seen) seen ∙ ap (λ n. get_or es n no_record) ((After-slot2-from-After-loop2 c).slot2.ensures.0 ∙ sym (ap (λ k. slot_at k.next) seen));
+    })
+    (subst (λ y. Marked (natural l.a) (noted e es) c.before.loop2.edits y) j
+    (subst (λ y. Marked (natural l.a) y c.before.loop2.edits c.before.loop2.j) note
+    (subst (λ y. Marked y (Joined1-from-After-loop2 c).if1.edits c.before.loop2.edits c.before.loop2.j) side c.before.loop2.invariant.0)))
 
 -- ---- its answer, put into the rest of the area
 
-abbrev values-now : tie.After-tell invariant-loop2 decreases-loop2 invariant-loop3 decreases-loop3 invariant-loop decreases-loop → List ℤ
+abbrev values-now : tie.After-tell invariant-loop2 decreases-loop2 invariant-loop decreases-loop → List ℤ
 values-now c = (After-make-from-After-tell c).make.last.1.1.1.1.0
 
-abbrev told : tie.After-tell invariant-loop2 decreases-loop2 invariant-loop3 decreases-loop3 invariant-loop decreases-loop → List ℕ
+abbrev told : tie.After-tell invariant-loop2 decreases-loop2 invariant-loop decreases-loop → List ℕ
 told c = line_of (After-make-from-After-tell c).make.result.answer (row (values-now c) (After-make-from-After-tell c).make.result.from (After-make-from-After-tell c).make.result.width)
 
-told_is : (c : tie.After-tell invariant-loop2 decreases-loop2 invariant-loop3 decreases-loop3 invariant-loop decreases-loop) → Told ((After-numbers-from-After-tell c)) → told c ≡ text
+told_is : (c : tie.After-tell invariant-loop2 decreases-loop2 invariant-loop decreases-loop) → Told ((After-numbers-from-After-tell c)) → told c ≡ text
     (line_step (line ((After-read-line-from-After-tell c))) (view (state-at ((At-loop-from-After-tell c))))).answer
 unfolding line_of line_step
-told_is c x = ap text ((made ((After-loop3-from-After-tell c)) x).answer ∙ ap (λ o. (step_of o (view (state-at ((At-loop-from-After-tell c))))).answer)
+told_is c x = ap text ((made ((After-loop2-from-After-tell c)) x).answer ∙ ap (λ o. (step_of o (view (state-at ((At-loop-from-After-tell c))))).answer)
     (read-is-line ((After-read-line-from-After-tell c))).0)
 
-left_is : (c : tie.After-tell invariant-loop2 decreases-loop2 invariant-loop3 decreases-loop3 invariant-loop decreases-loop) → Told ((After-numbers-from-After-tell c)) → view (state-next ((After-loop3-from-After-tell c))) ≡ (line_step
+left_is : (c : tie.After-tell invariant-loop2 decreases-loop2 invariant-loop decreases-loop) → Told ((After-numbers-from-After-tell c)) → view (state-next ((After-loop2-from-After-tell c))) ≡ (line_step
     (line ((After-read-line-from-After-tell c)))
     (view (state-at ((At-loop-from-After-tell c))))).plan
 unfolding line_step
-left_is c x = (made ((After-loop3-from-After-tell c)) x).plan ∙ ap (λ o. (step_of o (view (state-at ((At-loop-from-After-tell c))))).plan) (read-is-line ((After-read-line-from-After-tell c))).0
+left_is c x = (made ((After-loop2-from-After-tell c)) x).plan ∙ ap (λ o. (step_of o (view (state-at ((At-loop-from-After-tell c))))).plan) (read-is-line ((After-read-line-from-After-tell c))).0
 
-enough : (c : tie.After-tell invariant-loop2 decreases-loop2 invariant-loop3 decreases-loop3 invariant-loop decreases-loop) → (Start-from-After-tell c).args.way.reserve ≤ length (Start-from-After-tell c).args.area.now -
+enough : (c : tie.After-tell invariant-loop2 decreases-loop2 invariant-loop decreases-loop) → (Start-from-After-tell c).args.way.reserve ≤ length (Start-from-After-tell c).args.area.now -
     (At-loop-from-After-tell c).loop.at
 enough c = subst (λ n. (Start-from-After-tell c).args.way.reserve ≤ n - (At-loop-from-After-tell c).loop.at) (At-loop-from-After-tell c).loop.inv.0.same
     (inside (At-loop-from-After-tell c).loop.inv.0 (In-loop-from-After-tell c).loop-test.taken).2
 
 -- what was put, and how many bytes
-abbrev room : tie.After-tell invariant-loop2 decreases-loop2 invariant-loop3 decreases-loop3 invariant-loop decreases-loop → List ℕ
+abbrev room : tie.After-tell invariant-loop2 decreases-loop2 invariant-loop decreases-loop → List ℕ
 room c = drop (At-loop-from-After-tell c).loop.at (At-loop-from-After-tell c).loop.area
 
-put_is : (c : tie.After-tell invariant-loop2 decreases-loop2 invariant-loop3 decreases-loop3 invariant-loop decreases-loop) → c.tell.result ≡ put_length (told c) (room c)
+put_is : (c : tie.After-tell invariant-loop2 decreases-loop2 invariant-loop decreases-loop) → c.tell.result ≡ put_length (told c) (room c)
 put_is c = subst (λ xs. c.tell.result ≡ put_length (told c) xs) (lent_rest (At-loop-from-After-tell c).loop.at (At-loop-from-After-tell c).loop.area) c.tell.ensures.1
 
-at_most : (c : tie.After-tell invariant-loop2 decreases-loop2 invariant-loop3 decreases-loop3 invariant-loop decreases-loop) → (At-loop-from-After-tell c).loop.at + c.tell.result ≤ length (Start-from-After-tell c).args.area.now
+at_most : (c : tie.After-tell invariant-loop2 decreases-loop2 invariant-loop decreases-loop) → (At-loop-from-After-tell c).loop.at + c.tell.result ≤ length (Start-from-After-tell c).args.area.now
 at_most c = put_most _ _ (told c) (At-loop-from-After-tell c).loop.area _ (put_is c) (At-loop-from-After-tell c).loop.inv.0.same (At-loop-from-After-tell c).loop.inv.0.most
 
 -- the rest of the area as it was lent, and after
-abbrev rest-after : tie.After-tell invariant-loop2 decreases-loop2 invariant-loop3 decreases-loop3 invariant-loop decreases-loop → List ℕ
+abbrev rest-after : tie.After-tell invariant-loop2 decreases-loop2 invariant-loop decreases-loop → List ℕ
 rest-after c = c.tell.new.1.1.1.1.0
 
-abbrev area-now : tie.After-tell invariant-loop2 decreases-loop2 invariant-loop3 decreases-loop3 invariant-loop decreases-loop → List ℕ
+abbrev area-now : tie.After-tell invariant-loop2 decreases-loop2 invariant-loop decreases-loop → List ℕ
 area-now c = put_mid (At-loop-from-After-tell c).loop.at (length (At-loop-from-After-tell c).loop.area - (At-loop-from-After-tell c).loop.at)
     (At-loop-from-After-tell c).loop.area (rest-after c)
 
-after_is : (c : tie.After-tell invariant-loop2 decreases-loop2 invariant-loop3 decreases-loop3 invariant-loop decreases-loop) → rest-after c ≡ put_in (told c) (room c)
+after_is : (c : tie.After-tell invariant-loop2 decreases-loop2 invariant-loop decreases-loop) → rest-after c ≡ put_in (told c) (room c)
 after_is c = subst (λ xs. rest-after c ≡ put_in (told c) xs) (lent_rest (At-loop-from-After-tell c).loop.at (At-loop-from-After-tell c).loop.area) c.tell.ensures.0
 
-area-is : (c : tie.After-tell invariant-loop2 decreases-loop2 invariant-loop3 decreases-loop3 invariant-loop decreases-loop) → area-now c ≡ take (At-loop-from-After-tell c).loop.at (At-loop-from-After-tell c).loop.area ++ put_in (told c) (room c)
+area-is : (c : tie.After-tell invariant-loop2 decreases-loop2 invariant-loop decreases-loop) → area-now c ≡ take (At-loop-from-After-tell c).loop.at (At-loop-from-After-tell c).loop.area ++ put_in (told c) (room c)
 area-is c = put_back (At-loop-from-After-tell c).loop.at (At-loop-from-After-tell c).loop.area (rest-after c) ∙ ap
     (λ xs. take (At-loop-from-After-tell c).loop.at (At-loop-from-After-tell c).loop.area ++ xs) (after_is c)
 
-same-now : (c : tie.After-tell invariant-loop2 decreases-loop2 invariant-loop3 decreases-loop3 invariant-loop decreases-loop) → length (area-now c) ≡ length (Start-from-After-tell c).args.area.now
+same-now : (c : tie.After-tell invariant-loop2 decreases-loop2 invariant-loop decreases-loop) → length (area-now c) ≡ length (Start-from-After-tell c).args.area.now
 same-now c = ap length (area-is c) ∙ put_same (At-loop-from-After-tell c).loop.at (told c) (At-loop-from-After-tell c).loop.area ∙ (At-loop-from-After-tell c).loop.inv.0.same
 
 -- it fits, or it does not
-module _ (c : tie.After-tell invariant-loop2 decreases-loop2 invariant-loop3 decreases-loop3 invariant-loop decreases-loop) (x : Told ((After-numbers-from-After-tell c))) where
+module _ (c : tie.After-tell invariant-loop2 decreases-loop2 invariant-loop decreases-loop) (x : Told ((After-numbers-from-After-tell c))) where
   some-told : 0 < length (told c)
   some-told = text-some (told c) (line_step (line ((After-read-line-from-After-tell c))) (view (state-at ((At-loop-from-After-tell c))))).answer (told_is c x)
 
@@ -694,62 +606,59 @@ module _ (c : tie.After-tell invariant-loop2 decreases-loop2 invariant-loop3 dec
 
 -- ---- the run after it
 
-moved : {on : Bool} {reserve : ℕ} {sheet : List ℕ} {from : ℕ} {lent : List ℕ} {start : Plan} {area area' : List ℕ} {p : State} {t tags : List ℕ} {at at' i i' : ℕ} → area ≡ area' → at ≡ at' → i ≡ i'
-    → Going on reserve sheet from lent start area' p t tags at' i' → Going on reserve sheet from lent start area p t tags at i
+moved : {on : Bool} {reserve : ℕ} {sheet : List ℕ} {from : ℕ} {lent : List ℕ} {start : Plan} {area area' : List ℕ} {p : State} {t : List ℕ} {at at' i i' : ℕ} → area ≡ area' → at ≡ at' → i ≡ i'
+    → Going on reserve sheet from lent start area' p t at' i' → Going on reserve sheet from lent start area p t at i
 moved e g h k = rw (e, g, h) k
 
 ended_at : {on : Bool} {reserve : ℕ} {sheet : List ℕ} {from : ℕ} {lent : List ℕ} {start q : Plan} {area area' : List ℕ} {n n' at k : ℕ} → area ≡ area' → n ≡ n' → k ≡ 0
     → Advanced on reserve sheet from start lent q n' at true area' → Advanced on reserve sheet from start lent q n (at + k) true area
 ended_at {at = at} {k = k} e h z a = let w : at + k ≡ at = omega (arith, z) in rw (e, h, w) a
 
-going_on : (c : tie.After-tell invariant-loop2 decreases-loop2 invariant-loop3 decreases-loop3 invariant-loop decreases-loop) → Told ((After-numbers-from-After-tell c)) → (c.tell.result ≡ 0 → ⊥)
+going_on : (c : tie.After-tell invariant-loop2 decreases-loop2 invariant-loop decreases-loop) → Told ((After-numbers-from-After-tell c)) → (c.tell.result ≡ 0 → ⊥)
     → Going (Start-from-After-tell c).args.way.on (Start-from-After-tell c).args.way.reserve (Start-from-After-tell c).args.sheet.now (Start-from-After-tell c).args.way.from
     (Start-from-After-tell c).args.area.now
-    (view (started ((After-numbers-from-After-tell c)))) (area-now c) (state-next ((After-loop3-from-After-tell c))) (counts-next ((After-loop3-from-After-tell c))) (tags-next ((After-loop3-from-After-tell c)))
+    (view (started ((After-numbers-from-After-tell c)))) (area-now c) (state-next ((After-loop2-from-After-tell c))) (counts-next ((After-loop2-from-After-tell c)))
     ((At-loop-from-After-tell c).loop.at + c.tell.result) ((At-loop-from-After-tell c).loop.i + (After-read-line-from-After-tell c).read-line.result.end + 1)
 going_on c x h =
-    let j = made ((After-loop3-from-After-tell c)) x in
+    let j = made ((After-loop2-from-After-tell c)) x in
     let g = (on_line ((In-loop-from-After-tell c)) x).1 in
     moved (area-after c x h) (ap (λ n. (At-loop-from-After-tell c).loop.at + n) (count-is c x h)) (ap (λ n. n + 1) (end_is ((After-read-line-from-After-tell c))))
-    (next_line _ _ _ _ _ _ _ _ _ _ _ _ g (begun ((In-loop-from-After-tell c))) (enough c) (state-next ((After-loop3-from-After-tell c)))
-    (counts-next ((After-loop3-from-After-tell c))) (tags-next ((After-loop3-from-After-tell c))) (told c) (told_is c x) (left_is c x) (fits-now c x h) j.sized j.long (j.tallied g.tallied) (j.tagged g.tagged))
+    (next_line _ _ _ _ _ _ _ _ _ _ _ g (begun ((In-loop-from-After-tell c))) (enough c) (state-next ((After-loop2-from-After-tell c)))
+    (counts-next ((After-loop2-from-After-tell c))) (told c) (told_is c x) (left_is c x) (fits-now c x h) j.sized j.long (j.tallied g.tallied))
 
-ending : (c : tie.After-tell invariant-loop2 decreases-loop2 invariant-loop3 decreases-loop3 invariant-loop decreases-loop) → Told ((After-numbers-from-After-tell c)) → (Start-from-After-tell c).args.way.on ≡ false → c.tell.result ≡ 0
+ending : (c : tie.After-tell invariant-loop2 decreases-loop2 invariant-loop decreases-loop) → Told ((After-numbers-from-After-tell c)) → (Start-from-After-tell c).args.way.on ≡ false → c.tell.result ≡ 0
     → Advanced (Start-from-After-tell c).args.way.on (Start-from-After-tell c).args.way.reserve (Start-from-After-tell c).args.sheet.now (Start-from-After-tell c).args.way.from
     (view (started ((After-numbers-from-After-tell c))))
-    (Start-from-After-tell c).args.area.now (view (state-next ((After-loop3-from-After-tell c))))
+    (Start-from-After-tell c).args.area.now (view (state-next ((After-loop2-from-After-tell c))))
     ((At-loop-from-After-tell c).loop.i + (After-read-line-from-After-tell c).read-line.result.end + 1) ((At-loop-from-After-tell c).loop.at + c.tell.result) true (area-now c)
 ending c x o e =
     ended_at (area_same c x e) (ap (λ n. n + 1) (end_is ((After-read-line-from-After-tell c)))) e
-    (unfit _ _ _ _ _ _ _ _ _ _ _ _ (on_line ((In-loop-from-After-tell c)) x).1 (begun ((In-loop-from-After-tell c))) (enough c) (state-next ((After-loop3-from-After-tell c)))
-    (counts-next ((After-loop3-from-After-tell c))) (tags-next ((After-loop3-from-After-tell c))) (told c) (told_is c x) (left_is c x) o (unfit-now c x e))
+    (unfit _ _ _ _ _ _ _ _ _ _ _ (on_line ((In-loop-from-After-tell c)) x).1 (begun ((In-loop-from-After-tell c))) (enough c) (state-next ((After-loop2-from-After-tell c)))
+    (counts-next ((After-loop2-from-After-tell c))) (told c) (told_is c x) (left_is c x) o (unfit-now c x e))
 
 -- an answer that does not fit is dropped, where the run is to go on
-skipping : (c : tie.After-tell invariant-loop2 decreases-loop2 invariant-loop3 decreases-loop3 invariant-loop decreases-loop) → Told ((After-numbers-from-After-tell c)) → (Start-from-After-tell c).args.way.on ≡ true → c.tell.result ≡ 0
+skipping : (c : tie.After-tell invariant-loop2 decreases-loop2 invariant-loop decreases-loop) → Told ((After-numbers-from-After-tell c)) → (Start-from-After-tell c).args.way.on ≡ true → c.tell.result ≡ 0
     → Going (Start-from-After-tell c).args.way.on (Start-from-After-tell c).args.way.reserve (Start-from-After-tell c).args.sheet.now (Start-from-After-tell c).args.way.from
-    (Start-from-After-tell c).args.area.now (view (started ((After-numbers-from-After-tell c)))) (area-now c) (state-next ((After-loop3-from-After-tell c)))
-    (counts-next ((After-loop3-from-After-tell c))) (tags-next ((After-loop3-from-After-tell c))) ((At-loop-from-After-tell c).loop.at + c.tell.result)
+    (Start-from-After-tell c).args.area.now (view (started ((After-numbers-from-After-tell c)))) (area-now c) (state-next ((After-loop2-from-After-tell c)))
+    (counts-next ((After-loop2-from-After-tell c))) ((At-loop-from-After-tell c).loop.at + c.tell.result)
     ((At-loop-from-After-tell c).loop.i + (After-read-line-from-After-tell c).read-line.result.end + 1)
 skipping c x o e =
-    let j = made ((After-loop3-from-After-tell c)) x in
+    let j = made ((After-loop2-from-After-tell c)) x in
     let g = (on_line ((In-loop-from-After-tell c)) x).1 in
     moved (area_same c x e) (omega (arith, e)) (ap (λ n. n + 1) (end_is ((After-read-line-from-After-tell c))))
-    (dropped _ _ _ _ _ _ _ _ _ _ _ _ g (begun ((In-loop-from-After-tell c))) (enough c) (state-next ((After-loop3-from-After-tell c)))
-    (counts-next ((After-loop3-from-After-tell c))) (tags-next ((After-loop3-from-After-tell c))) (told c) (told_is c x) (left_is c x) o (unfit-now c x e) j.sized j.long (j.tallied g.tallied) (j.tagged g.tagged))
+    (dropped _ _ _ _ _ _ _ _ _ _ _ g (begun ((In-loop-from-After-tell c))) (enough c) (state-next ((After-loop2-from-After-tell c)))
+    (counts-next ((After-loop2-from-After-tell c))) (told c) (told_is c x) (left_is c x) o (unfit-now c x e) j.sized j.long (j.tallied g.tallied))
 
-numbers-requires : tie.Need-numbers-requires invariant-loop2 decreases-loop2 invariant-loop3 decreases-loop3 invariant-loop decreases-loop
+numbers-requires : tie.Need-numbers-requires invariant-loop2 decreases-loop2 invariant-loop decreases-loop
 numbers-requires c κs = search rules
 
-tags-requires : tie.Need-tags-requires invariant-loop2 decreases-loop2 invariant-loop3 decreases-loop3 invariant-loop decreases-loop
-tags-requires c κs = search rules
-
-tallies-requires : tie.Need-tallies-requires invariant-loop2 decreases-loop2 invariant-loop3 decreases-loop3 invariant-loop decreases-loop
+tallies-requires : tie.Need-tallies-requires invariant-loop2 decreases-loop2 invariant-loop decreases-loop
 tallies-requires c κs = search rules
 
-last-requires : tie.Need-last-requires invariant-loop2 decreases-loop2 invariant-loop3 decreases-loop3 invariant-loop decreases-loop
+last-requires : tie.Need-last-requires invariant-loop2 decreases-loop2 invariant-loop decreases-loop
 last-requires c κs = search rules
 
-loop-holds : tie.Need-loop-init invariant-loop2 decreases-loop2 invariant-loop3 decreases-loop3 invariant-loop decreases-loop
+loop-holds : tie.Need-loop-init invariant-loop2 decreases-loop2 invariant-loop decreases-loop
 loop-holds c =
     let s = ((Start-from-After-last c)) in
     let w = s.args.way in
@@ -766,243 +675,189 @@ loop-holds c =
         over = λ e. absurd (is_yes e);
         under = λ e. (
           x.2,
-          begins w.on w.reserve s.args.sheet.now w.from s.args.area.now (started ((After-numbers-from-After-last c))) c.before.tallies.result (After-tags-from-After-last c).tags.result x.0 x.1
+          begins w.on w.reserve s.args.sheet.now w.from s.args.area.now (started ((After-numbers-from-After-last c))) c.before.tallies.result x.0 x.1
               (subst (λ q. Tallied c.before.tallies.result (view q)) (sym (started-is ((After-numbers-from-After-last c))))
-              (tallies_right (spread (lent s)) c.before.tallies.result k.0 k.1 k.2 k.3 (After-tags-from-After-last c).tags.ensures k.4))
-              (subst (TaggedIn (After-tags-from-After-last c).tags.result) (sym (started-is ((After-numbers-from-After-last c)))) (After-tags-from-After-last c).tags.ensures),
+              (tallies_right (spread (lent s)) c.before.tallies.result k.0 k.1 k.2 k.3)),
         );
       },
     )
 
-sub-read-line : tie.Need-overflow-sub-read-line invariant-loop2 decreases-loop2 invariant-loop3 decreases-loop3 invariant-loop decreases-loop
+sub-read-line : tie.Need-overflow-sub-read-line invariant-loop2 decreases-loop2 invariant-loop decreases-loop
 sub-read-line c = let h = begun c in omega (arith, h)
 
-part-read-line-start : tie.Need-slice-bounds-read-line-start invariant-loop2 decreases-loop2 invariant-loop3 decreases-loop3 invariant-loop decreases-loop
+part-read-line-start : tie.Need-slice-bounds-read-line-start invariant-loop2 decreases-loop2 invariant-loop decreases-loop
 part-read-line-start c = let h = begun c in omega (arith, h)
 
-part-read-line-end : tie.Need-slice-bounds-read-line-end invariant-loop2 decreases-loop2 invariant-loop3 decreases-loop3 invariant-loop decreases-loop
+part-read-line-end : tie.Need-slice-bounds-read-line-end invariant-loop2 decreases-loop2 invariant-loop decreases-loop
 part-read-line-end c = le-self _
 
-read-line-requires : tie.Need-read-line-requires invariant-loop2 decreases-loop2 invariant-loop3 decreases-loop3 invariant-loop decreases-loop
+read-line-requires : tie.Need-read-line-requires invariant-loop2 decreases-loop2 invariant-loop decreases-loop
 read-line-requires c κs = search rules
 
-from-numbers-requires : tie.Need-from-numbers-requires invariant-loop2 decreases-loop2 invariant-loop3 decreases-loop3 invariant-loop decreases-loop
+from-numbers-requires : tie.Need-from-numbers-requires invariant-loop2 decreases-loop2 invariant-loop decreases-loop
 from-numbers-requires c κs = search rules
 
-first-look-requires : tie.Need-first-look-requires invariant-loop2 decreases-loop2 invariant-loop3 decreases-loop3 invariant-loop decreases-loop
+first-look-requires : tie.Need-first-look-requires invariant-loop2 decreases-loop2 invariant-loop decreases-loop
 first-look-requires c κs = search rules
 
-slot-requires : tie.Need-slot-requires invariant-loop2 decreases-loop2 invariant-loop3 decreases-loop3 invariant-loop decreases-loop
+slot-requires : tie.Need-slot-requires invariant-loop2 decreases-loop2 invariant-loop decreases-loop
 slot-requires c κs = search rules
 
-mul-standing : tie.Need-overflow-mul-standing invariant-loop2 decreases-loop2 invariant-loop3 decreases-loop3 invariant-loop decreases-loop
+mul-standing : tie.Need-overflow-mul-standing invariant-loop2 decreases-loop2 invariant-loop decreases-loop
 mul-standing c = omega (arith, c.slot.ensures.1)
 
-array-copy-out-standing : tie.Need-array-copy-out-standing invariant-loop2 decreases-loop2 invariant-loop3 decreases-loop3 invariant-loop decreases-loop
+array-copy-out-standing : tie.Need-array-copy-out-standing invariant-loop2 decreases-loop2 invariant-loop decreases-loop
 array-copy-out-standing c =
     let k = (At-loop-from-After-slot c).loop.inv.0.full in omega (arith, c.slot.ensures.1, k)
 
-looking-requires : tie.Need-looking-requires invariant-loop2 decreases-loop2 invariant-loop3 decreases-loop3 invariant-loop decreases-loop
+second-look-requires : tie.Need-second-look-requires invariant-loop2 decreases-loop2 invariant-loop decreases-loop
+second-look-requires c κs = search rules
+
+slot-requires-2 : tie.Need-slot-requires-2 invariant-loop2 decreases-loop2 invariant-loop decreases-loop
+slot-requires-2 c κs = search rules
+
+mul-seen : tie.Need-overflow-mul-seen invariant-loop2 decreases-loop2 invariant-loop decreases-loop
+mul-seen c = omega (arith, c.slot2.ensures.1)
+
+array-copy-out-seen : tie.Need-array-copy-out-seen invariant-loop2 decreases-loop2 invariant-loop decreases-loop
+array-copy-out-seen c =
+    let k = (At-loop-from-After-slot2 c).loop.inv.0.full in omega (arith, c.slot2.ensures.1, k)
+
+looking-requires : tie.Need-looking-requires invariant-loop2 decreases-loop2 invariant-loop decreases-loop
 looking-requires c κs = search rules
 
-make-requires : tie.Need-make-requires invariant-loop2 decreases-loop2 invariant-loop3 decreases-loop3 invariant-loop decreases-loop
+make-requires : tie.Need-make-requires invariant-loop2 decreases-loop2 invariant-loop decreases-loop
 make-requires c κs = search rules
 
-mul-edits : tie.Need-overflow-mul-edits invariant-loop2 decreases-loop2 invariant-loop3 decreases-loop3 invariant-loop decreases-loop
+mul-edits : tie.Need-overflow-mul-edits invariant-loop2 decreases-loop2 invariant-loop decreases-loop
 mul-edits c = omega (arith, c.before.before.make.ensures.slot)
 
-array-set-from-edits : tie.Need-array-set-from-edits invariant-loop2 decreases-loop2 invariant-loop3 decreases-loop3 invariant-loop decreases-loop
+array-set-from-edits : tie.Need-array-set-from-edits invariant-loop2 decreases-loop2 invariant-loop decreases-loop
 array-set-from-edits c =
     let k = (At-loop-from-After-entry c).loop.inv.0.full in omega (arith, c.before.before.make.ensures.slot, k)
 
-number-requires : tie.Need-number-requires invariant-loop2 decreases-loop2 invariant-loop3 decreases-loop3 invariant-loop decreases-loop
+number-requires : tie.Need-number-requires invariant-loop2 decreases-loop2 invariant-loop decreases-loop
 number-requires c κs = search rules
 
-link-requires : tie.Need-link-requires invariant-loop2 decreases-loop2 invariant-loop3 decreases-loop3 invariant-loop decreases-loop
-link-requires c κs = (After-make-from-After-lasts c).make.ensures.slot
+loop2-holds : tie.Need-loop2-init invariant-loop2 decreases-loop2 invariant-loop decreases-loop
+loop2-holds c = (
+  marked_begin _ c.before.before.if1.edits
+      (ap length (noted-is c.before.before) ∙ noted-length (After-make-from-After-number c).make.result (At-loop-from-After-number c).loop.edits
+      (At-loop-from-After-number c).loop.inv.0.full),
+  omega arith,
+  (After-make-from-After-number c).make.ensures.marked,
+)
 
-unlink-requires : tie.Need-unlink-requires invariant-loop2 decreases-loop2 invariant-loop3 decreases-loop3 invariant-loop decreases-loop
-unlink-requires c κs = search rules
+mul-r : tie.Need-overflow-mul-r invariant-loop2 decreases-loop2 invariant-loop decreases-loop
+mul-r c = omega (arith, c.loop2-test.true, c.before.loop2.invariant.2)
 
-loop2-holds : tie.Need-loop2-init invariant-loop2 decreases-loop2 invariant-loop3 decreases-loop3 invariant-loop decreases-loop
-loop2-holds c =
-    let u = c.unlink.ensures in
-    let m = (After-make-from-After-unlink c).make.ensures.marked in (
-      partly_begin _ (Joined1-from-After-unlink c).if1.edits _
-          (ap length (noted-is ((Joined1-from-After-unlink c))) ∙ noted-length (After-make-from-After-unlink c).make.result (At-loop-from-After-unlink c).loop.edits
-          (At-loop-from-After-unlink c).loop.inv.0.full),
-      u,
-      m,
-      omega (arith, u, m),
-    )
+array-copy-out-r : tie.Need-array-copy-out-r invariant-loop2 decreases-loop2 invariant-loop decreases-loop
+array-copy-out-r c = omega (arith, c.loop2-test.true, c.before.loop2.invariant.2, c.before.loop2.invariant.0.size)
 
-sub-own : tie.Need-overflow-sub-own invariant-loop2 decreases-loop2 invariant-loop3 decreases-loop3 invariant-loop decreases-loop
-sub-own c = c.loop2-test.true
-
-mul-r : tie.Need-overflow-mul-r invariant-loop2 decreases-loop2 invariant-loop3 decreases-loop3 invariant-loop decreases-loop
-mul-r c = omega (arith, c.loop2-test.true, c.before.loop2.invariant.1, c.before.loop2.invariant.2)
-
-array-copy-out-r : tie.Need-array-copy-out-r invariant-loop2 decreases-loop2 invariant-loop3 decreases-loop3 invariant-loop decreases-loop
-array-copy-out-r c = omega (arith, c.loop2-test.true, c.before.loop2.invariant.1, c.before.loop2.invariant.2, c.before.loop2.invariant.0.size)
-
-satisfies-requires : tie.Need-satisfies-requires invariant-loop2 decreases-loop2 invariant-loop3 decreases-loop3 invariant-loop decreases-loop
+satisfies-requires : tie.Need-satisfies-requires invariant-loop2 decreases-loop2 invariant-loop decreases-loop
 satisfies-requires c κs = search rules
 
-add-found : tie.Need-overflow-add-found invariant-loop2 decreases-loop2 invariant-loop3 decreases-loop3 invariant-loop decreases-loop
-add-found c =
-    let b = bit_most (test_of (UnsentOf (After-number-from-After-satisfies c).number.result) (kept_at 0 (get_or (At-loop2-from-After-satisfies c).loop2.edits ((At-loop2-from-After-satisfies c).loop2.p - 1) no_record))) in
-    omega (arith, c.before.before.loop2-test.true, (At-loop2-from-After-satisfies c).loop2.inv.3, c.satisfies.ensures, b)
-
-sent-record-requires : tie.Need-sent-record-requires invariant-loop2 decreases-loop2 invariant-loop3 decreases-loop3 invariant-loop decreases-loop
+sent-record-requires : tie.Need-sent-record-requires invariant-loop2 decreases-loop2 invariant-loop decreases-loop
 sent-record-requires c κs = search rules
 
-mul-edits-2 : tie.Need-overflow-mul-edits-2 invariant-loop2 decreases-loop2 invariant-loop3 decreases-loop3 invariant-loop decreases-loop
-mul-edits-2 c = omega (arith, (In-loop2-from-After-sent-record c).loop2-test.taken, (At-loop2-from-After-sent-record c).loop2.inv.1, (At-loop2-from-After-sent-record c).loop2.inv.2)
+mul-edits-2 : tie.Need-overflow-mul-edits-2 invariant-loop2 decreases-loop2 invariant-loop decreases-loop
+mul-edits-2 c =
+    omega (arith, (In-loop2-from-After-sent-record c).loop2-test.taken, (At-loop2-from-After-sent-record c).loop2.inv.2)
 
-array-set-from-edits-2 : tie.Need-array-set-from-edits-2 invariant-loop2 decreases-loop2 invariant-loop3 decreases-loop3 invariant-loop decreases-loop
-array-set-from-edits-2 c = omega (arith, (In-loop2-from-After-sent-record c).loop2-test.taken, (At-loop2-from-After-sent-record c).loop2.inv.1, (At-loop2-from-After-sent-record c).loop2.inv.2, (At-loop2-from-After-sent-record c).loop2.inv.0.size)
+array-set-from-edits-2 : tie.Need-array-set-from-edits-2 invariant-loop2 decreases-loop2 invariant-loop decreases-loop
+array-set-from-edits-2 c =
+    omega (arith, (In-loop2-from-After-sent-record c).loop2-test.taken, (At-loop2-from-After-sent-record c).loop2.inv.2, (At-loop2-from-After-sent-record c).loop2.inv.0.size)
 
-previous-requires : tie.Need-previous-requires invariant-loop2 decreases-loop2 invariant-loop3 decreases-loop3 invariant-loop decreases-loop
-previous-requires c κs = omega (arith, (In-loop2-from-After-chain2 c).loop2-test.taken, (At-loop2-from-After-chain2 c).loop2.inv.1, (At-loop2-from-After-chain2 c).loop2.inv.2)
-
-loop2-less : tie.Need-loop2-smaller invariant-loop2 decreases-loop2 invariant-loop3 decreases-loop3 invariant-loop decreases-loop
-loop2-less c = omega (arith, (In-loop2-from-After-previous c).loop2-test.taken, c.previous.ensures)
-
-loop2-again : tie.Need-loop2-preserved invariant-loop2 decreases-loop2 invariant-loop3 decreases-loop3 invariant-loop decreases-loop
-loop2-again c =
-    let l = (In-loop2-from-After-previous c).loop2-test.taken in
-    let k = (At-loop2-from-After-previous c).loop2.inv in
-    let e = c.previous.ensures in
-    let b = bit_most (test_of (UnsentOf (After-number-from-After-previous c).number.result) (kept_at 0 (get_or (At-loop2-from-After-previous c).loop2.edits ((At-loop2-from-After-previous c).loop2.p - 1) no_record))) in
-    let n = (After-satisfies-from-After-previous c).satisfies.ensures in (
-      partly_next k.0 ((At-loop2-from-After-previous c).loop2.p - 1) c.before.before.sent-record.result (After-satisfies-from-After-previous c).satisfies.result (omega (arith, l, k.1)) k.2 c.before.before.sent-record.ensures n,
-      omega (arith, l, e, k.1),
-      k.2,
-      omega (arith, l, e, n, b, k.3),
-    )
-
-due-requires : tie.Need-due-requires invariant-loop2 decreases-loop2 invariant-loop3 decreases-loop3 invariant-loop decreases-loop
-due-requires c κs = search rules
-
-remaining-requires : tie.Need-remaining-requires invariant-loop2 decreases-loop2 invariant-loop3 decreases-loop3 invariant-loop decreases-loop
-remaining-requires c κs = search rules
-
-loop3-holds : tie.Need-loop3-init invariant-loop2 decreases-loop2 invariant-loop3 decreases-loop3 invariant-loop decreases-loop
-loop3-holds c =
-    let r = c.remaining.ensures.1 in
-    let m = (After-make-from-After-remaining c).make.ensures.marked in
-    (marked_begin _ (At-loop2-from-After-remaining c).loop2.edits (At-loop2-from-After-remaining c).loop2.inv.0.size, omega arith, omega (arith, r, m))
-
-mul-r-2 : tie.Need-overflow-mul-r-2 invariant-loop2 decreases-loop2 invariant-loop3 decreases-loop3 invariant-loop decreases-loop
-mul-r-2 c = omega (arith, c.loop3-test.true, c.before.loop3.invariant.2)
-
-array-copy-out-r-2 : tie.Need-array-copy-out-r-2 invariant-loop2 decreases-loop2 invariant-loop3 decreases-loop3 invariant-loop decreases-loop
-array-copy-out-r-2 c = omega (arith, c.loop3-test.true, c.before.loop3.invariant.2, c.before.loop3.invariant.0.size)
-
-satisfies-requires-2 : tie.Need-satisfies-requires-2 invariant-loop2 decreases-loop2 invariant-loop3 decreases-loop3 invariant-loop decreases-loop
-satisfies-requires-2 c κs = search rules
-
-sent-record-requires-2 : tie.Need-sent-record-requires-2 invariant-loop2 decreases-loop2 invariant-loop3 decreases-loop3 invariant-loop decreases-loop
-sent-record-requires-2 c κs = search rules
-
-mul-edits-3 : tie.Need-overflow-mul-edits-3 invariant-loop2 decreases-loop2 invariant-loop3 decreases-loop3 invariant-loop decreases-loop
-mul-edits-3 c =
-    omega (arith, (In-loop3-from-After-sent-record2 c).loop3-test.taken, (At-loop3-from-After-sent-record2 c).loop3.inv.2)
-
-array-set-from-edits-3 : tie.Need-array-set-from-edits-3 invariant-loop2 decreases-loop2 invariant-loop3 decreases-loop3 invariant-loop decreases-loop
-array-set-from-edits-3 c =
-    omega (arith, (In-loop3-from-After-sent-record2 c).loop3-test.taken, (At-loop3-from-After-sent-record2 c).loop3.inv.2, (At-loop3-from-After-sent-record2 c).loop3.inv.0.size)
-
-add-j : tie.Need-overflow-add-j invariant-loop2 decreases-loop2 invariant-loop3 decreases-loop3 invariant-loop decreases-loop
+add-j : tie.Need-overflow-add-j invariant-loop2 decreases-loop2 invariant-loop decreases-loop
 add-j c =
-    omega (arith, (In-loop3-from-Joined2 c).loop3-test.taken, (At-loop3-from-Joined2 c).loop3.inv.2)
+    omega (arith, (In-loop2-from-Joined2 c).loop2-test.taken, (At-loop2-from-Joined2 c).loop2.inv.2)
 
-loop3-less : tie.Need-loop3-smaller invariant-loop2 decreases-loop2 invariant-loop3 decreases-loop3 invariant-loop decreases-loop
-loop3-less c = omega (arith, (In-loop3-from-Joined2 c).loop3-test.taken)
+loop2-less : tie.Need-loop2-smaller invariant-loop2 decreases-loop2 invariant-loop decreases-loop
+loop2-less c = omega (arith, (In-loop2-from-Joined2 c).loop2-test.taken)
 
-loop3-again : tie.Need-loop3-preserved invariant-loop2 decreases-loop2 invariant-loop3 decreases-loop3 invariant-loop decreases-loop
-loop3-again c =
-    let l = (In-loop3-from-Joined2 c).loop3-test.taken in
-    let k = (At-loop3-from-Joined2 c).loop3.inv in
-    let m : (At-loop3-from-Joined2 c).loop3.j < 256 = omega (arith, l, k.2) in (
+loop2-again : tie.Need-loop2-preserved invariant-loop2 decreases-loop2 invariant-loop decreases-loop
+loop2-again c =
+    let l = (In-loop2-from-Joined2 c).loop2-test.taken in
+    let k = (At-loop2-from-Joined2 c).loop2.inv in
+    let m : (At-loop2-from-Joined2 c).loop2.j < 256 = omega (arith, l, k.2) in (
       on c.if2.branch
-          (λ w. subst (λ es. Marked (After-number-from-Joined2 c).number.result (At-loop2-from-Joined2 c).loop2.edits es ((At-loop3-from-Joined2 c).loop3.j + 1)) (sym w.2)
-          (marked_next (After-number-from-Joined2 c).number.result (At-loop2-from-Joined2 c).loop2.edits (At-loop3-from-Joined2 c).loop3.edits (At-loop3-from-Joined2 c).loop3.j
+          (λ w. subst (λ es. Marked (After-number-from-Joined2 c).number.result (Joined1-from-Joined2 c).if1.edits es ((At-loop2-from-Joined2 c).loop2.j + 1)) (sym w.2)
+          (marked_next (After-number-from-Joined2 c).number.result (Joined1-from-Joined2 c).if1.edits (At-loop2-from-Joined2 c).loop2.edits (At-loop2-from-Joined2 c).loop2.j
           w.1.result m k.0 w.1.ensures))
-          (λ w. subst (λ es. Marked (After-number-from-Joined2 c).number.result (At-loop2-from-Joined2 c).loop2.edits es ((At-loop3-from-Joined2 c).loop3.j + 1)) (sym w.1)
-          (marked_passed (After-number-from-Joined2 c).number.result (At-loop2-from-Joined2 c).loop2.edits (At-loop3-from-Joined2 c).loop3.edits (At-loop3-from-Joined2 c).loop3.j m
-          k.0 (mark_sent-other (After-number-from-Joined2 c).number.result (get_or (At-loop3-from-Joined2 c).loop3.edits (At-loop3-from-Joined2 c).loop3.j no_record)
-          (sym c.before.satisfies2.ensures ∙ w.0.left)))),
+          (λ w. subst (λ es. Marked (After-number-from-Joined2 c).number.result (Joined1-from-Joined2 c).if1.edits es ((At-loop2-from-Joined2 c).loop2.j + 1)) (sym w.1)
+          (marked_passed (After-number-from-Joined2 c).number.result (Joined1-from-Joined2 c).if1.edits (At-loop2-from-Joined2 c).loop2.edits (At-loop2-from-Joined2 c).loop2.j m
+          k.0 (mark_sent-other (After-number-from-Joined2 c).number.result (get_or (At-loop2-from-Joined2 c).loop2.edits (At-loop2-from-Joined2 c).loop2.j no_record)
+          (sym c.before.satisfies.ensures ∙ w.0.left)))),
       omega (arith, l),
       k.2,
     )
 
-sub-tell : tie.Need-overflow-sub-tell invariant-loop2 decreases-loop2 invariant-loop3 decreases-loop3 invariant-loop decreases-loop
+sub-tell : tie.Need-overflow-sub-tell invariant-loop2 decreases-loop2 invariant-loop decreases-loop
 sub-tell c = le_same (At-loop-from-After-tell-arg c).loop.inv.0.most (At-loop-from-After-tell-arg c).loop.inv.0.same
 
-part-tell-start : tie.Need-slice-bounds-tell-start invariant-loop2 decreases-loop2 invariant-loop3 decreases-loop3 invariant-loop decreases-loop
+part-tell-start : tie.Need-slice-bounds-tell-start invariant-loop2 decreases-loop2 invariant-loop decreases-loop
 part-tell-start c = le_same (At-loop-from-After-tell-arg c).loop.inv.0.most (At-loop-from-After-tell-arg c).loop.inv.0.same
 
-part-tell-end : tie.Need-slice-bounds-tell-end invariant-loop2 decreases-loop2 invariant-loop3 decreases-loop3 invariant-loop decreases-loop
+part-tell-end : tie.Need-slice-bounds-tell-end invariant-loop2 decreases-loop2 invariant-loop decreases-loop
 part-tell-end c = le-self _
 
-tell-requires : tie.Need-tell-requires invariant-loop2 decreases-loop2 invariant-loop3 decreases-loop3 invariant-loop decreases-loop
+tell-requires : tie.Need-tell-requires invariant-loop2 decreases-loop2 invariant-loop decreases-loop
 tell-requires c κs = ((After-make-from-After-tell-arg2 c).make.ensures.from, (After-make-from-After-tell-arg2 c).make.ensures.width)
 
-ends-requires : tie.Need-ends-requires invariant-loop2 decreases-loop2 invariant-loop3 decreases-loop3 invariant-loop decreases-loop
+ends-requires : tie.Need-ends-requires invariant-loop2 decreases-loop2 invariant-loop decreases-loop
 ends-requires c κs = search rules
 
-add_at : tie.Need-overflow-add-at invariant-loop2 decreases-loop2 invariant-loop3 decreases-loop3 invariant-loop decreases-loop
+add_at : tie.Need-overflow-add-at invariant-loop2 decreases-loop2 invariant-loop decreases-loop
 add_at c = Fits-le (at_most ((After-tell-from-After-ends c))) (lent_fits ((After-slice-known-from-After-ends c)))
 
-add-i : tie.Need-overflow-add-i invariant-loop2 decreases-loop2 invariant-loop3 decreases-loop3 invariant-loop decreases-loop
+add-i : tie.Need-overflow-add-i invariant-loop2 decreases-loop2 invariant-loop decreases-loop
 add-i c =
     Fits-le (le-more _ 1) (end_fits ((After-read-line-from-After-struct-known c)))
 
-add-i-2 : tie.Need-overflow-add-i-2 invariant-loop2 decreases-loop2 invariant-loop3 decreases-loop3 invariant-loop decreases-loop
+add-i-2 : tie.Need-overflow-add-i-2 invariant-loop2 decreases-loop2 invariant-loop decreases-loop
 add-i-2 c =
     end_fits ((After-read-line-from-After-struct-known c))
 
-sub-last : tie.Need-overflow-sub-last invariant-loop2 decreases-loop2 invariant-loop3 decreases-loop3 invariant-loop decreases-loop
+sub-last : tie.Need-overflow-sub-last invariant-loop2 decreases-loop2 invariant-loop decreases-loop
 sub-last c = le_same (at_most ((After-tell-from-After-struct-known c))) (same-now ((After-tell-from-After-struct-known c)))
 
-last-requires-2 : tie.Need-last-requires-2 invariant-loop2 decreases-loop2 invariant-loop3 decreases-loop3 invariant-loop decreases-loop
+last-requires-2 : tie.Need-last-requires-2 invariant-loop2 decreases-loop2 invariant-loop decreases-loop
 last-requires-2 c κs = search rules
 
-loop-less : tie.Need-loop-smaller invariant-loop2 decreases-loop2 invariant-loop3 decreases-loop3 invariant-loop decreases-loop
+loop-less : tie.Need-loop-smaller invariant-loop2 decreases-loop2 invariant-loop decreases-loop
 loop-less c =
     nearer ((After-read-line-from-After-last2 c))
 
-loop-again : tie.Need-loop-preserved invariant-loop2 decreases-loop2 invariant-loop3 decreases-loop3 invariant-loop decreases-loop
+loop-again : tie.Need-loop-preserved invariant-loop2 decreases-loop2 invariant-loop decreases-loop
 loop-again c = (
   record {
-    full = (At-loop3-from-After-last2 c).loop3.inv.0.size;
+    full = (At-loop2-from-After-last2 c).loop2.inv.0.size;
     same = same-now ((After-tell-from-After-last2 c));
     most = at_most ((After-tell-from-After-last2 c));
     last = c.last2.ensures;
   },
   λ x.
-      let j = made ((After-loop3-from-After-last2 c)) x in
+      let j = made ((After-loop2-from-After-last2 c)) x in
       record {
         indexed = λ e. j.indexed (((At-loop-from-After-last2 c).loop.inv.1 x).indexed e);
         over = λ e. let y = ends_yes _ _ (sym c.before.before.ends.ensures ∙ e) in ending ((After-tell-from-After-last2 c)) x y.0 y.1;
         under = λ e. (
           sound_made {l = line_in (After-read-line-from-After-last2 c).read-line.result}
-              {p = spread (state-at ((At-loop-from-After-last2 c)))} {q = spread (state-next ((After-loop3-from-After-last2 c)))} {a = (After-make-from-After-last2 c).make.result.answer}
-              {vs = row (state-next ((After-loop3-from-After-last2 c))).values (After-make-from-After-last2 c).make.result.from (After-make-from-After-last2 c).make.result.width}
+              {p = spread (state-at ((At-loop-from-After-last2 c)))} {q = spread (state-next ((After-loop2-from-After-last2 c)))} {a = (After-make-from-After-last2 c).make.result.answer}
+              {vs = row (state-next ((After-loop2-from-After-last2 c))).values (After-make-from-After-last2 c).make.result.from (After-make-from-After-last2 c).make.result.width}
               (record { answer = j.answer; plan = j.plan }) (on_line ((In-loop-from-After-last2 c)) x).0,
           ends_no _ _ (sym c.before.before.ends.ensures ∙ e) (λ o z. skipping ((After-tell-from-After-last2 c)) x o z) (λ n. going_on ((After-tell-from-After-last2 c)) x n),
         );
       },
 )
 
-from-numbers-requires-2 : tie.Need-from-numbers-requires-2 invariant-loop2 decreases-loop2 invariant-loop3 decreases-loop3 invariant-loop decreases-loop
+from-numbers-requires-2 : tie.Need-from-numbers-requires-2 invariant-loop2 decreases-loop2 invariant-loop decreases-loop
 from-numbers-requires-2 c κs = search rules
 
-same_length : tie.Need-same-length invariant-loop2 decreases-loop2 invariant-loop3 decreases-loop3 invariant-loop decreases-loop
+same_length : tie.Need-same-length invariant-loop2 decreases-loop2 invariant-loop decreases-loop
 same_length c = (At-loop-from-After-from-numbers2 c).loop.inv.0.same
 
-returns : tie.Need-returns invariant-loop2 decreases-loop2 invariant-loop3 decreases-loop3 invariant-loop decreases-loop
+returns : tie.Need-returns invariant-loop2 decreases-loop2 invariant-loop decreases-loop
 returns c x =
     let a = (Start-from-After-from-numbers2 c).args in
     let w = a.way in
@@ -1023,12 +878,9 @@ advance-spec =
     (tie.spec
     invariant-loop2
     decreases-loop2
-    invariant-loop3
-    decreases-loop3
     invariant-loop
     decreases-loop
     numbers-requires
-    tags-requires
     tallies-requires
     last-requires
     loop-holds
@@ -1041,37 +893,25 @@ advance-spec =
     slot-requires
     mul-standing
     array-copy-out-standing
+    second-look-requires
+    slot-requires-2
+    mul-seen
+    array-copy-out-seen
     looking-requires
     make-requires
     mul-edits
     array-set-from-edits
-    link-requires
     number-requires
-    unlink-requires
     loop2-holds
-    sub-own
     mul-r
     array-copy-out-r
     satisfies-requires
-    add-found
     sent-record-requires
     mul-edits-2
     array-set-from-edits-2
-    previous-requires
+    add-j
     loop2-less
     loop2-again
-    due-requires
-    remaining-requires
-    loop3-holds
-    mul-r-2
-    array-copy-out-r-2
-    satisfies-requires-2
-    sent-record-requires-2
-    mul-edits-3
-    array-set-from-edits-3
-    add-j
-    loop3-less
-    loop3-again
     sub-tell
     part-tell-start
     part-tell-end
