@@ -1,5 +1,6 @@
 // Internal, for `run` and `plan`: the fourteen calls (01, "The calls"), each made on what the owner of a plan lends: numbers in place, kept edits as the
 // owner's part. There is one contract for all (specs/Makes): for all kept edits of which what was handed over is true, the answer and the plan are the protocol's.
+#![tactic(auto)]
 ghost use Rattle.std.specs.Prelude.{◌≡◌, Bool, true, false, not, cond, ◌&&◌, List, ℕ, min, eqb, ℤ};
 ghost use Rattle.calls.specs.declared.Look.{Look};
 ghost use Rattle.protocol.specs.Numbering.{edit_op, send_op, replay_op};
@@ -24,7 +25,7 @@ use state::Answer;
 
 // What a call leaves besides what it stored: its answer, where the values stand that it gives besides, the record that the owner is to store in a slot, if it is
 // kept, and among how many edits those of the side are to be marked as sent. Every line pays for what stands here.
-#[derive(Drop)]
+#[derive(Clone, Copy)]
 pub struct Effect {
     pub answer: Answer,
     pub from: usize,
@@ -36,7 +37,7 @@ pub struct Effect {
 }
 
 // The kept edits that a call looks at, each with its position from 1: the one that it names, and the one that this names in turn.
-#[derive(Drop)]
+#[derive(Clone, Copy)]
 pub struct Look {
     pub named: usize,
     pub standing: EditRecord,

@@ -1,11 +1,12 @@
 // A change as its kind number picks it, and what it makes of a value (01, "The plan").
+#![tactic(auto)]
 ghost use Rattle.std.specs.Prelude.{◌≡◌};
 ghost use Rattle.protocol.specs.Plan.{in_range, is_factor, applied};
 ghost use Rattle.change.specs.Change.{view_change, made_if, made_of, ranged_of};
 
 use protocol::limit;
 
-#[derive(Drop)]
+#[derive(Clone, Copy)]
 pub enum Change {
     Set(i32),
     Add(i32),
@@ -13,13 +14,13 @@ pub enum Change {
     Divide(i32),
 }
 
-#[derive(Drop)]
+#[derive(Clone, Copy)]
 pub enum Made {
     Made(Change),
     Refused,
 }
 
-#[derive(Drop)]
+#[derive(Clone, Copy)]
 pub enum Applied {
     InRange(i32),
     OutOfRange,

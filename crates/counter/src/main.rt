@@ -4,6 +4,7 @@
 // A sheet that cannot be read to its end is not run, and after a failed write nothing more is written. Either is said on standard error.
 // There is no exit status: whoever starts the program with the argument `report` is told by a last line on standard error that the sheet
 // was read and every answer written. That line missing, for whatever reason, means that they were not.
+#![tactic(auto)]
 ghost use Rattle.std.specs.Prelude.{ℕ, ◌≡◌};
 ghost use Rattle.io.specs.Counts.{IsPrefixLen};
 
@@ -15,7 +16,7 @@ use libc::{STDERR_FILENO, STDIN_FILENO, STDOUT_FILENO};
 const TURNS: u64 = u64::MAX;
 
 // The sheet as far as it is wanted, or an error on the way, after which nobody knows how the sheet goes on.
-#[derive(Drop)]
+#[derive(Clone, Copy)]
 enum Reading {
     All(usize),
     Failed,

@@ -1,4 +1,5 @@
 // What measure, rule and open decide (01, "The calls"): their checks, read only, and what they store, in place. On what is lent.
+#![tactic(auto)]
 ghost use Rattle.std.specs.Prelude.{eqb, not, cond, ◌&&◌, min, ◌≡◌};
 ghost use Rattle.draw.specs.Draw.{measure_checks, rule_checks, open_checks, measured, ruled, opened, refused_drawing, measure_decision, rule_decision, open_decision, draw_decision, Drawn};
 ghost use Rattle.protocol.specs.Calls.{first, no15};
@@ -18,7 +19,7 @@ use rules::Table;
 use state::Answer;
 
 // What a call that draws stores: the head, and the value at the place behind those that count; and its answer. A rule is stored from the call's own numbers.
-#[derive(Drop)]
+#[derive(Clone, Copy)]
 pub struct Drawing {
     pub head: Head,
     pub value: i32,

@@ -1,4 +1,5 @@
 // What an edit decides (01, "The calls"): its checks, and what there is to store after them. Read only, on what is lent.
+#![tactic(auto)]
 ghost use Rattle.std.specs.Prelude.{min, ◌<◌, ◌≤◌, leb, ◌&&◌, ◌||◌, ◌≡◌};
 ghost use Rattle.edit.specs.Edits.{change_ruling, ruling_from, edit_head, edit_record, spot_of};
 ghost use Rattle.heads.specs.Heads.{mode_of, measures_in};
@@ -18,7 +19,7 @@ use records::{EditRecord, Fate};
 use rules::{Index, Table};
 
 // What the checks of an edit find: a refusal; the number of a broken rule, for which it is refused with 29; or its change and the measure's new value.
-#[derive(Drop)]
+#[derive(Clone, Copy)]
 pub enum Ruling {
     Refused(u32),
     Broken(u32),

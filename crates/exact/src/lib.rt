@@ -1,4 +1,6 @@
 // Arithmetic on i32 that cannot overflow: the results are held by an i64. And a call's number as that of a side, measure, kind or edit.
+#![tactic(auto)]
+
 ghost use Rattle.std.specs.Prelude.{◌≡◌, negsuc, ◌+ℤ◌, ◌*ℤ◌};
 ghost use Rattle.std.specs.Int.Signed.{quot_z};
 ghost use Rattle.protocol.specs.Lists.{natural, is_zero};
@@ -46,6 +48,7 @@ pub fn is_nought(z: i32) -> bool
 }
 
 // The value is in a measure's range.
+#[tactic(auto, unfolding(protocol::specs::Lists::within))]
 pub fn in_range(v: i32) -> bool
     ensures { result ≡ in_range v }
 {

@@ -1,1 +1,2 @@
 // What a saved plan is: its bytes, saving and loading (specs/); no code.
+#![tactic(auto)]

@@ -1,1 +1,2 @@
 // Theorems only: what every list of calls guarantees (specs/), and why (proofs/).
+#![tactic(auto)]

@@ -1,4 +1,5 @@
 // The mode and the counts of a plan, and where its sides and its kept edits stand.
+#![tactic(auto)]
 ghost use Rattle.std.specs.Prelude.{◌≡◌, not, ◌≤◌, ◌<◌};
 ghost use Rattle.protocol.specs.Lists.{bit};
 ghost use Rattle.protocol.specs.Plan.{mode_number, active};
@@ -8,7 +9,7 @@ ghost use Rattle.heads.specs.Heads.{mode_of, in_mode, sides_in, offset_of, index
 use protocol::limit;
 
 // 01's modes.
-#[derive(Drop)]
+#[derive(Clone, Copy)]
 pub enum Mode {
     Blank,
     Whole,
@@ -19,7 +20,7 @@ pub enum Mode {
 
 // The mode and the counts. A blank or whole plan has one side, another as many more as were added. The kept edits' numbers
 // end below next while the plan is split, joining or closing, and below mark else.
-#[derive(Drop)]
+#[derive(Clone, Copy)]
 pub struct Head {
     pub mode: Mode,
     pub measures: u32,

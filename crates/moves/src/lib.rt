@@ -1,5 +1,6 @@
 // Internal, for `calls`: the calls that part a plan and join it again (01, "The calls"): split, join, send, stop, confirm, install. Each stores into arrays
 // that it is lent.
+#![tactic(auto)]
 ghost use Rattle.std.specs.Prelude.{◌≤◌, ℕ, T, ℤ, length, set, Bool, List, ◌≡◌};
 ghost use Rattle.heads.specs.Heads.{mode_of};
 ghost use Rattle.moves.specs.Frames.{told_as, denied_as, frame_from, moved_to, Anything, Moves, Waiting, Unsent};
@@ -19,7 +20,7 @@ use records::{EditRecord, Fate, Test};
 use state::Answer;
 
 // What a call leaves besides what it stored: the head, and its answer.
-#[derive(Drop)]
+#[derive(Clone, Copy)]
 pub struct Told {
     pub head: Head,
     pub answer: Answer,
@@ -259,7 +260,7 @@ fn install_refusal(h: Head, missing: u32, waiting: u32) -> u32
 }
 
 // What send stores besides: of how many kept edits those of its side are marked, the side's flag, and its answer.
-#[derive(Drop)]
+#[derive(Clone, Copy)]
 pub struct Sending {
     pub marked: usize,
     pub arrived: bool,

@@ -1,4 +1,5 @@
 // The calls that only read (01, "The calls"): show, fate, left; and the counts of the kept edits.
+#![tactic(auto)]
 ghost use Rattle.std.specs.Prelude.{◌≤◌, min, ◌+◌, ◌-◌, ltb, length, drop, not, ◌||◌, ◌++◌, ◌≡◌};
 ghost use Rattle.counts.specs.Tallies.{settled_in, left_noted, missing_in, Counted, tally_count};
 ghost use Rattle.heads.specs.Heads.{mode_of, sides_in, kept_in, unset_in};
@@ -158,7 +159,7 @@ pub fn show<'a>(p: State, s: i32, buffer: &'a mut [i32], refusal: &mut u32) -> &
 }
 
 // An answer, and where the values stand that it gives besides: none but for a show that is accepted.
-#[derive(Drop)]
+#[derive(Clone, Copy)]
 pub struct Reading {
     pub answer: Answer,
     pub from: usize,

@@ -1,5 +1,6 @@
 // Reads the first line of a sheet's rest (01, "The sheet program"): a call's name and its numbers, with one space between. One pass: the line feed is
 // met where a word ends.
+#![tactic(auto)]
 ghost use Rattle.std.specs.Prelude.{◌≡◌, false, ◌+◌, ◌*◌, ◌<◌, ◌≤◌, min, length, drop, take, get_or};
 ghost use Rattle.std.proofs.Math.Option.{none};
 ghost use Rattle.protocol.specs.Lists.{bit};
@@ -11,35 +12,35 @@ ghost use Rattle.reader.specs.Reads.{word_at, number_at, magnitude_at, followed,
 use protocol::call;
 
 // A number with the place behind it, or a word that is none.
-#[derive(Drop)]
+#[derive(Clone, Copy)]
 pub enum Number {
     Value(i32, usize),
     Unreadable,
 }
 
 // A number's digits without its sign, the first not 0.
-#[derive(Drop)]
+#[derive(Clone, Copy)]
 enum Magnitude {
     Of(u32, usize),
     Nothing,
 }
 
 // Where a number's digits begin, and the byte there.
-#[derive(Drop)]
+#[derive(Clone, Copy)]
 struct Start {
     at: usize,
     byte: u8,
 }
 
 // Which of the fourteen calls, from 1 (0: none), and how many numbers it takes.
-#[derive(Drop)]
+#[derive(Clone, Copy)]
 struct Call {
     op: u32,
     count: usize,
 }
 
 // A line's call, and where its name ends, if it has one.
-#[derive(Drop)]
+#[derive(Clone, Copy)]
 struct Name {
     op: u32,
     count: usize,
@@ -48,7 +49,7 @@ struct Name {
 
 // A call and its numbers, and the line's length. op is 0 for a line that cannot be read, else the call's place in document 01's list, from 1.
 // Numbers that the call does not take are 0.
-#[derive(Drop)]
+#[derive(Clone, Copy)]
 pub struct Line {
     pub op: u32,
     pub a: i32,

@@ -1,4 +1,5 @@
 // Kept edits: their records, fates and tests.
+#![tactic(auto)]
 ghost use Rattle.std.specs.Prelude.{◌≡◌, ◌≤◌};
 ghost use Rattle.protocol.specs.Lists.{bit, count};
 ghost use Rattle.protocol.specs.Plan.{fate_number};
@@ -9,7 +10,7 @@ use heads::Head;
 use protocol::limit;
 
 // 01's fates.
-#[derive(Drop)]
+#[derive(Clone, Copy)]
 pub enum Fate {
     Unsent,
     Waiting,
@@ -19,7 +20,7 @@ pub enum Fate {
 
 // A kept edit: its change and its fate side by side. Its number is not stored: the kept edits have consecutive numbers. Side and measure are bytes beside the
 // fate, so that a record takes 24 bytes with no gap: a run sets up 256 of them.
-#[derive(Drop)]
+#[derive(Clone, Copy)]
 pub struct EditRecord {
     pub change: Change,
     pub fate: Fate,
@@ -32,7 +33,7 @@ pub struct EditRecord {
 }
 
 // A test of a kept edit.
-#[derive(Drop)]
+#[derive(Clone, Copy)]
 pub enum Test {
     UnsentOf(u32),
     Waiting,

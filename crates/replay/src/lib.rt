@@ -1,4 +1,5 @@
 // What a replay decides (01, "The calls"): its checks, its outcome, and the record that it settles. Read only, on what is lent.
+#![tactic(auto)]
 ghost use Rattle.std.specs.Prelude.{min, ◌<◌, ◌≤◌, ◌≡◌, cond, pos, get_or};
 ghost use Rattle.protocol.specs.Plan.{fate_is};
 ghost use Rattle.records.specs.Records.{fate_of, kept_at, record_of};
@@ -15,7 +16,7 @@ use rules::{Index, Table};
 
 // What the checks of a replay find: a refusal, or whether the edit is accepted, the value that the draft then has at its place, and the number of the rule that
 // it breaks: 0 if it breaks none or was not tested.
-#[derive(Drop)]
+#[derive(Clone, Copy)]
 pub enum Outcome {
     Refused(u32),
     Settled(bool, i32, u32),

@@ -1,4 +1,6 @@
 // Counts, places and rows of values in arrays: capped, told to be of a range, copied.
+#![tactic(auto)]
+
 ghost use Rattle.std.specs.Prelude.{◌≡◌, ◌-◌, min};
 ghost use Rattle.protocol.specs.Lists.{one_to};
 ghost use Rattle.rows.specs.Rows.{copied_in};

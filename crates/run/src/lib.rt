@@ -1,5 +1,6 @@
 // Internal, for `sheet`: the run over a sheet (01, "The sheet program"). Each line is read, made on the plan and answered. The loop is lent a plan's rows, flags and
 // rules, which it lends to the call, and has head and kept edits by value.
+#![tactic(auto)]
 ghost use Rattle.std.specs.Prelude.{◌≡◌, ◌≤◌};
 ghost use Rattle.protocol.specs.Plan.{measure_limit};
 ghost use Rattle.rows.specs.Rows.{row};
@@ -17,7 +18,7 @@ use state::Answer;
 
 // How a run goes: from which place of the sheet on, how many bytes are to be free before a line is begun, whether it goes on where an answer does not fit, and whether
 // every rule is known to hold.
-#[derive(Drop)]
+#[derive(Clone, Copy)]
 pub struct Way {
     pub from: usize,
     pub reserve: usize,

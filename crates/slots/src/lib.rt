@@ -1,4 +1,5 @@
 // The slots of a file as four words each (02, S-1): reading and writing them, their sum, and the mark byte by masks and shifts.
+#![tactic(auto)]
 ghost use Rattle.std.specs.Prelude.{◌≡◌, ◌+◌, ◌*◌, ◌/◌, ◌%◌, ◌<◌, ◌≤◌, length, take};
 ghost use Rattle.std.proofs.lemmas.List.Edits.{sets};
 ghost use Rattle.file.specs.Bytes.{word_size, byte_at, two_at, four_at, four_bytes, signed, complement, kind_bits, firm_bit, high_bits, mark, total};
@@ -18,7 +19,7 @@ pub const MEASURE: u8 = 1;
 pub const RULE: u8 = 2;
 
 // A slot as four words, little-endian.
-#[derive(Drop)]
+#[derive(Clone, Copy)]
 pub struct Slot {
     pub first: u32,
     pub second: u32,

@@ -3,6 +3,7 @@
 // refused for a broken rule, and a replay that revokes for one, a line has the rule. A `*` with a call behind it is no call, but has a
 // number for the next line: how often its call is made, of which the last is answered, or how long the buffer is that is lent to show.
 // Any other line is a title, and takes a blank plan.
+#![tactic(auto)]
 ghost use Rattle.std.specs.Prelude.{◌+◌, ◌-◌, ◌*◌, ◌<◌, ◌≤◌, length};
 
 use edit::Ruling;
