@@ -1,5 +1,6 @@
 // A change as its kind number picks it, and what it makes of a value (01, "The plan").
 #![tactic(auto)]
+
 ghost use Rattle.std.specs.Prelude.{◌≡◌};
 ghost use Rattle.protocol.specs.Plan.{in_range, is_factor, applied};
 ghost use Rattle.change.specs.Change.{view_change, made_if, made_of, ranged_of};
@@ -27,6 +28,7 @@ pub enum Applied {
 }
 
 // Whether a set or an add takes a constant.
+#[tactic(auto, unfolding(protocol::specs::Lists::within))]
 fn is_value(k: i32) -> bool
     ensures { result ≡ in_range k }
 {
@@ -37,6 +39,7 @@ fn is_value(k: i32) -> bool
 }
 
 // Whether a multiply or a divide takes a constant.
+#[tactic(auto, unfolding(protocol::specs::Lists::within, protocol::specs::Plan::is_factor))]
 fn is_factor(k: i32) -> bool
     ensures { result ≡ is_factor k }
 {
@@ -56,6 +59,7 @@ fn made_if(allowed: bool, change: Change) -> Made
 }
 
 // The change of a kind number and a constant. Every other number, and a constant that the kind does not take, is refused as 24.
+#[tactic(auto, unfolding(crate::specs::Change::made_of))]
 pub fn make(kind: u32, constant: i32) -> Made
     ensures { result ≡ made_of kind constant }
 {
@@ -68,6 +72,7 @@ pub fn make(kind: u32, constant: i32) -> Made
     }
 }
 
+#[tactic(auto, unfolding(crate::specs::Change::ranged_of, protocol::specs::Lists::within))]
 fn ranged(x: i64) -> Applied
     ensures { result ≡ ranged_of x }
 {
@@ -78,6 +83,7 @@ fn ranged(x: i64) -> Applied
 }
 
 // The value that a change makes of a value, if it is in a measure's range.
+#[tactic(auto, unfolding(protocol::specs::Plan::applied))]
 pub fn apply(change: Change, x: i32) -> Applied
     ensures { result ≡ ranged_of (applied (view_change change) x) }
 {

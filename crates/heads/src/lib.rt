@@ -1,5 +1,6 @@
 // The mode and the counts of a plan, and where its sides and its kept edits stand.
 #![tactic(auto)]
+
 ghost use Rattle.std.specs.Prelude.{◌≡◌, not, ◌≤◌, ◌<◌};
 ghost use Rattle.protocol.specs.Lists.{bit};
 ghost use Rattle.protocol.specs.Plan.{mode_number, active};
