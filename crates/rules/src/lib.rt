@@ -1,6 +1,7 @@
 // The rules of a plan as one table of numbers, an index from each measure to the rules that name it, and their test on a row of values.
 // Everything is lent.
 #![tactic(auto)]
+
 ghost use Rattle.std.specs.Prelude.{◌≡◌, true, false, cond, ◌&&◌, ◌+◌, ◌-◌, ◌<◌, ◌≤◌, min, pos, ◌+ℤ◌, eqb, length, get_or, take};
 ghost use Rattle.std.specs.Int.Signed.{lt_z};
 ghost use Rattle.protocol.specs.Lists.{count, bit as bit_of};

@@ -3,7 +3,6 @@ use Prim.Native.Nat.{suc, ◌-◌, ◌+◌}
 use mathlib.Core.Path.{◌≡◌}
 use borrow.Author.Tests.{eq-eqb, ne_eqb, lt-ltb, le-ltb, le-leb, lt-leb}
 use Rattle.heads.specs.Heads.{end_in, kept_in, position_of}
-use borrow.Author.Rules.{rules}
 use Rattle.heads.proofs.position.Goals as goal
 
 pub returns-then-e-k : goal.returns-then-e-k

@@ -1,11 +1,5 @@
-use Rattle.heads.proofs.Flags.{unset_next}
-use borrow.Author.Rules.{rules}
-use native.Mathlib.Omega.{arith}
 use Prim.Native.Nat.{◌≤◌, ◌-◌}
-use mathlib.Core.Bool.{false, not}
-use mathlib.Core.Path.{◌≡◌, refl, ap, ◌∙◌}
-use lib.ListN.{get_or}
-use Rattle.protocol.proofs.Laws.{bit_most}
+use mathlib.Core.Path.{◌≡◌}
 use Rattle.heads.specs.Heads.{unset_in}
 use Rattle.heads.proofs.unset.Given as goal
 

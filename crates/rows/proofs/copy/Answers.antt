@@ -1,12 +1,9 @@
-use borrow.Author.Rules.{rules}
 use native.Mathlib.Omega.{arith}
-use mathlib.Core.Path.{◌≡◌, refl, ap, ◌∙◌}
-use lib.ListN.{length}
+use mathlib.Core.Path.{refl}
 use mir.Facts.{to_z-of_z}
 use Rattle.exact.proofs.Ints.{fits32}
 use Rattle.rows.specs.Rows.{copied}
-use Rattle.rows.proofs.Copies.{copied_next, length-copied}
-use Prim.Native.Nat.{◌-◌, ◌≤◌, min}
+use Rattle.rows.proofs.Copies.{copied_next}
 use Rattle.rows.specs.Rows.{copied}
 use Rattle.rows.proofs.copy.Goals as goal
 

@@ -1,12 +1,6 @@
-use borrow.Author.Rules.{rules}
-use native.Mathlib.Omega.{arith}
-use mathlib.Core.Path.{◌≡◌, refl, ap, ◌∙◌}
-use lib.ListN.{length}
-use mir.Facts.{to_z-of_z}
-use Rattle.exact.proofs.Ints.{fits32}
+use mathlib.Core.Path.{◌≡◌}
 use Rattle.rows.specs.Rows.{copied}
-use Rattle.rows.proofs.Copies.{copied_next, length-copied}
-use Prim.Native.Nat.{◌-◌, ◌≤◌, min}
+use Prim.Native.Nat.{◌-◌, ◌≤◌}
 use Rattle.rows.specs.Rows.{copied}
 use Rattle.rows.proofs.copy.Given as goal
 

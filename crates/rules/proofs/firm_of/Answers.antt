@@ -1,0 +1,15 @@
+use Prim.Native.Nat.{◌+◌, ◌*◌}
+use lib.IntN.{pos}
+use lib.ListN.{get_or}
+use mathlib.Core.Path.{sym, ap, ◌∙◌}
+use lib.Dec.{eqb}
+use mir.Facts.{to_z-of_z}
+use Rattle.exact.proofs.Ints.{fits32}
+use Rattle.protocol.specs.Lists.{natural}
+use Rattle.rules.proofs.Table.{at_firm}
+use Rattle.rules.proofs.firm_of.Goals as goal
+
+pub returns : goal.returns
+returns c = let s = c.before.before in
+    ap (λ n. eqb n 1) (c.number.ensures ∙ ap natural (to_z-of_z (fits32 (get_or s.args.table.now (4 * s.args.i + 3) (pos 0)) c.number-arg-1.given)))
+    ∙ sym (at_firm s.args.table.now s.args.i s.requires)

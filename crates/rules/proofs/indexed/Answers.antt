@@ -1,0 +1,43 @@
+use Prim.Native.Nat.{◌<◌, ◌≤◌}
+use native.Mathlib.Omega.{arith}
+use mathlib.Core.Path.{refl, sym, ap, subst, ◌∙◌}
+use lib.IntN.{pos}
+use lib.ListN.{replicate}
+use mir.Facts.{to_z-of_z}
+use Rattle.exact.proofs.Ints.{fits32}
+use Rattle.rows.proofs.Spans.{get_or-blank}
+use Rattle.rules.specs.Table.{lowers, gaps, uppers, firms}
+use Rattle.rules.specs.Rules.{firm_in}
+use Rattle.rules.specs.Index.{Indexed}
+use Rattle.rules.proofs.Making.{indexing_begin, indexing_over, indexing_room, indexing_few, indexing_next, indexed-marked, marked}
+use Rattle.rules.proofs.indexed.Goals as goal
+
+pub loop-m-init : goal.loop-m-init
+loop-m-init c = indexing_begin _ _ _ _ _ (replicate 512 (pos 0)) refl (λ j. get_or-blank 512 j (pos 0))
+
+pub add_namings-n-requires : goal.add_namings-n-requires
+add_namings-n-requires c = (c.loop-m.invariant.long, omega arith, c.highest-top.ensures, indexing_room _ _ _ _ _ _ _ _ c.loop-m.invariant (omega arith) (omega arith))
+
+pub overflow_cast-index : goal.overflow_cast-index
+overflow_cast-index c = fits32 _ (let f = indexing_few _ _ _ _ _ _ _ _ c.loop-m.invariant (omega arith) (omega arith) _ _ c.add_namings-n.ensures in omega arith)
+
+pub loop-m-preserved : goal.loop-m-preserved
+loop-m-preserved c = let a = c.args in
+    let next = c.add_namings-n.result in
+    let b = c.bit in
+    let size : c.capped-rules.result ≤ 64 = omega arith in
+    let h : c.loop-m.m < 33 = omega arith in
+    let few = indexing_few _ _ _ _ _ _ _ _ c.loop-m.invariant size h _ _ c.add_namings-n.ensures in
+    rw (to_z-of_z (fits32 (pos next) (omega arith)), to_z-of_z (fits32 b.result b.type_inv) ∙ b.ensures)
+    (indexing_next _ _ _ _ _ _ _ _ c.loop-m.invariant size h _ _ c.add_namings-n.ensures c.firm_below.result
+    (c.firm_below.ensures ∙ ap (λ n. firm_in (lowers a.table.now) (uppers a.table.now) (firms a.table.now) n c.loop-m.m)
+    (sym c.capped-rules.ensures)))
+
+pub returns : goal.returns
+returns c = let a = c.args in
+    let index = c.loop-m.index in (
+      indexed-marked index (pos 1)
+          (subst (Indexed index (lowers a.table.now) (gaps a.table.now) (uppers a.table.now) (firms a.table.now)) c.capped-rules.ensures
+          (indexing_over _ _ _ _ _ _ _ _ c.loop-m.invariant (omega arith))),
+      marked index c.loop-m.invariant.long,
+    )
