@@ -1,6 +1,7 @@
 // Reads the first line of a sheet's rest (01, "The sheet program"): a call's name and its numbers, with one space between. One pass: the line feed is
 // met where a word ends.
 #![tactic(auto)]
+
 ghost use Rattle.std.specs.Prelude.{◌≡◌, false, ◌+◌, ◌*◌, ◌<◌, ◌≤◌, min, length, drop, take, get_or};
 ghost use Rattle.std.proofs.Math.Option.{none};
 ghost use Rattle.protocol.specs.Lists.{bit};
@@ -191,6 +192,7 @@ fn read_signed(sheet: &[u8], at: usize) -> Number
 }
 
 // The number written by the word that begins at a place. Most have one digit, and are read at once.
+#[tactic(auto, using(crate::proofs::Scans::digit_alone, crate::proofs::Scans::small_signed, format::proofs::Digits::digit_range))]
 fn read_number(sheet: &[u8], at: usize) -> Number
     requires { at ≤ length (first_line sheet.now) }
     ensures { result ≡ number_at (first_line sheet.now) at }
@@ -208,6 +210,7 @@ fn read_number(sheet: &[u8], at: usize) -> Number
 
 // The call of a name, packed: a 1 and the name's bytes are the digits of the code in base 256.
 // A name of 4 letters, whose bytes are those of a u32: nearly all calls have such a name.
+#[tactic(auto, unfolding(crate::specs::Reads::call_of_code, crate::specs::Reads::taken_by))]
 fn call_of_four(code: u64) -> Call
     requires { (4294967296 ≤ code) × (code < 8589934592) }
     ensures { result ≡ call_of_code code }
@@ -255,6 +258,7 @@ fn call_of_four(code: u64) -> Call
 }
 
 // A name of any length.
+#[tactic(auto, unfolding(crate::specs::Reads::call_of_code, crate::specs::Reads::taken_by))]
 fn call_of(code: u64) -> Call
     ensures { result ≡ call_of_code code }
 {
@@ -415,6 +419,7 @@ fn read_call(sheet: &[u8]) -> Line
 }
 
 // The call that the first line asks for, and the line's length.
+#[tactic(auto, using(crate::proofs::Calls::no_call, crate::proofs::Cut::line_rest))]
 pub fn read_line(sheet: &[u8]) -> Line
     ensures { (line_in result ≡ line_call (first_line sheet.now)) × (result ≡ line_for (line_call (first_line sheet.now)) (length (first_line sheet.now))) }
 {

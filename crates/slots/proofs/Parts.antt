@@ -1,6 +1,6 @@
 -- The parts of a slot's words are the slot's. Assumes nothing.
 use Rattle.std.proofs.Common.{◌≡◌, ℕ, ◌+◌, ◌*◌, ◌/◌, ◌%◌, ◌<◌, ◌≤◌, Bool, true, false, cond, not, ◌&&◌, eqb, List, [], length, get_or, take, drop, sym, refl, ap, ◌∙◌, ap₂, arith, eqb→eq, length-drop, drop_of_length-le, length-take, eq-eqb, ne_eqb}
-use mathlib.Core.Bool.{and_true}
+use mathlib.Core.Bool.{and-true}
 use Rattle.protocol.specs.Lists.{is_none, all}
 use Rattle.protocol.proofs.Laws.{cases, is_yes}
 use Rattle.file.specs.Bytes.{byte_at, two_at, four_at, kind_bits, firm_bit, high_bits, measure_kind}
@@ -88,7 +88,7 @@ module _ (s : List ℕ) (l : length s ≡ 16) where
   zero_14 p =
       let h = p.count in
       let e : two_at s 14 ≡ four_at s 12 / 65_536 = omega arith in
-      ap (all is_none) (cells_of 2 14 s l) ∙ nought_two (get_or s 14 0) (get_or s 15 0) true ∙ and_true (is_none (two_at s 14)) ∙ ap is_none e
+      ap (all is_none) (cells_of 2 14 s l) ∙ nought_two (get_or s 14 0) (get_or s 15 0) true ∙ and-true (is_none (two_at s 14)) ∙ ap is_none e
 
 -- ---- the test of a slot, by its words
 

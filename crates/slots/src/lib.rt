@@ -1,5 +1,6 @@
 // The slots of a file as four words each (02, S-1): reading and writing them, their sum, and the mark byte by masks and shifts.
 #![tactic(auto)]
+
 ghost use Rattle.std.specs.Prelude.{◌≡◌, ◌+◌, ◌*◌, ◌/◌, ◌%◌, ◌<◌, ◌≤◌, length, take};
 ghost use Rattle.std.proofs.lemmas.List.Edits.{sets};
 ghost use Rattle.file.specs.Bytes.{word_size, byte_at, two_at, four_at, four_bytes, signed, complement, kind_bits, firm_bit, high_bits, mark, total};
@@ -35,6 +36,7 @@ fn wide(x: u8) -> u32
     x as u32
 }
 
+#[tactic(auto, unfolding(file::specs::Bytes::two_at))]
 fn two(f: &[u8], at: usize) -> u32
     requires { at + 2 ≤ length f.now }
     ensures { (result ≡ two_at f.now at) × (result < 65536) × (byte_at f.now at < 256) }
@@ -42,6 +44,7 @@ fn two(f: &[u8], at: usize) -> u32
     wide(f[at]) + 256 * wide(f[at + 1])
 }
 
+#[tactic(auto, unfolding(file::specs::Bytes::four_at))]
 fn word(f: &[u8], at: usize) -> u32
     requires { at + 4 ≤ length f.now }
     ensures { (result ≡ four_at f.now at) × (two_at f.now at < 65536) × (byte_at f.now (at + 2) < 256) }
@@ -149,12 +152,14 @@ pub fn last_byte(w: u32) -> u32
     w / 16777216
 }
 
+#[tactic(auto, unfolding(file::specs::Bytes::kind_bits))]
 pub fn kind_of(m: u8) -> u8
     ensures { result ≡ kind_bits m }
 {
     m & 3
 }
 
+#[tactic(auto, unfolding(file::specs::Bytes::firm_bit))]
 pub fn firm_of(m: u8) -> bool
     ensures { result ≡ firm_bit m }
 {
@@ -162,12 +167,14 @@ pub fn firm_of(m: u8) -> bool
 }
 
 // The bits above the third.
+#[tactic(auto, unfolding(file::specs::Bytes::high_bits))]
 pub fn high_bits(m: u8) -> u8
     ensures { result ≡ high_bits m }
 {
     m >> 3
 }
 
+#[tactic(auto, unfolding(file::specs::Bytes::mark, file::specs::Bytes::kind_bits))]
 pub fn mark_of(kind: u8, firm: bool) -> u8
     ensures { result ≡ mark (kind_bits kind) firm }
 {
@@ -202,6 +209,7 @@ pub fn fits(kind: u8, w: Slot) -> bool
 
 // ---- writing
 
+#[tactic(auto, using(crate::proofs::Words::four_sets), unfolding(file::specs::Bytes::four_bytes))]
 fn put_word(area: &mut [u8], at: usize, w: u32)
     requires { at + 4 ≤ length area.old }
     ensures { area.new ≡ sets area.old at (four_bytes w) }
@@ -213,6 +221,7 @@ fn put_word(area: &mut [u8], at: usize, w: u32)
 }
 
 // Slot k of an area, written anew; nothing where the area has none.
+#[tactic(auto, using(crate::proofs::Words::put_in_lem))]
 pub fn put(area: &mut [u8], k: usize, w: Slot)
     ensures { area.new ≡ put_in area.old k w }
 {
