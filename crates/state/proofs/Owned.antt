@@ -1,24 +1,21 @@
 -- What owning a state tells of its lists: how long they are, and that each number has at most 32 bits. Assumes nothing.
 use Prim.Native.Nat.{ℕ, zero, suc, ◌<◌}
 use native.Mathlib.Omega.{arith}
-use mathlib.Core.Path.{◌≡◌, subst}
-use mathlib.Core.List.{List, [], ◌∷◌, map, map-id}
+use mathlib.Core.Path.{◌≡◌}
+use mathlib.Core.List.{List, [], ◌∷◌}
 use borrow.Author.Rules.{rules}
 use denote.Laws.{Is}
 use denote.Array.{each}
+use denote.Builtin.{i32}
 use denote.Shadow.{shadow}
-use denote.Signed.{SInt}
-use denote.RattleType.{Denots}
 use denote.Struct.Declared as Declared
-use denote.Struct.Struct.{Struct}
 use denote.Struct.Laws.{val}
 use lib.IntN.{ℤ, pos}
 use lib.ListN.{length, get_or}
 use lib.Signed.{mag}
-use mir.Syntax.{w32}
 use mir.Val.{Val}
 use Rattle.rules.proofs.Table.{lowers-length, gaps-length, uppers-length, firms-length}
-use Rattle.records.specs.contracts.EditRecord.{the_type as record-type}
+use Rattle.records.specs.contracts.EditRecord.{the_row}
 use Rattle.records.specs.declared.EditRecord.{EditRecord}
 use Rattle.records.specs.Records.{no_record}
 use Rattle.state.specs.declared.State.{State}
@@ -56,17 +53,13 @@ pub record Ranged (p : State) : Type 0 where
   pub values : (i : ℕ) → mag (get_or p.values i (pos 0)) < 2147483648
   pub places : (i : ℕ) → (get_or p.edits i no_record).place < 4294967296
 
-signed : (xs : List ℤ) (us : List Val) (i : ℕ) → shadow (each ℤ (SInt w32).own_val xs us) → mag (get_or xs i (pos 0)) < 2147483648
+signed : (xs : List ℤ) (us : List Val) (i : ℕ) → shadow (each i32.Denot i32.own_val xs us) → mag (get_or xs i (pos 0)) < 2147483648
 signed [] us i p = omega arith
 signed (x ∷ xs) [] i p = absurd p
 signed (x ∷ xs) (u ∷ us) zero p = p.0.1
 signed (x ∷ xs) (u ∷ us) (suc i) p = signed xs us i p.1
 
-signed_field : (xs : List ℤ) (us : List Val) (i : ℕ) → shadow (each ℤ (SInt w32).own_val (map (λ v. v) xs) us) → mag (get_or xs i (pos 0)) < 2147483648
-signed_field xs us i p = signed xs us i (subst (λ (ys : List ℤ). shadow (each ℤ (SInt w32).own_val ys us)) (map-id xs) p)
-
-placed : (es : List EditRecord) (us : List Val) (i : ℕ) → shadow (each (Denots (Declared.fields record-type)) (Struct (Declared.shape record-type)).own_val (map record-type.to es) us)
-    → (get_or es i no_record).place < 4294967296
+placed : (es : List EditRecord) (us : List Val) (i : ℕ) → shadow (each the_row.Denot the_row.own_val es us) → (get_or es i no_record).place < 4294967296
 placed [] us i p = omega arith
 placed (e ∷ es) [] i p = absurd p
 placed (e ∷ es) (u ∷ us) zero p = p.0.1.1.1.1.1.1.1.1.1.0.1
@@ -77,8 +70,8 @@ owned_ranged p g =
     let fs = g.1.1 in
     record {
       next = fs.0.1.1.1.1.1.1.1.0.1;
-      base = λ i. signed_field p.base _ i fs.1.0.1.1;
-      draft = λ i. signed_field p.draft _ i fs.1.1.0.1.1;
-      values = λ i. signed_field p.values _ i fs.1.1.1.0.1.1;
+      base = λ i. signed p.base _ i fs.1.0.1.1;
+      draft = λ i. signed p.draft _ i fs.1.1.0.1.1;
+      values = λ i. signed p.values _ i fs.1.1.1.0.1.1;
       places = λ i. placed p.edits _ i fs.1.1.1.1.1.1.1.0.1.1;
     }

@@ -4,7 +4,7 @@ use native.Mathlib.Omega.{arith}
 use mathlib.Core.Bool.{Bool, true, false, not, cond}
 use mathlib.Core.Path.{◌≡◌, sym, ap, ap₂, ◌∙◌}
 use mathlib.Core.Logic.{◌≢◌}
-use mathlib.Core.List.{List, [], ◌∷◌, map}
+use mathlib.Core.List.{List, map}
 use lib.Dec.{eqb, ltb}
 use lib.IntN.{ℤ, pos}
 use lib.ListN.{length, get_or, set, length-map}
@@ -15,11 +15,9 @@ use Rattle.rows.specs.Rows.{span, row}
 use Rattle.rows.proofs.Spans.{length-span, span_same, span-snoc, nth-span, modify-span, get_d_set, get_or-other}
 use Rattle.heads.specs.declared.Head.{Head}
 use Rattle.state.specs.Spread.{Spread}
-use Rattle.heads.specs.Heads.{mode_of, sides_in, index_of, measures_in, end_in, kept_in, position_of, slot_at, unset_in}
-use Rattle.records.specs.declared.EditRecord.{EditRecord}
-use Rattle.records.specs.Records.{kept_at, no_record, record_of}
+use Rattle.heads.specs.Heads.{mode_of, sides_in, index_of, measures_in, end_in, kept_in, position_of, unset_in}
+use Rattle.records.specs.Records.{kept_at}
 use Rattle.state.specs.Spread.{plan_of, side_of}
-use Rattle.state.specs.Sizes.{Sized}
 use Rattle.state.specs.Spread.{named_in}
 use Rattle.records.proofs.Records.{lookup_record}
 
