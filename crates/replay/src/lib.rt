@@ -1,5 +1,6 @@
 // What a replay decides (01, "The calls"): its checks, its outcome, and the record that it settles. Read only, on what is lent.
 #![tactic(auto)]
+
 ghost use Rattle.std.specs.Prelude.{min, ◌<◌, ◌≤◌, ◌≡◌, cond, pos, get_or};
 ghost use Rattle.protocol.specs.Plan.{fate_is};
 ghost use Rattle.records.specs.Records.{fate_of, kept_at, record_of};
