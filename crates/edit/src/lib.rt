@@ -1,5 +1,6 @@
 // What an edit decides (01, "The calls"): its checks, and what there is to store after them. Read only, on what is lent.
 #![tactic(auto)]
+
 ghost use Rattle.std.specs.Prelude.{min, ◌<◌, ◌≤◌, leb, ◌&&◌, ◌||◌, ◌≡◌};
 ghost use Rattle.edit.specs.Edits.{change_ruling, ruling_from, edit_head, edit_record, spot_of};
 ghost use Rattle.heads.specs.Heads.{mode_of, measures_in};
@@ -51,6 +52,7 @@ fn editable(mode: Mode) -> bool
     is_apart(mode)
 }
 
+#[tactic(auto, unfolding(protocol::specs::Lists::within))]
 fn is_client(client: i32) -> bool
     ensures { result ≡ (no22 client).passes }
 {
