@@ -1,6 +1,7 @@
 // Counts kept beside a state by whoever owns it, in an array that is lent and changed in place: how many kept edits each side has unsent, how many wait,
 // how many are settled; the number left and how many first logs are missing, which are the plan's while it is joining or closing.
 #![tactic(auto)]
+
 ghost use Rattle.std.specs.Prelude.{◌+◌, ◌-◌, ◌≤◌, cond, ◌≡◌};
 ghost use Rattle.counts.specs.Tallies.{raise, no_tallies, one_unsent, all_sent, one_settled, move_tally};
 ghost use Rattle.heads.specs.Heads.{kept_in};

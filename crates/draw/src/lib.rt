@@ -1,5 +1,6 @@
 // What measure, rule and open decide (01, "The calls"): their checks, read only, and what they store, in place. On what is lent.
 #![tactic(auto)]
+
 ghost use Rattle.std.specs.Prelude.{eqb, not, cond, ◌&&◌, min, ◌≡◌};
 ghost use Rattle.draw.specs.Draw.{measure_checks, rule_checks, open_checks, measured, ruled, opened, refused_drawing, measure_decision, rule_decision, open_decision, draw_decision, Drawn};
 ghost use Rattle.protocol.specs.Calls.{first, no15};
@@ -98,6 +99,7 @@ fn pair_in(n: usize, a: u32, b: u32) -> bool
 }
 
 // The rule's gap and its firmness are in range.
+#[tactic(auto, unfolding(protocol::specs::Lists::within))]
 fn limits_ok(c: i32, f: i32) -> bool
     ensures { result ≡ (no15 c f).passes }
 {
