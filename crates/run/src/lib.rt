@@ -27,7 +27,7 @@ pub struct Way {
 }
 
 // Where a run stands: the plan's head and its kept edits, the place of the line that comes next, how many bytes were written, and whether an answer did not fit.
-#[derive(Drop)]
+#[derive(Clone, Copy)]
 pub struct Progress {
     pub head: Head,
     pub edits: [EditRecord; limit::EDITS],

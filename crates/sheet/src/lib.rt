@@ -23,7 +23,7 @@ const LIMIT: usize = 65536;
 const RESERVE: usize = 387;
 
 // A piece of a run: the plan that it leaves, the place of the line that comes next, and how many bytes it wrote.
-#[derive(Drop)]
+#[derive(Clone, Copy)]
 pub struct Piece {
     pub state: State,
     pub next: usize,

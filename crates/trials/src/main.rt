@@ -122,7 +122,7 @@ fn trial(p: State, l: Line, n: u32) -> State {
 }
 
 // What a line leaves: the plan, the number for the next line, and where that begins.
-#[derive(Drop)]
+#[derive(Clone, Copy)]
 struct Turn {
     state: State,
     n: u32,
