@@ -1,6 +1,6 @@
 -- Settled edits along their chains of earlier edits. Assumes nothing.
 use Prim.Native.Nat.{ℕ, zero, suc, ◌<◌}
-use mathlib.Core.Path.{◌≡◌, refl, sym, ap, ◌∙◌}
+use mathlib.Core.Path.{◌≡◌, refl, sym, ap, subst, ◌∙◌}
 use mathlib.Core.Logic.{◌⊎◌, inl, inr}
 use mathlib.Core.Bool.{false}
 use mathlib.Core.List.{List, [], ◌∷◌}
@@ -51,7 +51,11 @@ module _ (es : List Entry) (xs : List Settling) (z : ℕ) (x : Settling) (number
       → ((settled_as (edit_in z es).earlier xs).0 ≡ 4 → x.given ≡ 4) → Chained es (x ∷ xs)
   chained_settle c kept follows passes n k =
       cases (eqb n z)
-      (λ i. rw (eqb-true n z i) (record {
+      (λ i. subst (λ m. record {
+        kept : T (listed m es);
+        follows : ((edit_in m es).earlier ≡ 0) ⊎ (0 < times (edit_in m es).earlier (x ∷ xs));
+        passes : (settled_as (edit_in m es).earlier (x ∷ xs)).0 ≡ 4 → (settled_as m (x ∷ xs)).0 ≡ 4;
+      }) (sym (eqb-true n z i)) (record {
         kept = kept;
         follows = further (edit_in z es).earlier follows;
         passes = rw (number, apart (edit_in z es).earlier follows, eq-eqb z z refl) passes;

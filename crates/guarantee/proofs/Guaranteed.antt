@@ -6,7 +6,7 @@ use mathlib.Core.Bool.{Bool, true, false, not, cond, ◌&&◌, ◌||◌}
 use mathlib.Core.List.{List, [], ◌∷◌}
 use native.Mathlib.Omega.{arith}
 use lib.ListN.{length, length-map}
-use lib.Dec.{T, T_not, not_T, eqb, eqb→eq, leb, nltb→le}
+use lib.Dec.{T, T_not, not_T, eqb→eq, leb, nltb→le}
 use lib.IntN.{ℤ, pos}
 use Rattle.protocol.specs.Lists.{bit, natural, count_to, count, all, snoc}
 use Rattle.protocol.specs.Plan.{Fate, unsent, waiting, accepted, revoked, fate_number, fate_is, Kept, is_waiting, is_open, Mode, blank, whole, split, joining, closing, is, active, Content, Plan, holds, side_at, absent_side, lookup, unsent_of, pending, sides_that}

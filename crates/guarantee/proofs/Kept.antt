@@ -1,6 +1,6 @@
 -- Laws of the kept edits: looked up, sent, settled, one more. Assumes nothing.
 use Prim.Native.Nat.{ℕ, suc, ◌+◌, ◌<◌, ◌≤◌}
-use mathlib.Core.Path.{◌≡◌, refl, sym, ap, ap₂, ◌∙◌}
+use mathlib.Core.Path.{◌≡◌, refl, sym, ap, ap₂, subst, ◌∙◌}
 use mathlib.Core.Logic.{◌⊎◌, inl, inr, ◌≢◌}
 use mathlib.Core.Bool.{Bool, true, false, not, cond, ◌&&◌, ◌||◌, and-false}
 use mathlib.Core.List.{List, [], ◌∷◌, map}
@@ -203,7 +203,8 @@ first_waiting_lem lo (k ∷ ks) hi r =
     let i = eq-eqb k.edit.number k.edit.number refl in
     let j = ne_eqb k.edit.earlier k.edit.number (λ l. omega arith) in
     let z = not_T (is_waiting (lookup k.edit.earlier ks)) (λ u. let b = bounds is_waiting _ ks hi k.edit.earlier tt r.2 u in omega arith) in
-    inr (k.edit.number, r.0, rw i t, rw (i, j) z)
+    let f : lookup k.edit.number (k ∷ ks) ≡ k = rw i refl in
+    inr (k.edit.number, r.0, rw i t, subst (λ e. T (not (is_waiting (lookup e.edit.earlier (k ∷ ks))))) (sym f) (rw j z))
     in
     let ih = first_waiting_lem (suc k.edit.number) ks hi r.2 in
     decide (is_waiting k) here
@@ -211,7 +212,14 @@ first_waiting_lem lo (k ∷ ks) hi r =
     (λ l. let x = bit-no (is_waiting k) t in inl (omega arith))
     (λ q.
     let i = ne_eqb q.0 k.edit.number (λ l. omega (arith, q.1)) in
-    inr (q.0, omega (arith, q.1), rw i q.2, rw i (cases (eqb (lookup q.0 ks).edit.earlier k.edit.number) (λ u. rw u t) (λ u. rw u q.3)))))
+    let f : lookup q.0 (k ∷ ks) ≡ lookup q.0 ks = rw i refl in
+    inr (
+      q.0,
+      omega (arith, q.1),
+      rw i q.2,
+      subst (λ e. T (not (is_waiting (lookup e.edit.earlier (k ∷ ks))))) (sym f)
+          (cases (eqb (lookup q.0 ks).edit.earlier k.edit.number) (λ u. rw u t) (λ u. rw u q.3)),
+    )))
 
 -- ---- what the plan says of an edit's fate, and what the history does
 
@@ -275,7 +283,7 @@ reported_settle n b ks xs e en w t m =
     (λ u.
     let i = eqb-true m n u in
     let z = t m ∙ ap (λ x. verdict (lookup x ks)) i ∙ unsettled (lookup n ks) (waiting_open (lookup n ks) w) in
-    rw (en, u, i, lookup-same n b (suc (length xs)) ks w, rw i at (ap (λ x. x.2) z)) (sym (outcome-verdict b (suc (length xs)) (lookup n ks))))
+    rw (en, u, i, lookup-same n b (suc (length xs)) ks w, ap (λ x. x.2) z) (sym (outcome-verdict b (suc (length xs)) (lookup n ks))))
     (λ u. rw (en, u) (t m ∙ ap verdict (sym (lookup-other n b (suc (length xs)) m ks (eqb-false m n u)))))
 
 -- ---- the edits alone, as the plan and the history both keep them

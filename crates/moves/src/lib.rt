@@ -1,6 +1,7 @@
 // Internal, for `calls`: the calls that part a plan and join it again (01, "The calls"): split, join, send, stop, confirm, install. Each stores into arrays
 // that it is lent.
 #![tactic(auto)]
+
 ghost use Rattle.std.specs.Prelude.{◌≤◌, ℕ, T, ℤ, length, set, Bool, List, ◌≡◌};
 ghost use Rattle.heads.specs.Heads.{mode_of};
 ghost use Rattle.moves.specs.Frames.{told_as, denied_as, frame_from, moved_to, Anything, Moves, Waiting, Unsent};
