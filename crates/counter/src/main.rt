@@ -5,14 +5,17 @@
 // There is no exit status: whoever starts the program with the argument `report` is told by a last line on standard error that the sheet
 // was read and every answer written. That line missing, for whatever reason, means that they were not.
 #![tactic(auto)]
+
 ghost use Rattle.std.specs.Prelude.{ℕ, ◌≡◌};
-ghost use Rattle.io.specs.Counts.{IsPrefixLen};
+ghost use Rattle.counter.specs.Counts.{IsPrefixLen};
 
-use libc::types::timespec;
-use libc::{STDERR_FILENO, STDIN_FILENO, STDOUT_FILENO};
+use std::env::{Env, FillError};
+use std::io::{Error, ErrorKind, Read, Write};
+use std::time::{Clock, Duration};
+use std::{str, thread};
 
-// A proved loop has to end, and nothing says that the other end of a pipe ever does something. So the loops below count their turns down,
-// from a number that no run uses up.
+// A proved loop has to end, and nothing says that the other end of a pipe ever does something. So the loops below count their turns, up to a
+// number that no run uses up.
 const TURNS: u64 = u64::MAX;
 
 // The sheet as far as it is wanted, or an error on the way, after which nobody knows how the sheet goes on.
@@ -23,111 +26,112 @@ enum Reading {
 }
 
 // Waits for about a millisecond, or until a signal comes, so that waiting for the other end of a pipe leaves the processor free.
-fn pause() {
-    let asked = timespec {
-        tv_sec: 0,
-        tv_nsec: 1000000,
-    };
-    let mut left = timespec {
-        tv_sec: 0,
-        tv_nsec: 0,
-    };
-    libc::nanosleep(&asked, &mut left);
+fn pause(rt: &impl Clock) {
+    thread::sleep(rt, Duration::from_millis(1));
 }
 
-// Whether another read or write may follow one that answered `moved`: it moved bytes, or a signal came in between, or the other end of the
-// pipe is not ready and was given a moment. After any other error errno is still that of the call.
-fn goes_on(moved: isize) -> bool {
-    if moved > 0 {
+// Whether another read or write may follow one that failed: a signal came in between, or the other end of the pipe is not ready and was
+// given a moment. None may after any other error.
+fn goes_on(rt: &impl Clock, error: &Error) -> bool {
+    let kind = error.kind();
+    if kind == ErrorKind::WouldBlock {
+        pause(rt);
         return true;
     }
-    let error = os::errno();
-    if error == libc::EAGAIN {
-        pause();
-        return true;
-    }
-    error == libc::EINTR
+    kind == ErrorKind::Interrupted
 }
 
-// The call before has just failed: errno has the reason, and is put into words.
-fn unread() -> Reading
+// The system's words for an error, without the number that std puts behind them.
+fn reason<'a>(error: &Error, space: &'a mut [u8; 256]) -> &'a str {
+    let mut rest = &mut space[..];
+    let _ = write!(rest, "{error}");
+    let left = rest.len();
+    let n = space.len().saturating_sub(left);
+    let said = str::from_utf8(&space[..n]).unwrap_or("");
+    match said.split_once(" (os error ") {
+        Some((words, _)) => words,
+        None => said,
+    }
+}
+
+// Says what failed and why.
+fn fail(rt: &impl Eprint, failed: &str, error: &Error) {
+    let mut space = [0u8; 256];
+    let why = reason(error, &mut space);
+    let _ = eprintln!(rt; "counter: {failed}: {why}");
+}
+
+fn unread(rt: &impl Eprint, error: &Error) -> Reading
     ensures { result ≡ Reading.Failed }
 {
-    os::fail(b"counter: the sheet cannot be read");
+    fail(rt, "the sheet cannot be read", error);
     Reading::Failed
 }
 
-fn unwritten() -> bool {
-    os::fail(b"counter: the answers cannot be written");
+fn unwritten(rt: &impl Eprint, error: &Error) -> bool {
+    fail(rt, "the answers cannot be written", error);
     false
 }
 
-fn untaken() -> bool {
-    io::write_all(
-        STDERR_FILENO,
-        b"counter: the answers cannot be written: nothing was taken\n",
-    );
+fn untaken(rt: &impl Eprint) -> bool {
+    let _ = eprintln!(rt; "counter: the answers cannot be written: nothing was taken");
     false
 }
 
 // Reads until the input ends or `sheet` is full.
-fn read_sheet(sheet: &mut [u8]) -> Reading
+fn read_sheet(rt: &(impl Clock + Eprint), input: &mut impl Read, sheet: &mut [u8]) -> Reading
     ensures { (n : ℕ) → result ≡ Reading.All n → IsPrefixLen n sheet.new }
 {
     let mut done: usize = 0;
-    let mut turns = TURNS;
-    while turns > 0 {
+    for _ in 0..TURNS {
         if sheet.len() <= done {
             return Reading::All(done);
         }
         let part = &mut sheet[done..];
-        let got = libc::read(STDIN_FILENO, part);
-        if got == 0 {
-            return Reading::All(done);
+        match input.read(part) {
+            Ok(0) => return Reading::All(done),
+            Ok(n) => done += n,
+            Err(error) => {
+                if !goes_on(rt, &error) {
+                    return unread(rt, &error);
+                }
+            }
         }
-        if !goes_on(got) {
-            return unread();
-        }
-        let n = io::count(got, part);
-        done += n;
-        turns -= 1;
     }
-    unread()
+    unread(rt, &Error::from(ErrorKind::TimedOut))
 }
 
 // Writes all of `answers`, and answers whether it did. A write that takes nothing and names no error might do so for ever, and so counts as
 // a failure.
-fn write_answers(answers: &[u8]) -> bool {
+fn write_answers(rt: &(impl Clock + Eprint), output: &mut impl Write, answers: &[u8]) -> bool {
     let mut done: usize = 0;
-    let mut turns = TURNS;
-    while turns > 0 {
+    for _ in 0..TURNS {
         if answers.len() <= done {
             return true;
         }
         let part = &answers[done..];
-        let put = libc::write(STDOUT_FILENO, part);
-        if put == 0 {
-            return untaken();
+        match output.write(part) {
+            Ok(0) => return untaken(rt),
+            Ok(n) => done += n,
+            Err(error) => {
+                if !goes_on(rt, &error) {
+                    return unwritten(rt, &error);
+                }
+            }
         }
-        if !goes_on(put) {
-            return unwritten();
-        }
-        let n = io::count(put, part);
-        done += n;
-        turns -= 1;
     }
-    unwritten()
+    unwritten(rt, &Error::from(ErrorKind::TimedOut))
 }
 
 // Writes the answers to a sheet, and answers whether it did: piece by piece, each from where the one before it ended, until the sheet is over.
-fn answer(sheet: &[u8]) -> bool {
+fn answer(rt: &(impl Clock + Eprint), output: &mut impl Write, sheet: &[u8]) -> bool {
     let mut p = state::blank();
-    let mut out = io::large_buffer();
+    let mut out = [0u8; 65536];
     let mut from: usize = 0;
     while from < sheet.len() {
         let r = sheet::next_piece(p, sheet, from, &mut out);
         let n = r.written;
-        if !write_answers(&out[..n]) {
+        if !write_answers(rt, output, &out[..n]) {
             return false;
         }
         let q = r.state;
@@ -138,19 +142,23 @@ fn answer(sheet: &[u8]) -> bool {
 }
 
 // Whether the program was started with the one argument `report`.
-fn is_reporting() -> bool {
+fn is_reporting(rt: &impl Env) -> bool {
     let mut word = [0u8; 6];
-    let n = os::arg(1, &mut word);
-    os::arg_count() == 2 && check::same(&word[..n], b"report")
+    let Ok(n) = rt.arg(1, &mut word) else {
+        return false;
+    };
+    let mut more = [0u8; 1];
+    let is_last = matches!(rt.arg(2, &mut more), Err(FillError::NotPresent));
+    is_last && matches!(&word[..n], b"report")
 }
 
-fn main() {
+fn main(rt: HostRuntime) {
     // One byte more than a sheet has at the most, so that one that is too long is told from one that is not.
     let mut sheet = [0u8; 65537];
-    let Reading::All(n) = read_sheet(&mut sheet) else {
+    let Reading::All(n) = read_sheet(&rt, &mut rt.stdin(), &mut sheet) else {
         return;
     };
-    if answer(&sheet[..n]) && is_reporting() {
-        io::write_all(STDERR_FILENO, b"counter: complete\n");
+    if answer(&rt, &mut rt.stdout(), &sheet[..n]) && is_reporting(&rt) {
+        let _ = eprintln!(rt; "counter: complete");
     }
 }

@@ -4,6 +4,7 @@
 // number for the next line: how often its call is made, of which the last is answered, or how long the buffer is that is lent to show.
 // Any other line is a title, and takes a blank plan.
 #![tactic(auto)]
+
 ghost use Rattle.std.specs.Prelude.{◌+◌, ◌-◌, ◌*◌, ◌<◌, ◌≤◌, length};
 
 use edit::Ruling;
@@ -11,28 +12,34 @@ use plan::{Answer, Answered, State};
 use protocol::call;
 use reader::Line;
 use replay::Outcome;
+use std::io::Read;
+
+// A text is written out as it comes, and a write that fails ends nothing.
+fn put(rt: &impl Print, bytes: &[u8]) {
+    let _ = rt.write_all(bytes);
+}
 
 // The line of an answer and of a row of values behind it, as on a sheet, but for its first bytes.
-fn tell(answer: Answer, row: &[i32], from: usize) {
+fn tell(rt: &impl Print, answer: Answer, row: &[i32], from: usize) {
     let mut space = [0u8; 128];
     let end = writer::put(answer, row, &mut space);
     let area = &space[..];
     if from <= end && end <= area.len() {
-        io::write_all(1, &area[from..end]);
+        put(rt, &area[from..end]);
     }
 }
 
 // show into the front of 8 numbers that are all 77: the refusal with the part handed back, and the whole buffer after it.
-fn show(p: State, s: i32, room: u32) {
+fn show(rt: &impl Print, p: State, s: i32, room: u32) {
     let mut space = [77i32; 8];
     let buffer: &mut [i32] = &mut space;
     let n = rows::capped(room, buffer.len());
     let mut refusal: u32 = 99;
     let part = plan::show(p, s, &mut buffer[0..n], &mut refusal);
-    io::write_all(1, b"  refusal and part");
-    tell(Answer::Given(1, refusal, 0, 0), part, 2);
-    io::write_all(1, b"  buffer");
-    tell(Answer::Given(0, 0, 0, 0), buffer, 2);
+    put(rt, b"  refusal and part");
+    tell(rt, Answer::Given(1, refusal, 0, 0), part, 2);
+    put(rt, b"  buffer");
+    tell(rt, Answer::Given(0, 0, 0, 0), buffer, 2);
 }
 
 // Any call but show.
@@ -100,23 +107,23 @@ fn broken(p: State, l: Line, accepted: bool) -> u32 {
 }
 
 // A title, or a call with its answer, and with the rule if it breaks one.
-fn trial(p: State, l: Line, n: u32) -> State {
+fn trial(rt: &impl Print, p: State, l: Line, n: u32) -> State {
     if l.op == 0 {
-        io::write_all(1, b"\n");
+        put(rt, b"\n");
         return plan::blank();
     }
     if l.op == call::SHOW {
-        show(p, l.a, n);
+        show(rt, p, l.a, n);
         return p;
     }
     let r = call(p, l);
     let answer = r.answer;
-    io::write_all(1, b"  ");
-    tell(answer, &[], 0);
+    put(rt, b"  ");
+    tell(rt, answer, &[], 0);
     let rule = broken(p, l, state::accepted(answer));
     if rule != 0 {
-        io::write_all(1, b"  rule");
-        tell(Answer::Given(1, rule, 0, 0), &[], 2);
+        put(rt, b"  rule");
+        tell(rt, Answer::Given(1, rule, 0, 0), &[], 2);
     }
     r.state
 }
@@ -138,7 +145,7 @@ fn read(text: &[u8]) -> Line
 
 // The line at a place. A call that is to be made again is made here once, and its line comes next with a number less by one: what is
 // left, the number and 1,000,000 for each byte, falls with every turn.
-fn line(p: State, n: u32, text: &[u8], at: usize) -> Turn
+fn line(rt: &impl Print, p: State, n: u32, text: &[u8], at: usize) -> Turn
     requires { at < length text.now }
     ensures { result.n + 1000000 * (length text.now - result.at) < n + 1000000 * (length text.now - at) }
 {
@@ -154,9 +161,9 @@ fn line(p: State, n: u32, text: &[u8], at: usize) -> Turn
         };
     }
     let end = l.end;
-    io::write_all(1, &rest[0..end]);
+    put(rt, &rest[0..end]);
     if rest[0] == 42 {
-        io::write_all(1, b"\n");
+        put(rt, b"\n");
         let m = reader::read_line(&rest[1..]);
         return Turn {
             state: p,
@@ -164,7 +171,7 @@ fn line(p: State, n: u32, text: &[u8], at: usize) -> Turn
             at: at + end + 1,
         };
     }
-    let state = trial(p, l, n);
+    let state = trial(rt, p, l, n);
     Turn {
         state,
         n: 0,
@@ -172,12 +179,12 @@ fn line(p: State, n: u32, text: &[u8], at: usize) -> Turn
     }
 }
 
-fn run(text: &[u8]) {
+fn run(rt: &impl Print, text: &[u8]) {
     let mut p = plan::blank();
     let mut n: u32 = 0;
     let mut at: usize = 0;
     while at < text.len() {
-        let t = line(p, n, text, at);
+        let t = line(rt, p, n, text, at);
         let q = t.state;
         p = q;
         n = t.n;
@@ -185,8 +192,26 @@ fn run(text: &[u8]) {
     }
 }
 
-fn main() {
-    let mut space = io::large_buffer();
-    let n = io::read_full(0, &mut space);
-    run(&space[..n]);
+// Reads until the input ends, `text` is full or a read fails, and returns how many bytes were read.
+fn read_text(input: &mut impl Read, text: &mut [u8]) -> usize
+    ensures { result ≤ length text.new }
+{
+    let mut done: usize = 0;
+    for _ in 0..u64::MAX {
+        if text.len() <= done {
+            return done;
+        }
+        match input.read(&mut text[done..]) {
+            Ok(0) => return done,
+            Ok(n) => done += n,
+            Err(_) => return done,
+        }
+    }
+    done
+}
+
+fn main(rt: HostRuntime) {
+    let mut space = [0u8; 65536];
+    let n = read_text(&mut rt.stdin(), &mut space);
+    run(&rt, &space[..n]);
 }
