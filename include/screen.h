@@ -1,6 +1,6 @@
 /* The drawing screen's entries to Molzaken: run a sheet of lines and put the answers into a buffer; save the plan of a sheet, load it again.
  *
- * Link with libscreen.a (`rt staticlib screen` writes it to target/staticlib). A call keeps no memory, reads and writes nothing but
+ * Link with libscreen.a (`rt lib` in crates/screen writes it to crates/screen/out). A call keeps no memory, reads and writes nothing but
  * the buffers that it is lent, and may be made from several threads at once. It needs less than 80 KB of stack
  * (a host with a limit of 60 KB ran, one with 40 KB did not).
  */

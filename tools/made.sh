@@ -1,14 +1,14 @@
 # Builds what is missing or older than its sources. Read in by ./molzaken and the tests, at the root of the repository.
 # shellcheck shell=sh
-counter=target/bin/counter
-library=target/staticlib/libscreen.a
+counter=crates/counter/out/counter
+library=crates/screen/out/libscreen.a
 explainer=target/explain/release/explain
 desk=target/desk/release/desk
 
 stale() { # FILE SOURCE..
     made=$1
     shift
-    [ ! -f "$made" ] || [ -n "$(find "$@" -type f ! -path '*/must-fail/*' -newer "$made" | head -n 1)" ]
+    [ ! -f "$made" ] || [ -n "$(find "$@" -name out -prune -o -type f ! -path '*/must-fail/*' -newer "$made" -print | head -n 1)" ]
 }
 
 need() { # COMMAND KIT
@@ -26,17 +26,15 @@ make_counter() {
     stale "$counter" crates crates.txt || return 0
     need rt 'the Rattle kit' || return
     echo "building $counter and proving what it stands on: about four minutes the first time" >&2
-    # Without its stamp a program is proved and linked again; with it, rt takes a missing one for made.
-    [ -f "$counter" ] || rm -f target/stamp/counter
-    # More at once than there are processors: rt waits for a whole batch before the next, and a larger one leaves a processor idle less often.
-    RT_JOBS=${RT_JOBS:-4} rt check counter && mark "$counter"
+    # This runs the program too, here on an empty sheet.
+    (cd crates/counter && rt run </dev/null) && mark "$counter"
 }
 
 make_library() {
     stale "$library" crates crates.txt || return 0
     need rt 'the Rattle kit' || return
     echo "building $library and proving what it stands on: some minutes if nothing was proved before" >&2
-    RT_JOBS=${RT_JOBS:-4} rt staticlib screen && mark "$library"
+    (cd crates/screen && rt lib) && mark "$library"
 }
 
 make_explainer() {

@@ -8,7 +8,7 @@
  *     FAULT_SHORT=N         no read or write of these moves more than N bytes
  *     FAULT_NONBLOCK=FD     the descriptor does not block
  *     FAULT_WAITS=FILE      gets the process's number once a call would have to wait, after others have moved bytes
- *     FAULT_SIGPIPE=1       a write that nobody reads ends the program, whatever it was started with */
+ *     FAULT_SIGPIPE=1       a write that nobody reads ends the program, whatever it was started with and asks for */
 #define _GNU_SOURCE
 #include <errno.h>
 #include <fcntl.h>
@@ -34,6 +34,7 @@ static struct {
 } ends[SORTS];
 static size_t most = (size_t)-1;
 static const char *waits;
+static int ends_by_signal;
 
 /* A test that asks for what there is not must fail, and not run without the fault. */
 static void refuse(const char *setting) {
@@ -74,8 +75,14 @@ __attribute__((constructor)) static void start(void) {
             refuse("FAULT_NONBLOCK");
     }
     waits = getenv("FAULT_WAITS");
-    if (getenv("FAULT_SIGPIPE") != NULL)
+    ends_by_signal = getenv("FAULT_SIGPIPE") != NULL;
+    if (ends_by_signal)
         signal(SIGPIPE, SIG_DFL);
+}
+
+/* By this call a program of Rattle sets the signal aside when it starts. */
+sighandler_t __sysv_signal(int number, sighandler_t handler) {
+    return number == SIGPIPE && ends_by_signal ? SIG_DFL : signal(number, handler);
 }
 
 static void tell(void) {
