@@ -1,6 +1,7 @@
 // Internal, for `run` and `plan`: the fourteen calls (01, "The calls"), each made on what the owner of a plan lends: numbers in place, kept edits as the
 // owner's part. There is one contract for all (specs/Makes): for all kept edits of which what was handed over is true, the answer and the plan are the protocol's.
 #![tactic(auto)]
+
 ghost use Rattle.std.specs.Prelude.{◌≡◌, Bool, true, false, not, cond, ◌&&◌, List, ℕ, min, eqb, ℤ};
 ghost use Rattle.calls.specs.declared.Look.{Look};
 ghost use Rattle.protocol.specs.Numbering.{edit_op, send_op, replay_op};

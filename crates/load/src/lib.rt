@@ -1,5 +1,6 @@
 // A saved plan loaded (02, S-1): the file is read whole first, then drawn by the calls that one would draw it by.
 #![tactic(auto)]
+
 ghost use Rattle.std.specs.Prelude.{◌≡◌, true, cond, ◌&&◌, List, [], ◌∷◌, ℕ, ◌+◌, ◌%◌, ◌<◌, ◌≤◌, T, ltb, pos};
 ghost use Rattle.protocol.specs.Lists.{is_none, bit};
 ghost use Rattle.protocol.specs.Calls.{first};

@@ -4,6 +4,7 @@
 // handed back. load promises `MeetsLoad file p r` (load/specs/Loading), as the calls do; save promises its answer and `save_into` of the whole
 // buffer that it is lent, refused too. What every list of them guarantees is proofs/Promise.
 #![tactic(auto)]
+
 ghost use Rattle.std.specs.Prelude.{◌≡◌, false, eqb};
 ghost use Rattle.protocol.specs.Calls.{measure, rule, open_plan, split-side, edit, join, send, replay, stop, confirm, install, fate_of_edit, left};
 ghost use Rattle.protocol.specs.Numbering.{show_op};

@@ -1,5 +1,6 @@
 // The calls that only read (01, "The calls"): show, fate, left; and the counts of the kept edits.
 #![tactic(auto)]
+
 ghost use Rattle.std.specs.Prelude.{◌≤◌, min, ◌+◌, ◌-◌, ltb, length, drop, not, ◌||◌, ◌++◌, ◌≡◌};
 ghost use Rattle.counts.specs.Tallies.{settled_in, left_noted, missing_in, Counted, tally_count};
 ghost use Rattle.heads.specs.Heads.{mode_of, sides_in, kept_in, unset_in};

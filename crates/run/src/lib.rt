@@ -1,6 +1,7 @@
 // Internal, for `sheet`: the run over a sheet (01, "The sheet program"). Each line is read, made on the plan and answered. The loop is lent a plan's rows, flags and
 // rules, which it lends to the call, and has head and kept edits by value.
 #![tactic(auto)]
+
 ghost use Rattle.std.specs.Prelude.{◌≡◌, ◌≤◌};
 ghost use Rattle.protocol.specs.Plan.{measure_limit};
 ghost use Rattle.rows.specs.Rows.{row};

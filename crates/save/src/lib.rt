@@ -1,5 +1,6 @@
 // A whole plan saved as slots (02, S-1): rising slots, measures first, in the front of an area that a caller lends.
 #![tactic(auto)]
+
 ghost use Rattle.std.specs.Prelude.{◌≡◌, ◌+◌, ◌*◌, ◌<◌, ◌≤◌, length, take};
 ghost use Rattle.std.proofs.lemmas.List.Edits.{sets};
 ghost use Rattle.file.specs.Bytes.{total, balancing};

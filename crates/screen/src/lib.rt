@@ -1,5 +1,6 @@
 // The entries for the drawing screen, a C program (include/screen.h). Each is a function of what it is lent: bytes in, bytes into an area, one number back.
 #![tactic(auto)]
+
 ghost use Rattle.std.specs.Prelude.{◌≡◌};
 ghost use Rattle.protocol.specs.Calls.{start};
 ghost use Rattle.format.specs.Sheets.{screen};

@@ -1,5 +1,6 @@
 // A sheet in, its answers out (01, "The sheet program"): the whole run, on a blank plan or on that of a file, and a sheet's plan saved (02, S-1).
 #![tactic(auto)]
+
 ghost use Rattle.std.specs.Prelude.{◌≡◌, ◌*◌, ◌+◌, ◌<◌, ◌≤◌, [], ◌∷◌, length, cond};
 ghost use Rattle.protocol.specs.Lists.{bit};
 ghost use Rattle.protocol.specs.Calls.{no, start};
