@@ -11,8 +11,8 @@ ghost use Rattle.counter.specs.Counts.{IsPrefixLen};
 
 use std::env::{Env, FillError};
 use std::io::{Error, ErrorKind, Read, Write};
+use std::str;
 use std::time::{Clock, Duration};
-use std::{str, thread};
 
 // A proved loop has to end, and nothing says that the other end of a pipe ever does something. So the loops below count their turns, up to a
 // number that no run uses up.
@@ -27,7 +27,7 @@ enum Reading {
 
 // Waits for about a millisecond, or until a signal comes, so that waiting for the other end of a pipe leaves the processor free.
 fn pause(rt: &impl Clock) {
-    thread::sleep(rt, Duration::from_millis(1));
+    rt.sleep(Duration::from_millis(1));
 }
 
 // Whether another read or write may follow one that failed: a signal came in between, or the other end of the pipe is not ready and was
