@@ -11,7 +11,7 @@ use lib.IntN.{ℤ}
 use lib.ListN.{length}
 use Rattle.protocol.specs.Lists.{is_none}
 use Rattle.protocol.specs.Plan.{Plan, whole}
-use Rattle.protocol.specs.Calls.{Call, measure, open_plan, Verdict, fine, refused, first, checks, after, first_values, step, end, no, ok}
+use Rattle.protocol.specs.Calls.{Call, measure, open_plan, Verdict, fine, refused, first, checks, after, first_values, step, step_by, end, no, ok}
 use Rattle.file.specs.Loaded.{slot_in, next_number, sized, untouched, read_checks, drawing, or_else, first_refusal, load_verdict, renumbered, load_by, load, measure_chain, rule_chain, value_in, rule_in}
 use Rattle.file.proofs.Drawn.{both_fine}
 use Rattle.rows.proofs.Spans.{length-span}
@@ -86,7 +86,7 @@ module _ (f : List ℕ) (p : State) (k : ℕ) (k-is : k ≡ refusal_of (first (h
     open_last cs r e =
         let b = (both_fine (first_refusal cs r) (first_refusal (open_plan ∷ []) (end cs r)) (sym (first-append cs (open_plan ∷ []) r) ∙ e)).1 in
         let c = (both_fine (first (checks open_plan (end cs r))) fine b).0 in
-        ap (λ (x : Plan). x.mode) (end-append cs (open_plan ∷ []) r) ∙ rw c
+        ap (λ (x : Plan). x.mode) (end-append cs (open_plan ∷ []) r) ∙ ap (λ v. (step_by v open_plan (end cs r)).plan.mode) c
 
     drawn_whole : first_refusal (drawing f) (view p) ≡ fine → (end (drawing f) (view p)).mode ≡ whole
     unfolding drawing
