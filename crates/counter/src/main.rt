@@ -6,7 +6,8 @@
 // was read and every answer written. That line missing, for whatever reason, means that they were not.
 #![tactic(auto)]
 
-ghost use Rattle.std.specs.Prelude.{ℕ, ◌≡◌};
+ghost use Rattle.std.specs.Prelude.{ℕ, ◌≡◌, true, false};
+ghost use Rattle.std.specs.Io.KnownBytes.{Appends};
 ghost use Rattle.counter.specs.Counts.{IsPrefixLen};
 
 use std::env::{Env, FillError};
@@ -68,12 +69,16 @@ fn unread(rt: &impl Eprint, error: &Error) -> Reading
     Reading::Failed
 }
 
-fn unwritten(rt: &impl Eprint, error: &Error) -> bool {
+fn unwritten(rt: &impl Eprint, error: &Error) -> bool
+    ensures { result ≡ false }
+{
     fail(rt, "the answers cannot be written", error);
     false
 }
 
-fn untaken(rt: &impl Eprint) -> bool {
+fn untaken(rt: &impl Eprint) -> bool
+    ensures { result ≡ false }
+{
     let _ = eprintln!(rt; "counter: the answers cannot be written: nothing was taken");
     false
 }
@@ -103,7 +108,9 @@ fn read_sheet(rt: &(impl Clock + Eprint), input: &mut impl Read, sheet: &mut [u8
 
 // Writes all of `answers`, and answers whether it did. A write that takes nothing and names no error might do so for ever, and so counts as
 // a failure.
-fn write_answers(rt: &(impl Clock + Eprint), output: &mut impl Write, answers: &[u8]) -> bool {
+fn write_answers<W: Write>(rt: &(impl Clock + Eprint), output: &mut W, answers: &[u8]) -> bool
+    ensures { result ≡ true → Appends (W.contents output.old) (W.contents output.new) answers.now }
+{
     let mut done: usize = 0;
     for _ in 0..TURNS {
         if answers.len() <= done {
