@@ -2,7 +2,7 @@
 // piece, so that a sheet may be answered by more bytes than are held at a time.
 //
 // A sheet that cannot be read to its end is not run, and after a failed write nothing more is written. Either is said on standard error.
-// There is no exit status: whoever starts the program with the argument `report` is told by a last line on standard error that the sheet
+// The exit status says nothing: whoever starts the program with the argument `report` is told by a last line on standard error that the sheet
 // was read and every answer written. That line missing, for whatever reason, means that they were not.
 #![tactic(auto)]
 
