@@ -2,7 +2,7 @@
 use Prim.Native.Nat.{ℕ, ◌+◌, ◌-◌, ◌<◌, ◌≤◌}
 use native.Mathlib.Omega.{arith}
 use mathlib.Core.Path.{◌≡◌, refl, sym, ap, ◌∙◌}
-use mathlib.Core.Bool.{Bool, true, false}
+use mathlib.Core.Bool.{Bool, true, false, cond}
 use mathlib.Core.List.{List, [], ◌∷◌, ◌++◌, append-nil, append_assoc}
 use borrow.Author.Tests.{lt-ltb, le-ltb, leb-true, ltb-true, ltb-false}
 use borrow.Rule.Slice.PartMut.{put_mid}
@@ -100,8 +100,10 @@ module _ (on : Bool) (reserve : ℕ) (sheet : List ℕ) (from : ℕ) (lent : Lis
     unfolding ran
     dropped o f z b' k =
         let n : leb (length bytes) (length lent - at) ≡ false = ap (leb (length bytes)) (sym room) ∙ f in
-        let goes : ran on reserve (length lent - at) (view p) (lines (drop i sheet)) ≡ ran on reserve (length lent - at) (view q) (lines (drop (end + 1) sheet)) =
-        rw (cut h) (rw (le-ltb (length lent - at) reserve r, ← b, n, o, ← v)) in
+        let rest = ran on reserve (length lent - at) (view q) (lines (drop (end + 1) sheet)) in
+        let stopped : Ran = record { bytes = []; rest = lines (drop (end + 1) sheet); plan = view q; ended = true } in
+        let goes : ran on reserve (length lent - at) (view p) (lines (drop i sheet)) ≡ rest =
+        rw (cut h) (rw (le-ltb (length lent - at) reserve r, ← b, n, ← v) (ap (λ (y : Bool). cond y rest stopped) o)) in
         record { sized = z; long = b'; tallied = k; same = g.same; most = g.most; rest = g.rest; course = g.course ∙ ap (behind_ran (take at area)) goes }
 
     pub next_line : leb (length bytes) (length (drop at area)) ≡ true → Sized (spread q) → length q.table ≡ 256 → Tallied t' (view q)
