@@ -106,20 +106,6 @@ fn broken(p: State, l: Line, accepted: bool) -> u32 {
     0
 }
 
-// The same plan once more: a call takes the one that it is handed.
-fn copied(p: &State) -> State {
-    State {
-        head: p.head,
-        base: p.base,
-        draft: p.draft,
-        values: p.values,
-        arrived: p.arrived,
-        confirmed: p.confirmed,
-        table: p.table,
-        edits: p.edits,
-    }
-}
-
 // A title, or a call with its answer, and with the rule if it breaks one.
 fn trial(rt: &impl Print, p: State, l: Line, n: u32) -> State {
     if l.op == 0 {
@@ -127,10 +113,10 @@ fn trial(rt: &impl Print, p: State, l: Line, n: u32) -> State {
         return plan::blank();
     }
     if l.op == call::SHOW {
-        show(rt, copied(&p), l.a, n);
+        show(rt, p, l.a, n);
         return p;
     }
-    let r = call(copied(&p), l);
+    let r = call(p, l);
     let answer = r.answer;
     put(rt, b"  ");
     tell(rt, answer, &[], 0);
