@@ -1,5 +1,4 @@
 -- Every refusal that a call is given is on the agreed list (condition 1). Assumes nothing.
-use Prim.Native.Nat.{ℕ}
 use mathlib.Core.Bool.{Bool}
 use mathlib.Core.List.{List, [], ◌∷◌}
 use lib.Dec.{T}

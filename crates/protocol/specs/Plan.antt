@@ -1,5 +1,5 @@
 -- Believed: the plan (01, "The plan"): what it holds, what a change does, when it takes effect. Assumes nothing.
-use Rattle.std.specs.Prelude.{ℕ, zero, ◌+◌, Bool, false, not, cond, ◌&&◌, ◌||◌, List, [], ◌∷◌, length, eqb, ltb, ℤ, pos, ◌+ℤ◌, ◌*ℤ◌}
+use Rattle.std.specs.Prelude.{ℕ, Bool, false, not, cond, ◌&&◌, ◌||◌, List, [], ◌∷◌, length, eqb, ltb, ℤ, pos, ◌+ℤ◌, ◌*ℤ◌}
 use Rattle.std.specs.Int.Signed.{lt_z, quot_z}
 use Rattle.protocol.specs.Lists.{count_to, neg, within, count, all, any, nth, modify}
 
