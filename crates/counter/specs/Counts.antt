@@ -1,4 +1,4 @@
--- How many bytes of a buffer were filled.
+-- Scaffolding: how many bytes of a buffer were filled. Assumes nothing.
 use Rattle.std.specs.Prelude.{ℕ, List, ◌≡◌, ◌≤◌, length, take}
 
 -- The first n bytes of xs are there, and are n.

@@ -26,7 +26,7 @@ enum Reading {
     Failed,
 }
 
-// Waits for about a millisecond, or until a signal comes, so that waiting for the other end of a pipe leaves the processor free.
+// Waits for about a millisecond, so that waiting for the other end of a pipe leaves the processor free.
 fn pause(rt: &impl Clock) {
     rt.sleep(Duration::from_millis(1));
 }

@@ -197,10 +197,7 @@ fn read_text(input: &mut impl Read, text: &mut [u8]) -> usize
     ensures { result ≤ length text.new }
 {
     let mut done: usize = 0;
-    for _ in 0..u64::MAX {
-        if text.len() <= done {
-            return done;
-        }
+    while done < text.len() {
         match input.read(&mut text[done..]) {
             Ok(0) => return done,
             Ok(n) => done += n,
