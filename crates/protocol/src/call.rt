@@ -1,28 +1,35 @@
-// The numbers by which code knows the calls, in the order of 01; 0 is a line that cannot be read. specs/Numbering has the same for contracts.
-pub const MEASURE: u32 = 1;
+// The fourteen calls as the code has them (01, "The calls"), with the whole numbers that they are given. specs/Asked says which call of the definitions each is.
 
-pub const RULE: u32 = 2;
+// The numbers of an edit: whose copy, who enters it, on which edit it builds, and what it changes how.
+#[derive(Clone, Copy)]
+pub struct Edit {
+    pub side: i32,
+    pub client: i32,
+    pub after: i32,
+    pub measure: i32,
+    pub kind: i32,
+    pub constant: i32,
+}
 
-pub const OPEN: u32 = 3;
-
-pub const SPLIT: u32 = 4;
-
-pub const EDIT: u32 = 5;
-
-pub const JOIN: u32 = 6;
-
-pub const SEND: u32 = 7;
-
-pub const REPLAY: u32 = 8;
-
-pub const STOP: u32 = 9;
-
-pub const CONFIRM: u32 = 10;
-
-pub const INSTALL: u32 = 11;
-
-pub const SHOW: u32 = 12;
-
-pub const FATE: u32 = 13;
-
-pub const LEFT: u32 = 14;
+#[derive(Clone, Copy)]
+pub enum Call {
+    Measure(i32),
+    Rule {
+        lower: i32,
+        gap: i32,
+        upper: i32,
+        firm: i32,
+    },
+    Open,
+    Split(i32),
+    Edit(Edit),
+    Join,
+    Send(i32),
+    Replay(i32),
+    Stop,
+    Confirm(i32),
+    Install,
+    Show(i32),
+    Fate(i32),
+    Left,
+}

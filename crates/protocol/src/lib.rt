@@ -1,5 +1,7 @@
-// Definitions (specs/) and their proofs: the plan, its calls, the history, the trial table. There is no code here but the numbers that all code shares.
+// Definitions (specs/) and their proofs: the plan, its calls, the history, the trial table. The code here is what all code shares: the calls with their
+// numbers, why a call is refused, and the limits.
 #![tactic(auto)]
 
 pub mod call;
 pub mod limit;
+pub mod refusal;
