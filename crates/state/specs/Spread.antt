@@ -1,6 +1,6 @@
 -- Scaffolding: a state with its table of rules read as four lists, over which the laws of the calls are stated. Its plan is the state's own, by definition.
 -- Assumes nothing.
-use Rattle.std.specs.Prelude.{ℕ, min, ◌≡◌, Bool, true, false, List, ℤ, get_or}
+use Rattle.std.specs.Prelude.{ℕ, min, ◌≡◌, Bool, false, List, ℤ, get_or, is_ok}
 use Rattle.protocol.specs.Plan as model
 use Rattle.protocol.specs.Calls.{Call, step}
 use Rattle.protocol.specs.Plan.{measure_limit, rule_limit}
@@ -11,9 +11,8 @@ use Rattle.heads.specs.Heads.{mode_of, sides_in, index_of, offset_of, measures_i
 use Rattle.records.specs.declared.EditRecord.{EditRecord}
 use Rattle.records.specs.Records.{kept_of, no_record, record_of}
 use Rattle.state.specs.declared.State.{State}
-use Rattle.state.specs.declared.Answer.{Answer}
-use Rattle.state.specs.declared.Answer.TheVariants.{Refused, Given}
-use Rattle.state.specs.Meets.{answer_of, refusal, IfRefused}
+use Rattle.protocol.specs.declared.refusal.Refusal.{Refusal}
+use Rattle.state.specs.Meets.{Answer, answer_of, refusal, IfRefused}
 
 pub record Spread : Type 0 where
   pub head : Head
@@ -79,11 +78,10 @@ pub record SpreadAnswered : Type 0 where
   pub answer : Answer
 
 abbrev pub is_accepted : Answer → Bool
-is_accepted (Refused k r) = false
-is_accepted (Given count a b c) = true
+is_accepted a = is_ok a
 
-abbrev pub refused_as : Spread → ℕ → SpreadAnswered
-refused_as p k = record { state = p; answer = refusal k }
+abbrev pub refused_as : Spread → Refusal → SpreadAnswered
+refused_as p r = record { state = p; answer = refusal r }
 
 abbrev pub SameIfRefused : Answer → Spread → Spread → Type 0
 SameIfRefused a p q = IfRefused a (q ≡ p)
