@@ -10,7 +10,7 @@ ghost use Rattle.heads.specs.Heads.{mode_of, in_mode, sides_in, offset_of, index
 use protocol::limit;
 
 // 01's modes.
-#[derive(Clone, Copy)]
+#[derive(Clone, Copy, PartialEq, Eq)]
 pub enum Mode {
     Blank,
     Whole,
