@@ -86,7 +86,7 @@ impl Tallies {
     fn note_join(&mut self, h: &Head)
         ensures { self.new ≡ begun (sides_in h.now) (kept_in h.now) self.old }
     {
-        let sides = heads::side_count(*h) as u32;
+        let sides = h.side_count() as u32;
         self.left = 2 * sides + unsettled(h, self.settled) + 2;
         self.missing = sides;
     }

@@ -41,19 +41,6 @@ pub struct Head {
     pub drafted: u32,
 }
 
-// The blank plan's.
-pub const BLANK: Head = Head {
-    mode: Mode::Blank,
-    measures: 0,
-    rules: 0,
-    added: 0,
-    kept: 0,
-    next: 1,
-    mark: 1,
-    based: 0,
-    drafted: 0,
-};
-
 impl Head {
     // A blank or whole plan has one side.
     fn is_single(&self) -> bool
