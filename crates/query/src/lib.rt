@@ -1,15 +1,15 @@
 // The calls that only read (01, "The calls"): show, fate, left; and the counts of the kept edits.
 #![tactic(auto)]
 
-ghost use Rattle.std.specs.Prelude.{◌≤◌, min, ◌+◌, length, drop, ◌++◌, ◌≡◌, IfOk, IsOk};
+ghost use Rattle.std.specs.Prelude.{cond, ◌≤◌, min, ◌+◌, length, drop, ◌++◌, ◌≡◌, IfOk, IsOk};
 ghost use Rattle.counts.specs.Tallies.{Tallied};
-ghost use Rattle.heads.specs.Heads.{sides_in, seat};
+ghost use Rattle.heads.specs.Heads.{mode_of};
 ghost use Rattle.protocol.specs.Asked.{verdict_of};
-ghost use Rattle.protocol.specs.Calls.{first, shown, step, fate_of_edit, left};
+ghost use Rattle.protocol.specs.Calls.{first, shown, step, fate_of_edit, fate_in, left, ok};
 ghost use Rattle.protocol.specs.Lists.{natural};
-ghost use Rattle.protocol.specs.Plan.{measure_limit};
+ghost use Rattle.protocol.specs.Plan.{active, measure_limit};
 ghost use Rattle.query.specs.Reads.{fate_answer, show_checks, pending_in, unsent_counts, left_number};
-ghost use Rattle.records.specs.Records.{found_at};
+ghost use Rattle.records.specs.Records.{kept_of};
 ghost use Rattle.rows.specs.Rows.{row};
 ghost use Rattle.state.specs.Meets.{answer_of};
 ghost use Rattle.state.specs.View.{view};
@@ -25,7 +25,7 @@ use state::{Answer, Given, State};
 
 // The fate and place of an edit; 0 0 if it is not kept.
 fn fate_answer(seen: Option<EditRecord>) -> Answer
-    ensures { result ≡ fate_answer seen }
+    ensures { (result ≡ fate_answer seen) × IsOk result }
 {
     Ok(match seen {
         Some(e) => Given::Two(e.fate.number(), e.place),
@@ -33,10 +33,18 @@ fn fate_answer(seen: Option<EditRecord>) -> Answer
     })
 }
 
+// Of the edit that a call's number names.
+fn fate_of(edits: &[EditRecord; limit::EDITS], h: &Head, n: i32) -> Answer
+    ensures { (answer_of result ≡ ok (fate_in (natural n) (kept_of h.now edits.now))) × IsOk result }
+{
+    fate_answer(records::find(edits, h.named(n)))
+}
+
+#[tactic(auto, unfolding(protocol::specs::Calls::step, protocol::specs::Calls::checks, protocol::specs::Calls::further, protocol::specs::Calls::gives))]
 pub fn fate(p: &State, n: i32) -> Answer
     ensures { (answer_of result ≡ (step (fate_of_edit n) (view p.now)).answer) × IsOk result }
 {
-    fate_answer(records::find(&p.edits, p.head.named(n)))
+    fate_of(&p.edits, &p.head, n)
 }
 
 // ---- left
@@ -68,15 +76,18 @@ fn left_number(p: &State, unsent: &[u32; limit::SIDES], unsettled: u32) -> u32
         + 1
 }
 
+// There are steps left only while a join is under way.
+fn steps_left(mode: Mode, left: u32) -> u32
+    ensures { result ≡ cond (active (mode_of mode)) left 0 }
+{
+    if mode.is_active() { left } else { 0 }
+}
+
 // From the number left that is kept beside the state.
 pub fn left(p: &State, counts: &Tallies) -> Answer
     ensures { (Tallied counts.now (view p.now) → answer_of result ≡ (step left (view p.now)).answer) × IsOk result }
 {
-    Ok(Given::One(if p.head.mode.is_active() {
-        counts.left
-    } else {
-        0
-    }))
+    Ok(Given::One(steps_left(p.head.mode, counts.left)))
 }
 
 // How many edits each side has unsent.

@@ -1,0 +1,13 @@
+use Prim.Native.Nat.{min}
+use mathlib.Core.Path.{ap, ◌∙◌}
+use Rattle.state.specs.Spread.{spread}
+use Rattle.query.specs.Reads.{left_number}
+use Rattle.query.proofs.Readings.{tallies_right}
+use Rattle.query.proofs.tallies.Goals as goal
+
+pub returns : goal.returns
+returns c =
+    let p = c.args.p.now in
+    tallies_right (spread p) _ c.unsent_counts-unsent.ensures c.count-waiting.ensures.0 c.count-settled.ensures.0
+    (c.left_number.ensures ∙ ap (λ k. left_number p.head p.arrived p.confirmed c.unsent_counts-unsent.result (min k 256)) c.unsettled-unsettled.ensures.0)
+    c.unset.ensures.0
