@@ -3,14 +3,13 @@ use Prim.Native.Nat.{ℕ, zero, suc, ◌+◌, ◌-◌, ◌*◌, ◌<◌, ◌≤�
 use native.Mathlib.Omega.{arith}
 use mathlib.Core.Bool.{Bool, true, false, ◌&&◌, ◌||◌, and-false}
 use mathlib.Core.Path.{◌≡◌, refl, sym, ap, ap₂, ◌∙◌, subst}
-use mathlib.Core.Logic.{◌≢◌}
-use mathlib.Core.List.{List, [], ◌∷◌, map}
+use mathlib.Core.List.{List, [], map}
 use borrow.Author.Tests.{eqb-true, ne_eqb, ltb-true, ltb-false}
 use lib.Dec.{eqb, ltb}
 use native.Mathlib.Numerals.{add-one}
-use lib.IntN.{ℤ, pos}
+use lib.IntN.{ℤ}
 use lib.ListN.{length, get_or, set, replicate, length-set}
-use Rattle.protocol.specs.Lists.{bit, natural, one_to, count_to, count, any, snoc, passing}
+use Rattle.protocol.specs.Lists.{bit, one_to, count_to, count, any, snoc, passing}
 use Rattle.protocol.proofs.Laws.{cases, in_range_lem, yes_is, is-no, count-snoc, count_to-none}
 use Rattle.rows.specs.Rows.{span}
 use Rattle.rows.proofs.Spans.{Counted, count_begin, count_next, count-over, span_same, span-snoc, get_d_set, get_or-other}

@@ -5,9 +5,9 @@ use mathlib.Core.Bool.{Bool, true, false, cond, and-false}
 use mathlib.Core.Path.{◌≡◌, refl, sym, ap, ap₂, ◌∙◌}
 use mathlib.Core.Logic.{◌≢◌}
 use mathlib.Core.List.{List, [], ◌∷◌, map, reverse}
-use borrow.Author.Tests.{eqb-true, eqb-false, eq-eqb, ne_eqb, leb-true, le-leb}
+use borrow.Author.Tests.{eqb-true, eqb-false, ne_eqb, leb-true, le-leb}
 use lib.Dec.{eqb, ltb, leb}
-use lib.IntN.{ℤ, pos, negsuc, ◌+ℤ◌}
+use lib.IntN.{ℤ, pos, ◌+ℤ◌}
 use lib.ListN.{length, get_or, take}
 use lib.Seq.{take_all}
 use lib.Signed.{lt_z}
@@ -51,10 +51,6 @@ module _ {A B : Type 0} (f : A → B) where
 -- ---- a rule at a measure that it names
 
 module _ (a b m : ℕ) where
-  pub names-lower : a ≡ m → names_pair a b m ≡ true
-  unfolding names_pair
-  names-lower e = rw (eq-eqb _ _ e)
-
   pub names-upper : a ≢ m → names_pair a b m ≡ eqb b m
   unfolding names_pair
   names-upper ne = rw (ne_eqb _ _ ne)

@@ -1,4 +1,4 @@
-// The rules of a plan as one table of numbers, an index from each measure to the rules that name it, and their test on a row of values.
+// The rules of a plan in a table, an index from each measure to the rules that name it, and their test on a row of values.
 // Everything is lent.
 #![tactic(auto)]
 
@@ -113,13 +113,13 @@ fn value_with(row: &[i32], m: u32, x: i32, k: u32) -> i32
 fn less_by(low: i32, g: i32, high: i32) -> bool
     ensures { result ≡ lt_z (low +ℤ g) high }
 {
-    exact::sum(low, g) < high as i64
+    exact::sum(low, g) < i64::from(high)
 }
 
 // ---- the index: which rules name a measure
 
 // Where the other measure of a rule stands that names measure m: above it, where m is the rule's lower measure, or below it. The place is from 0, 32 for none of 32
-// measures and 33 for m itself.
+// measures and 33 for m itself: numbers, so that one test, of the row's length, tells both from the row's places.
 #[derive(Clone, Copy)]
 pub enum Other {
     Above(u8),
@@ -134,28 +134,38 @@ pub struct Naming {
     gap: i32,
 }
 
+const NOWHERE: u8 = 32;
+
+const OWN: u8 = 33;
+
 const NO_NAMING: Naming = Naming {
     rule: 0,
     other: Other::Above(0),
     gap: 0,
 };
 
+const FLAGS: usize = limit::MEASURES + 1;
+
+const ENDS: usize = FLAGS + 1;
+
+const NAMINGS: usize = 2 * limit::RULES;
+
 // For measures from 1 to 32: at m where its namings begin, at m + 1 where they end; whether a firm rule names it; and the namings, those of a measure in the order
 // of the rules. A rule has two namings at most.
 #[derive(Clone, Copy)]
 pub struct Index {
     made: bool,
-    ends: [u8; 34],
-    firm: [bool; 33],
-    namings: [Naming; 128],
+    ends: [u8; ENDS],
+    firm: [bool; FLAGS],
+    namings: [Naming; NAMINGS],
 }
 
 // The index that says nothing: it was not made. A constant, so that it is set up at once.
 pub const NO_INDEX: Index = Index {
     made: false,
-    ends: [0; 34],
-    firm: [false; 33],
-    namings: [NO_NAMING; 128],
+    ends: [0; ENDS],
+    firm: [false; FLAGS],
+    namings: [NO_NAMING; NAMINGS],
 };
 
 impl Index {
@@ -191,7 +201,7 @@ impl Index {
         let top = highest(table, rules);
         let mut index = NO_INDEX;
         let mut n: usize = 0;
-        for m in 1..33usize {
+        for m in 1..FLAGS {
             let measure = m as u32;
             n = add_namings(&mut index.namings, table, rules, top, measure, n);
             index.ends[m + 1] = n as u8;
@@ -207,12 +217,12 @@ fn place_of(k: u32, m: u32) -> u8
     ensures { result ≡ place_of m k }
 {
     if k == m {
-        return 33;
+        return OWN;
     }
     if rows::one_to(limit::MEASURES, k) {
         return (k - 1) as u8;
     }
-    32
+    NOWHERE
 }
 
 // A number that no measure of the first rules is above.
@@ -226,7 +236,14 @@ fn highest(table: &Table, end: usize) -> u32
 }
 
 // Puts the namings of measure m among the first rules, none of which names one above `top`, behind the n that there are, and gives how many there are then.
-fn add_namings(namings: &mut [Naming; 128], table: &Table, end: usize, top: u32, m: u32, n: usize) -> usize
+fn add_namings(
+    namings: &mut [Naming; NAMINGS],
+    table: &Table,
+    end: usize,
+    top: u32,
+    m: u32,
+    n: usize,
+) -> usize
     requires { (length namings.old ≡ 128) × (end ≤ 64) × NoneAbove (lowers table.now) (uppers table.now) end top ×
         (n + count (names_at (lowers table.now) (uppers table.now) m) (span 0 end (λ i. i)) ≤ 128) }
     ensures { Added (lowers table.now) (gaps table.now) (uppers table.now) end m n result namings.old namings.new }
@@ -235,8 +252,7 @@ fn add_namings(namings: &mut [Naming; 128], table: &Table, end: usize, top: u32,
         return n;
     }
     let mut next = n;
-    for i in 0..end {
-        let rule = &table[i];
+    for (i, rule) in table[..end].iter().enumerate() {
         if rule.names(m) {
             namings[next] = Naming {
                 rule: i as u8,
@@ -262,7 +278,7 @@ fn listed(m: u32) -> usize
 fn far_limit(p: u8, z: i64) -> i64
     ensures { result ≡ cond (eqb p 33) (pos 0) z }
 {
-    if p == 33 { 0 } else { z }
+    if p == OWN { 0 } else { z }
 }
 
 // Whether a rule holds that names a measure, which counts as y: from its other measure and its gap, as the index has them, on a row. Nearly all tests are made
@@ -294,7 +310,7 @@ pub fn broken_by_index<'a>(index: &'a Index, lent: &'a [i32], m: u32, x: i32) ->
     let y = value_with(row, m, x, m);
     let p = listed(m);
     let first = usize::from(index.ends[p]);
-    let last = usize::from(index.ends[p + 1]).min(128);
+    let last = usize::from(index.ends[p + 1]).min(NAMINGS);
     for k in (first..last).rev() {
         let naming = &index.namings[k];
         if !naming_holds(row, y, naming) {
@@ -336,7 +352,11 @@ pub fn broken<const N: usize>(
     let vs = &values[..];
     let end = at.saturating_add(rows::capped(n, limit::MEASURES)).min(N);
     let row = &vs[at.min(end)..end];
-    if sound { broken_by_index(index, row, m, x) } else { broken_of_all(table, k, row, m, x) }
+    if sound {
+        broken_by_index(index, row, m, x)
+    } else {
+        broken_of_all(table, k, row, m, x)
+    }
 }
 
 // ---- firm rules
@@ -362,5 +382,9 @@ fn firm_below(table: &Table, k: u32, top: u32, m: u32) -> bool
 pub fn firm_in<'a>(table: &'a Table, k: u32, index: &'a Index, m: u32, sound: bool) -> bool
     ensures { result ≡ firm_by sound index.now (lowers table.now) (uppers table.now) (firms table.now) (min k 64) m }
 {
-    if sound { index.firm[listed(m)] } else { firm_named(table, k, m) }
+    if sound {
+        index.firm[listed(m)]
+    } else {
+        firm_named(table, k, m)
+    }
 }

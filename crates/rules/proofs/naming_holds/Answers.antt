@@ -11,8 +11,6 @@ use mir.Val.{to_z, of_z}
 use mir.Facts.{to_z-of_z}
 use Rattle.std.proofs.Common.{rules}
 use Rattle.exact.proofs.Ints.{fits64}
-use Rattle.protocol.specs.Plan.{value}
-use Rattle.rules.specs.Index.{other_at}
 use Rattle.rules.proofs.Namings.{near_is, far_is}
 use Rattle.rules.proofs.Limits.{far_upper, far_lower, minus-fits}
 use Rattle.rules.proofs.naming_holds.Goals as goal

@@ -1,11 +1,8 @@
-use Prim.Native.Nat.{◌<◌, ◌≤◌, min}
+use Prim.Native.Nat.{min}
 use native.Mathlib.Omega.{arith}
 use mathlib.Core.Bool.{true}
 use mathlib.Core.Path.{refl, sym, ap, subst, ◌∙◌}
-use lib.IntN.{pos}
 use lib.ListN.{take}
-use mir.Facts.{to_z-of_z}
-use Rattle.exact.proofs.Ints.{fits32}
 use Rattle.rules.specs.Table.{lowers, gaps, uppers, firms, top_of}
 use Rattle.rules.specs.Rules.{firm_in}
 use Rattle.rules.specs.Index.{is_made, NoneAbove, Indexed}
