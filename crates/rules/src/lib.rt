@@ -225,7 +225,7 @@ fn place_of(k: u32, m: u32) -> u8
     NOWHERE
 }
 
-// A number that no measure of the first rules is above.
+// The highest measure that the first rules name; 0 if there are none.
 fn highest(table: &Table, end: usize) -> u32
     requires { end ≤ 64 }
     ensures { result ≡ top_of (take end table.now) }
@@ -301,9 +301,9 @@ fn naming_holds(row: &[i32], y: i32, naming: &Naming) -> bool
 }
 
 // The number of a broken rule among those that the index has for measure m, which counts as x, on a row of which the first 32 count: the first, last drawn first
-// (02, S-3). Any namings may stand there; with the rules' own index (`Indexed`) these are the rules that name m, so that where all held
-// before the number is that of `broken_of_all`. It stays so short that a compiler puts it into both its callers, which choose by what they know of the rules.
-pub fn broken_by_index<'a>(index: &'a Index, lent: &'a [i32], m: u32, x: i32) -> Option<u32>
+// (02, S-3). Any namings may stand there; with the rules' own index (`Indexed`) these are the rules that name m, so that where all held before the number is that of
+// `broken_of_all`. It stays so short that a compiler puts it into each instance of `broken`.
+pub fn broken_by_index(index: &Index, lent: &[i32], m: u32, x: i32) -> Option<u32>
     ensures { result ≡ numbered (indexed_in index.now m x (take 32 lent.now)) }
 {
     let row = &lent[..lent.len().min(limit::MEASURES)];
@@ -321,7 +321,7 @@ pub fn broken_by_index<'a>(index: &'a Index, lent: &'a [i32], m: u32, x: i32) ->
 }
 
 // The number of a broken rule among the first k, on a row where measure m counts as x: the first, last drawn first (02, S-3).
-pub fn broken_of_all<'a>(table: &'a Table, k: u32, row: &'a [i32], m: u32, x: i32) -> Option<u32>
+pub fn broken_of_all(table: &Table, k: u32, row: &[i32], m: u32, x: i32) -> Option<u32>
     ensures { result ≡ numbered (tested_in false m (lowers table.now) (gaps table.now) (uppers table.now) (min k 64) x row.now) }
 {
     for i in (0..rows::capped(k, limit::RULES)).rev() {
@@ -379,7 +379,7 @@ fn firm_below(table: &Table, k: u32, top: u32, m: u32) -> bool
 }
 
 // The same from an index that a caller lends, where it knows that all rules hold (`sound`): the rules' own (`Indexed`) says the same.
-pub fn firm_in<'a>(table: &'a Table, k: u32, index: &'a Index, m: u32, sound: bool) -> bool
+pub fn firm_in(table: &Table, k: u32, index: &Index, m: u32, sound: bool) -> bool
     ensures { result ≡ firm_by sound index.now (lowers table.now) (uppers table.now) (firms table.now) (min k 64) m }
 {
     if sound {
