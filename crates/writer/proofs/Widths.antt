@@ -4,7 +4,7 @@ use Rattle.std.proofs.Math.ListN.{drop_of_length-le}
 use Rattle.std.specs.Int.Signed.{lt_z, mag}
 use borrow.Author.Tests.{ltb-true, leb-true, leb-false, le-leb, lt-leb}
 use mir.Syntax.{w32}
-use mir.Val.{bool_byte, to_z, of_z}
+use mir.Val.{SFits, bool_byte, to_z, of_z}
 use Rattle.std.proofs.Math.Facts.{to_z-of_z}
 use Rattle.protocol.proofs.Laws.{cases}
 use Rattle.format.specs.Sheets.{spaced}
@@ -29,6 +29,17 @@ written_length x = cases (lt_z x (pos 0))
   where
     one-add : (n : ℕ) → suc n ≡ 1 + n
     one-add n = omega arith
+
+-- the same of a number as the code holds it
+module _ (x : ℤ) (size : ℕ) (h : SFits w32 x) (e : size ≡ nat_abs (to_z w32 (of_z w32 x))) where
+  pub length_read : length (written x) ≡ bool_byte (lt_z (to_z w32 (of_z w32 x)) (pos 0)) + length (digits size)
+  length_read = let r = to_z-of_z h in rw e (rw r (written_length x))
+
+  pub minus_read : lt_z (to_z w32 (of_z w32 x)) (pos 0) ≡ true → written x ≡ minus ∷ digits size
+  minus_read t = let r = to_z-of_z h in rw e (rw r (written-minus x (rw r at t)))
+
+  pub plain_read : lt_z (to_z w32 (of_z w32 x)) (pos 0) ≡ false → written x ≡ digits size
+  plain_read t = let r = to_z-of_z h in rw e (rw r (written-plain x (rw r at t)))
 
 -- ---- a row from one of its values on
 

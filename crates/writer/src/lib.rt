@@ -81,21 +81,24 @@ fn put_digits(n: u32, at: usize, area: &mut [u8]) -> usize
     end
 }
 
+#[tactic(auto, using(crate::proofs::Widths::length_read))]
 fn signed_width(x: i32) -> usize
     ensures { (result ≡ length (written x)) × (result ≤ 11) }
 {
     usize::from(x < 0) + width(x.unsigned_abs())
 }
 
+#[tactic(auto, using(crate::proofs::Widths::minus_read, crate::proofs::Widths::plain_read, crate::proofs::Writes::sets_more))]
 fn put_signed(x: i32, at: usize, area: &mut [u8]) -> usize
     requires { at + length (written x) ≤ length area.old }
     ensures { (area.new ≡ sets area.old at (written x)) × (result ≡ at + length (written x)) }
 {
+    let size = x.unsigned_abs();
     if x < 0 {
         area[at] = b'-';
-        return put_digits(x.unsigned_abs(), at + 1, area);
+        return put_digits(size, at + 1, area);
     }
-    put_digits(x.unsigned_abs(), at, area)
+    put_digits(size, at, area)
 }
 
 // ---- a row
@@ -229,6 +232,7 @@ fn put_unreadable(area: &mut [u8]) -> Option<usize>
 
 // Numbers alone. No number is told as 0. One number, as nearly all answers have, has a call of its own for speed alone: in it their count is known when
 // the code is compiled.
+#[tactic(auto, using(crate::proofs::Parts::line_nothing, crate::proofs::Parts::line_alone))]
 fn put_alone(given: Given, area: &mut [u8]) -> Option<usize>
     ensures { (area.new ≡ put_in (line_of (Ok given) []) area.old) × (result ≡ put_count (line_of (Ok given) []) area.old) }
 {
@@ -241,6 +245,7 @@ fn put_alone(given: Given, area: &mut [u8]) -> Option<usize>
 
 // The line of an answer whose numbers are its own and those of a row behind them, put into the front of an area that has room for it.
 // Gives the line's length; where it does not fit there is none, and the area is left as it was. A refusal has one number, and no row behind.
+#[tactic(auto, using(crate::proofs::Parts::line_refused, crate::proofs::Parts::line_unreadable, crate::proofs::Parts::line_behind))]
 pub fn put(answer: Answer, row: &[i32], area: &mut [u8]) -> Option<usize>
     ensures { (area.new ≡ put_in (line_of answer row.now) area.old) × (result ≡ put_count (line_of answer row.now) area.old) }
 {
