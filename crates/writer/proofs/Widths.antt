@@ -98,6 +98,3 @@ module _ (row : List ℤ) (room left i : ℕ) (r : Fitting row room left i) wher
   fitting_over h =
       let e : length (spaced (drop i row)) ≡ 0 = ap length (rest-none row i h) in
       sym (r ∙ le-leb (length (spaced (drop i row))) left (omega arith))
-
-pub sign_most : (x : ℤ) → bool_byte (lt_z x (pos 0)) ≤ 1
-sign_most x = cases (lt_z x (pos 0)) (λ t. rw t (omega arith)) (λ t. rw t (omega arith))
