@@ -24,10 +24,10 @@ use state::{Answer, Given, State};
 fn split_check(h: &Head, s: u32) -> Result<(), Refusal>
     ensures { verdict_of result ≡ first (split_checks h.now s) }
 {
-    if h.mode != Mode::Whole && h.mode != Mode::Split {
+    if !matches!(h.mode, Mode::Whole | Mode::Split) {
         return Err(Refusal::WrongMode);
     }
-    let sides = heads::side_count(*h);
+    let sides = h.side_count();
     if !rows::one_to(sides, s) {
         return Err(Refusal::NoSuchSide);
     }
@@ -41,10 +41,10 @@ fn split_check(h: &Head, s: u32) -> Result<(), Refusal>
 fn send_check(h: &Head, s: u32, arrived: bool, unsent: u32) -> Result<(), Refusal>
     ensures { verdict_of result ≡ first (send_checks h.now s arrived unsent) }
 {
-    if !heads::is_active(h.mode) {
+    if !h.mode.is_active() {
         return Err(Refusal::WrongMode);
     }
-    if !rows::one_to(heads::side_count(*h), s) {
+    if !rows::one_to(h.side_count(), s) {
         return Err(Refusal::NoSuchSide);
     }
     if arrived && unsent == 0 {
@@ -76,7 +76,7 @@ fn confirm_check(h: &Head, s: u32, confirmed: bool, unsent: u32) -> Result<(), R
     if h.mode != Mode::Closing {
         return Err(Refusal::WrongMode);
     }
-    if !rows::one_to(heads::side_count(*h), s) {
+    if !rows::one_to(h.side_count(), s) {
         return Err(Refusal::NoSuchSide);
     }
     if confirmed {
@@ -104,13 +104,14 @@ fn copy_row(values: &mut [i32; limit::VALUES], from: usize, to: usize)
 fn sent(e: EditRecord, s: u32) -> EditRecord
     ensures { (n : ℕ) → kept_at n result ≡ mark_sent s (kept_at n e) }
 {
-    if records::satisfies(e, Test::UnsentOf(s)) == 0 {
-        return e;
-    }
-    EditRecord {
-        fate: Fate::Waiting,
-        replied: true,
-        ..e
+    if e.passes(Test::UnsentOf(s)) {
+        EditRecord {
+            fate: Fate::Waiting,
+            replied: true,
+            ..e
+        }
+    } else {
+        e
     }
 }
 
@@ -143,7 +144,7 @@ pub fn split(p: &mut State, s: i32) -> Answer
 {
     let from = exact::number(s);
     split_check(&p.head, from)?;
-    let sides = heads::side_count(p.head) as u32;
+    let sides = p.head.side_count() as u32;
     let to = sides + 1;
     begin(p);
     p.head.mode = Mode::Split;
@@ -187,7 +188,7 @@ pub fn stop(p: &mut State, waiting: u32) -> Answer
     ensures step { Waiting p.old waiting → Makes stop p.old result p.new }
     ensures rules { SameRules p.old p.new }
 {
-    let missing = heads::unset(&p.arrived, p.head);
+    let missing = p.head.unset(&p.arrived);
     turn_check(&p.head, Mode::Joining, Refusal::LogMissing, missing, waiting)?;
     p.head.mode = Mode::Closing;
     Ok(Given::Nothing)
@@ -209,7 +210,7 @@ pub fn install(p: &mut State, waiting: u32) -> Answer
     ensures step { Waiting p.old waiting → Makes install p.old result p.new }
     ensures rules { SameRules p.old p.new }
 {
-    let missing = heads::unset(&p.confirmed, p.head);
+    let missing = p.head.unset(&p.confirmed);
     turn_check(&p.head, Mode::Closing, Refusal::Unconfirmed, missing, waiting)?;
     p.head.mode = Mode::Whole;
     p.head.measures = p.head.drafted;
