@@ -18,16 +18,15 @@ use Rattle.records.specs.declared.EditRecord.{EditRecord}
 use Rattle.heads.specs.declared.Head.{Head}
 use Rattle.heads.specs.declared.Mode.TheVariants.{Closing}
 use Rattle.state.specs.Spread.{Spread}
-use Rattle.heads.specs.Heads.{mode_of, sides_in, kept_in, index_of, unset_in, in_mode}
+use Rattle.heads.specs.Heads.{mode_of, sides_in, index_of, unset_in, in_mode}
 use Rattle.records.specs.Records.{kept_of}
 use Rattle.state.specs.Spread.{plan_of, side_of}
 use Rattle.state.specs.Meets.{done, number}
 use Rattle.state.specs.Spread.{MeetsSpread}
 use Rattle.state.proofs.View.{plan-same, sides_most, sides-length, side_at_lem, sides-modify, flags_unset}
 use Rattle.state.proofs.Steps.{accepts, stored, flag_set, flag_other}
-use Rattle.moves.specs.Moves.{send_checks, turn_checks, confirm_checks, Marked, install_head}
+use Rattle.moves.specs.Moves.{send_checks, turn_checks, confirm_checks, install_head}
 use Rattle.moves.proofs.Makes.{Checked}
-use Rattle.moves.proofs.Sends.{marked-over}
 
 -- ---- the checks of each call
 
@@ -160,14 +159,14 @@ confirm-accepts p s w k l e =
     refl)
     tt)
 
-pub send-accepts : (p : Spread) (s : ℤ) {side i n j : ℕ} {found : List Check} → Named p s side i n → Checked (send s) p (sending p s) found → (es : List EditRecord) → Marked side p.edits es j
-    → j ≡ kept_in p.head → length p.arrived ≡ 8 → fine ≡ first found
+pub send-accepts : (p : Spread) (s : ℤ) {side i n : ℕ} {found : List Check} → Named p s side i n → Checked (send s) p (sending p s) found → (es : List EditRecord) → kept_of p.head es ≡ map
+    (mark_sent side) (kept_of p.head p.edits) → length p.arrived ≡ 8 → fine ≡ first found
     → MeetsSpread (send s) p (record { state = stored p p.head p.base p.draft p.values (set p.arrived i true) p.confirmed es; answer = number n })
 unfolding after gives
-send-accepts p s {side = side} {j = j} w k es m f l e =
+send-accepts p s w k es m l e =
     rw (at_place w) (accepts (sending p s) _ k.same (sym (e ∙ k.finds))
     (λ t. ap (λ x. ok (pos x ∷ [])) (w.unsent t.1.0))
     (λ t. plan-same refl refl refl refl refl
     (flag_sides p.head (natural s) p.arrived (λ x b. record { values = (side_of p x).values; arrived = b; confirmed = (side_of p x).confirmed }) has_arrived t.1.0 l (λ x b. refl))
-    (marked-over side p.head p.edits es j (omega (arith, f)) m ∙ ap (λ x. map (mark_sent x) (kept_of p.head p.edits)) w.number))
+    (m ∙ ap (λ x. map (mark_sent x) (kept_of p.head p.edits)) w.number))
     tt)

@@ -1,8 +1,8 @@
 -- Scaffolding: the checks of the calls that part a plan and join it again, the heads that they leave, what a sent edit's side leaves of the kept edits, and
 -- what is known of a plan beside it. Assumes nothing.
-use Rattle.std.specs.Prelude.{ℕ, ◌<◌, ◌≤◌, Bool, not, cond, ◌||◌, List, [], ◌∷◌, eqb, ltb, length, get_or, T, ◌≡◌, ℤ}
+use Rattle.std.specs.Prelude.{ℕ, ◌<◌, ◌≤◌, Bool, not, cond, ◌||◌, List, [], ◌∷◌, eqb, ltb, get_or, T, ◌≡◌, ℤ}
 use Rattle.protocol.specs.Lists.{count, is_none, one_to}
-use Rattle.protocol.specs.Plan.{whole, split, closing, mode_number, is, active, is_waiting, unsent_of, kept_limit, side_limit, measure_limit}
+use Rattle.protocol.specs.Plan.{whole, split, closing, mode_number, is, active, is_waiting, unsent_of, side_limit, measure_limit}
 use Rattle.protocol.specs.Calls.{Check, ◌unless◌, ◌when◌, mark_sent}
 use Rattle.rows.specs.Rows.{copied_in}
 use Rattle.heads.specs.declared.Head.{Head}
@@ -47,7 +47,6 @@ confirm_checks h s confirmed unsent =
 
 -- The first i kept edits are sent where they are unsent and side s's; the rest are as before.
 pub record Marked (s : ℕ) (before next : List EditRecord) (i : ℕ) : Type 0 where
-  pub size : length next ≡ kept_limit
   pub done : (j : ℕ) → j < i → (n : ℕ) → kept_at n (get_or next j no_record) ≡ mark_sent s (kept_at n (get_or before j no_record))
   pub rest : (j : ℕ) → i ≤ j → get_or next j no_record ≡ get_or before j no_record
 

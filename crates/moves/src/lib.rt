@@ -2,14 +2,14 @@
 // place. How many edits a side has unsent and how many wait, the plan's owner counts.
 #![tactic(auto)]
 
-ghost use Rattle.std.specs.Prelude.{◌≤◌, ℕ, length, ◌≡◌};
+ghost use Rattle.std.specs.Prelude.{◌≤◌, map, length, ◌≡◌};
 ghost use Rattle.heads.specs.Heads.{mode_of};
-ghost use Rattle.moves.specs.Moves.{split_checks, send_checks, turn_checks, confirm_checks, first_head, split_base, Marked, SameRules, Waiting, Unsent};
+ghost use Rattle.moves.specs.Moves.{split_checks, send_checks, turn_checks, confirm_checks, first_head, split_base, SameRules, Waiting, Unsent};
 ghost use Rattle.protocol.specs.Asked.{number_of, verdict_of};
 ghost use Rattle.protocol.specs.Calls.{split-side, join, send, first, mark_sent, stop, confirm, install};
 ghost use Rattle.protocol.specs.Lists.{natural};
 ghost use Rattle.protocol.specs.Plan.{mode_number};
-ghost use Rattle.records.specs.Records.{kept_at};
+ghost use Rattle.records.specs.Records.{kept_of};
 ghost use Rattle.rows.specs.Rows.{copied_in};
 ghost use Rattle.state.specs.Meets.{Makes};
 
@@ -100,28 +100,16 @@ fn copy_row(values: &mut [i32; limit::VALUES], from: usize, to: usize)
     rows::copy(values, &row, 0, to, limit::MEASURES);
 }
 
-// An unsent edit of a side is sent; another stays as it is.
-fn sent(e: EditRecord, s: u32) -> EditRecord
-    ensures { (n : ℕ) → kept_at n result ≡ mark_sent s (kept_at n e) }
+// A side's unsent edits are sent; the others stay as they are.
+fn mark(edits: &mut [EditRecord; limit::EDITS], h: &Head, s: u32)
+    ensures { kept_of h.now edits.new ≡ map (mark_sent s) (kept_of h.now edits.old) }
 {
-    if e.passes(Test::UnsentOf(s)) {
-        EditRecord {
-            fate: Fate::Waiting,
-            replied: true,
-            ..e
+    let kept = rows::capped(h.kept, limit::EDITS);
+    for e in &mut edits[..kept] {
+        if e.passes(Test::UnsentOf(s)) {
+            e.fate = Fate::Waiting;
+            e.replied = true;
         }
-    } else {
-        e
-    }
-}
-
-// The first kept edits are sent where they are unsent and a side's.
-fn mark(edits: &mut [EditRecord; limit::EDITS], kept: usize, s: u32)
-    requires { kept ≤ 256 }
-    ensures { Marked s edits.old edits.new kept }
-{
-    for i in 0..kept {
-        edits[i] = sent(edits[i], s);
     }
 }
 
@@ -178,8 +166,7 @@ pub fn send(p: &mut State, s: i32, unsent: u32) -> Answer
     let side = exact::number(s);
     let place = heads::index(side);
     send_check(&p.head, side, p.arrived[place], unsent)?;
-    let kept = rows::capped(p.head.kept, limit::EDITS);
-    mark(&mut p.edits, kept, side);
+    mark(&mut p.edits, &p.head, side);
     p.arrived[place] = true;
     Ok(Given::One(unsent))
 }

@@ -5,12 +5,8 @@ use Rattle.protocol.specs.Lists.{natural}
 use Rattle.state.specs.Spread.{spread}
 use Rattle.moves.proofs.Makes.{refused_by, accepted_by}
 use Rattle.moves.proofs.Moves.{Named, confirm_checked, confirm-accepts}
-use Rattle.moves.specs.Moves.{Unsent}
 use Rattle.moves.proofs.confirm.Goals.{After-confirm_check}
 use Rattle.moves.proofs.confirm.Goals as goal
-
-named : (c : After-confirm_check) → let a = c.args in Unsent a.p.now (natural a.s) a.unsent → Named (spread a.p.now) a.s c.number-side.result c.index-place.result a.unsent
-named c known = record { number = c.number-side.ensures ∙ ap natural (to_z-of_z c.ranges.s); place = c.index-place.ensures.0; unsent = known }
 
 pub returns-in_err-confirm_check-clause-step : goal.returns-in_err-confirm_check-clause-step
 returns-in_err-confirm_check-clause-step c = let a = c.args in

@@ -20,4 +20,4 @@ returns-clause-step c = let a = c.args in
     let place = c.index-place.ensures.0 in
     λ known.
     let w : Named (spread a.p.now) a.s c.number-side.result c.index-place.result a.unsent = record { number = number; place = place; unsent = known } in
-    accepted_by (send-accepts (spread a.p.now) a.s w (send_checked (spread a.p.now) a.s w) c.mark.new.edits c.mark.ensures c.capped-kept.ensures long c.in_ok-send_check.ensures)
+    accepted_by (send-accepts (spread a.p.now) a.s w (send_checked (spread a.p.now) a.s w) c.mark.new.edits c.mark.ensures long c.in_ok-send_check.ensures)
