@@ -11,7 +11,7 @@ use Rattle.state.specs.Meets.{Answer, Makes}
 use Rattle.state.specs.Spread.{Spread, spread, plan_of, refused_as, MeetsSpread}
 use Rattle.state.proofs.Steps.{refuses}
 
--- What a call's check was made of, and that it finds what the protocol's checks find.
+-- What a call's check found is what the protocol's checks find; cs is what both come to, in the plan's terms.
 pub record Checked (c : Call) (p : Spread) (cs found : List Check) : Type 0 where
   pub same : first (checks c (plan_of p)) ≡ first cs
   pub finds : first found ≡ first cs

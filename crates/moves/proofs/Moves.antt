@@ -1,4 +1,4 @@
--- Laws of send, stop, confirm and install: the checks from what is lent, and the plan after each call. Assumes nothing.
+-- Laws of send, stop, confirm and install: the checks from what the code looks at, and the plan after each call. Assumes nothing.
 use Prim.Native.Nat.{ℕ, min}
 use native.Mathlib.Omega.{arith}
 use mathlib.Core.Bool.{Bool, true, false, not, cond, ◌||◌}
@@ -18,7 +18,7 @@ use Rattle.records.specs.declared.EditRecord.{EditRecord}
 use Rattle.heads.specs.declared.Head.{Head}
 use Rattle.heads.specs.declared.Mode.TheVariants.{Closing}
 use Rattle.state.specs.Spread.{Spread}
-use Rattle.heads.specs.Heads.{mode_of, sides_in, index_of, unset_in, in_mode}
+use Rattle.heads.specs.Heads.{mode_of, sides_in, index_of, unset_in}
 use Rattle.records.specs.Records.{kept_of}
 use Rattle.state.specs.Spread.{plan_of, side_of}
 use Rattle.state.specs.Meets.{done, number}
@@ -112,7 +112,7 @@ module _ (p : Spread) (s : ℤ) {side i n : ℕ} (w : Named p s side i n) where
 -- ---- the plan after each call
 
 abbrev pub stop_to : Spread → Spread
-stop_to p = stored p (in_mode p.head Closing) p.base p.draft p.values p.arrived p.confirmed p.edits
+stop_to p = stored p (record p.head { mode = Closing }) p.base p.draft p.values p.arrived p.confirmed p.edits
 
 pub stop-accepts : (p : Spread) {found : List Check} → Checked stop p (stopping p) found → fine ≡ first found → MeetsSpread stop p (record { state = stop_to p; answer = done })
 unfolding after gives

@@ -1,10 +1,9 @@
--- Scaffolding: the checks of the calls that part a plan and join it again, the heads that they leave, what a sent edit's side leaves of the kept edits, and
--- what is known of a plan beside it. Assumes nothing.
-use Rattle.std.specs.Prelude.{ℕ, ◌<◌, ◌≤◌, Bool, not, cond, ◌||◌, List, [], ◌∷◌, eqb, ltb, get_or, T, ◌≡◌, ℤ}
+-- Scaffolding: the checks of the calls that part a plan and join it again, the heads that they leave, the kept edits as a send goes over them, and what the
+-- plan's owner has counted. Assumes nothing.
+use Rattle.std.specs.Prelude.{ℕ, ◌<◌, ◌≤◌, Bool, not, cond, ◌||◌, List, [], ◌∷◌, eqb, ltb, get_or, take, T, ◌≡◌, ℤ}
 use Rattle.protocol.specs.Lists.{count, is_none, one_to}
 use Rattle.protocol.specs.Plan.{whole, split, closing, mode_number, is, active, is_waiting, unsent_of, side_limit, measure_limit}
 use Rattle.protocol.specs.Calls.{Check, ◌unless◌, ◌when◌, mark_sent}
-use Rattle.rows.specs.Rows.{copied_in}
 use Rattle.heads.specs.declared.Head.{Head}
 use Rattle.heads.specs.declared.Mode.TheVariants.{Whole, Split, Joining}
 use Rattle.heads.specs.Heads.{mode_of, sides_in}
@@ -12,17 +11,18 @@ use Rattle.records.specs.declared.EditRecord.{EditRecord}
 use Rattle.records.specs.Records.{kept_at, kept_of, no_record}
 use Rattle.state.specs.declared.State.{State}
 
--- ---- what is known of a plan beside it
+-- ---- what the plan's owner has counted
 
 -- how many of its kept edits wait
 abbrev pub Waiting : State → ℕ → Type 0
 Waiting p n = n ≡ count is_waiting (kept_of p.head p.edits)
 
--- how many a side, if it is one, has unsent
+-- how many a side, if there is such a side, has unsent
 abbrev pub Unsent : State → ℕ → ℕ → Type 0
 Unsent p s n = T (one_to (sides_in p.head) s) → n ≡ unsent_of s (kept_of p.head p.edits)
 
--- the rules are as they were
+-- ---- what no call here touches
+
 abbrev pub SameRules : State → State → Type 0
 SameRules p q = (q.table ≡ p.table) × (q.head.rules ≡ p.head.rules)
 
@@ -45,7 +45,7 @@ confirm_checks h s confirmed unsent =
 
 -- ---- kept edits
 
--- The first i kept edits are sent where they are unsent and side s's; the rest are as before.
+-- The first i edits are sent where they are unsent and side s's; the rest are as before.
 pub record Marked (s : ℕ) (before next : List EditRecord) (i : ℕ) : Type 0 where
   pub done : (j : ℕ) → j < i → (n : ℕ) → kept_at n (get_or next j no_record) ≡ mark_sent s (kept_at n (get_or before j no_record))
   pub rest : (j : ℕ) → i ≤ j → get_or next j no_record ≡ get_or before j no_record
@@ -69,4 +69,4 @@ install_head h = record h { mode = Whole; measures = h.drafted; mark = h.next }
 
 -- the base: the first split of a whole plan makes side 1's row the base
 abbrev pub split_base : Head → List ℤ → List ℤ → List ℤ
-split_base h base values = cond (is whole (mode_of h.mode)) (copied_in base values 0 0 measure_limit) base
+split_base h base values = cond (is whole (mode_of h.mode)) (take measure_limit values) base

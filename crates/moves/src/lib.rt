@@ -2,7 +2,7 @@
 // place. How many edits a side has unsent and how many wait, the plan's owner counts.
 #![tactic(auto)]
 
-ghost use Rattle.std.specs.Prelude.{◌≤◌, map, length, ◌≡◌};
+ghost use Rattle.std.specs.Prelude.{map, ◌≡◌};
 ghost use Rattle.heads.specs.Heads.{mode_of};
 ghost use Rattle.moves.specs.Moves.{split_checks, send_checks, turn_checks, confirm_checks, first_head, split_base, SameRules, Waiting, Unsent};
 ghost use Rattle.protocol.specs.Asked.{number_of, verdict_of};
@@ -10,7 +10,6 @@ ghost use Rattle.protocol.specs.Calls.{split-side, join, send, first, mark_sent,
 ghost use Rattle.protocol.specs.Lists.{natural};
 ghost use Rattle.protocol.specs.Plan.{mode_number};
 ghost use Rattle.records.specs.Records.{kept_of};
-ghost use Rattle.rows.specs.Rows.{copied_in};
 ghost use Rattle.state.specs.Meets.{Makes};
 
 use heads::{Head, Mode};
@@ -54,7 +53,13 @@ fn send_check(h: &Head, s: u32, arrived: bool, unsent: u32) -> Result<(), Refusa
 }
 
 // What stop and install share: the mode, then the refusal of a plan in which sides miss a flag, then the edits that wait.
-fn turn_check(h: &Head, mode: Mode, refusal: Refusal, missing: u32, waiting: u32) -> Result<(), Refusal>
+fn turn_check(
+    h: &Head,
+    mode: Mode,
+    refusal: Refusal,
+    missing: u32,
+    waiting: u32,
+) -> Result<(), Refusal>
     ensures { verdict_of result ≡ first (turn_checks h.now (mode_number (mode_of mode)) (number_of refusal) missing waiting) }
 {
     if h.mode != mode {
@@ -88,17 +93,7 @@ fn confirm_check(h: &Head, s: u32, confirmed: bool, unsent: u32) -> Result<(), R
     Ok(())
 }
 
-// ---- rows and kept edits
-
-// One side's row becomes another's.
-fn copy_row(values: &mut [i32; limit::VALUES], from: usize, to: usize)
-    requires { from ≤ 224 }
-    ensures { (values.new ≡ copied_in values.old values.old from to 32) × (length values.old ≡ 256) }
-{
-    let mut row = [0i32; limit::MEASURES];
-    rows::copy(&mut row, values, from, 0, limit::MEASURES);
-    rows::copy(values, &row, 0, to, limit::MEASURES);
-}
+// ---- parts of a plan
 
 // A side's unsent edits are sent; the others stay as they are.
 fn mark(edits: &mut [EditRecord; limit::EDITS], h: &Head, s: u32)
@@ -120,7 +115,7 @@ fn begin(p: &mut State)
     if p.head.mode == Mode::Whole {
         p.head.kept = 0;
         p.head.based = p.head.measures;
-        rows::copy(&mut p.base, &p.values, 0, 0, limit::MEASURES);
+        p.base.copy_from_slice(&p.values[..limit::MEASURES]);
     }
 }
 
@@ -137,7 +132,9 @@ pub fn split(p: &mut State, s: i32) -> Answer
     begin(p);
     p.head.mode = Mode::Split;
     p.head.added = sides;
-    copy_row(&mut p.values, heads::offset(from), heads::offset(to));
+    let row = heads::offset(from);
+    let new_row = heads::offset(to);
+    p.values.copy_within(row..row + limit::MEASURES, new_row);
     let place = heads::index(to);
     p.arrived[place] = false;
     p.confirmed[place] = false;
@@ -176,7 +173,13 @@ pub fn stop(p: &mut State, waiting: u32) -> Answer
     ensures rules { SameRules p.old p.new }
 {
     let missing = p.head.unset(&p.arrived);
-    turn_check(&p.head, Mode::Joining, Refusal::LogMissing, missing, waiting)?;
+    turn_check(
+        &p.head,
+        Mode::Joining,
+        Refusal::LogMissing,
+        missing,
+        waiting,
+    )?;
     p.head.mode = Mode::Closing;
     Ok(Given::Nothing)
 }
@@ -198,7 +201,13 @@ pub fn install(p: &mut State, waiting: u32) -> Answer
     ensures rules { SameRules p.old p.new }
 {
     let missing = p.head.unset(&p.confirmed);
-    turn_check(&p.head, Mode::Closing, Refusal::Unconfirmed, missing, waiting)?;
+    turn_check(
+        &p.head,
+        Mode::Closing,
+        Refusal::Unconfirmed,
+        missing,
+        waiting,
+    )?;
     p.head.mode = Mode::Whole;
     p.head.measures = p.head.drafted;
     p.head.mark = p.head.next;

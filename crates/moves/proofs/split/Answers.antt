@@ -19,7 +19,6 @@ pub returns-clause-step : goal.returns-clause-step
 returns-clause-step c = let a = c.args in
     let w = c.number-from.ensures ∙ ap natural (to_z-of_z c.ranges.s) in
     let p = spread a.p.now in
-    let base : length p.base ≡ 32 = search rules in
     let arrived : length p.arrived ≡ 8 = search rules in
     let confirmed : length p.confirmed ≡ 8 = search rules in
     let values : length p.values ≡ 256 = search rules in
@@ -27,6 +26,6 @@ returns-clause-step c = let a = c.args in
     -- the new side's number, as the head before counts it
     let to = ap (λ n. offset_of (n + 1)) sides in
     let place = ap (λ n. index_of (n + 1)) sides in
-    rw (c.copy_row.ensures.0, c.begin.ensures, sides)
-    (accepted_by (split-accepts p a.s w (split_checked p a.s w) (add-one _) c.offset.ensures.0 (c.offset-2.ensures.0 ∙ to) (c.index-place.ensures.0 ∙ place) base values arrived confirmed
+    rw (c.copy_within.ensures.after, c.begin.ensures, sides)
+    (accepted_by (split-accepts p a.s w (split_checked p a.s w) (add-one _) c.offset-row.ensures.0 (c.offset-new_row.ensures.0 ∙ to) (c.index-place.ensures.0 ∙ place) values arrived confirmed
     c.in_ok-split_check.ensures))
