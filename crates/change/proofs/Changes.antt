@@ -1,31 +1,21 @@
 -- Laws of a change: what is made of a kind number and a constant, and the range of what it makes. Assumes nothing.
 use Prim.Native.Nat.{ℕ}
 use mathlib.Core.Bool.{Bool, true, false, cond}
-use mathlib.Core.Path.{◌≡◌, refl, sym, ap, ◌∙◌}
+use mathlib.Core.Path.{◌≡◌, refl}
 use lib.Dec.{eqb}
 use lib.IntN.{ℤ}
-use mir.Syntax.{w32}
-use mir.Val.{SFits, to_z, of_z}
-use mir.Facts.{to_z-of_z}
+use Rattle.std.specs.Prelude.{Option, Some, None}
 use Rattle.protocol.specs.Plan.{in_range, is_factor, kind_of, allowed}
 use Rattle.protocol.specs.Plan as model
 use Rattle.protocol.proofs.Laws.{cases}
 use Rattle.change.specs.declared.Change.{Change}
 use Rattle.change.specs.declared.Change.TheVariants.{Set, Add, Multiply, Divide}
-use Rattle.change.specs.declared.Made.{Made}
-use Rattle.change.specs.declared.Made.TheVariants.{Made as MadeOf, Refused}
-use Rattle.change.specs.declared.Applied.TheVariants.{InRange, OutOfRange}
 use Rattle.change.specs.Change.{view_change, made_if, made_of, ranged_of}
 
 -- what was made, against the protocol's change
-abbrev pub Fitting : Made → model.Change → Type 0
-Fitting (MadeOf c) ch = (allowed ch ≡ true) × (view_change c ≡ ch)
-Fitting Refused ch = allowed ch ≡ false
-
--- a change made of a local's constant is one of the constant
-pub made_by : (C : ℤ → Change) (takes : ℤ → Bool) {k : ℤ} → SFits w32 k → {b : Bool} {r m : Made}
-    → b ≡ takes (to_z w32 (of_z w32 k)) → r ≡ made_if b (C (to_z w32 (of_z w32 k))) → m ≡ made_if (takes k) (C k) → r ≡ m
-made_by C takes {k} p e f g = f ∙ ap (λ b. made_if b (C (to_z w32 (of_z w32 k)))) e ∙ ap (λ x. made_if (takes x) (C x)) (to_z-of_z p) ∙ sym g
+abbrev pub Fitting : Option Change → model.Change → Type 0
+Fitting (Some c) ch = (allowed ch ≡ true) × (view_change c ≡ ch)
+Fitting None ch = allowed ch ≡ false
 
 made_if_lem : (b : Bool) (c : Change) (ch : model.Change) → allowed ch ≡ b → view_change c ≡ ch → Fitting (made_if b c) ch
 made_if_lem true c ch a e = (a, e)
@@ -42,18 +32,18 @@ made-fits n k =
     (λ g. rw g (made_if_lem (is_factor k) (Multiply k) _ refl refl))
     (λ g. rw g (cases (eqb n 4) (λ h. rw h (made_if_lem (is_factor k) (Divide k) _ refl refl)) (λ h. rw h)))))))
 
-pub ranged_out : (y : ℤ) → OutOfRange ≡ ranged_of y → in_range y ≡ false
+pub ranged_out : (y : ℤ) → None ≡ ranged_of y → in_range y ≡ false
 unfolding ranged_of
 ranged_out y e = by (in_range y) e
   where
-    by : (b : Bool) → OutOfRange ≡ cond b (InRange y) OutOfRange → b ≡ false
+    by : (b : Bool) → None ≡ cond b (Some y) None → b ≡ false
     by true e = cc
     by false e = refl
 
-pub ranged_in : (y x : ℤ) → InRange x ≡ ranged_of y → (in_range y ≡ true) × (x ≡ y)
+pub ranged_in : (y x : ℤ) → Some x ≡ ranged_of y → (in_range y ≡ true) × (x ≡ y)
 unfolding ranged_of
 ranged_in y x e = by (in_range y) e
   where
-    by : (b : Bool) → InRange x ≡ cond b (InRange y) OutOfRange → (b ≡ true) × (x ≡ y)
+    by : (b : Bool) → Some x ≡ cond b (Some y) None → (b ≡ true) × (x ≡ y)
     by true e = (refl, cc)
     by false e = (cc, cc)

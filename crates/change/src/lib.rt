@@ -2,10 +2,8 @@
 #![tactic(auto)]
 
 ghost use Rattle.std.specs.Prelude.{◌≡◌};
-ghost use Rattle.protocol.specs.Plan.{in_range, is_factor, applied};
-ghost use Rattle.change.specs.Change.{view_change, made_if, made_of, ranged_of};
-
-use protocol::limit;
+ghost use Rattle.protocol.specs.Plan.{is_factor, applied};
+ghost use Rattle.change.specs.Change.{view_change, made_of, ranged_of};
 
 #[derive(Clone, Copy)]
 pub enum Change {
@@ -15,26 +13,32 @@ pub enum Change {
     Divide(i32),
 }
 
-#[derive(Clone, Copy)]
-pub enum Made {
-    Made(Change),
-    Refused,
-}
+impl Change {
+    // The change of a kind number and a constant. Every other number, and a constant that the kind does not take, is refused as 24.
+    #[tactic(auto, unfolding(crate::specs::Change::made_of))]
+    pub fn of(kind: u32, constant: i32) -> Option<Change>
+        ensures { result ≡ made_of kind constant }
+    {
+        match kind {
+            1 => exact::in_range(constant).then_some(Change::Set(constant)),
+            2 => exact::in_range(constant).then_some(Change::Add(constant)),
+            3 => is_factor(constant).then_some(Change::Multiply(constant)),
+            4 => is_factor(constant).then_some(Change::Divide(constant)),
+            _ => None,
+        }
+    }
 
-#[derive(Clone, Copy)]
-pub enum Applied {
-    InRange(i32),
-    OutOfRange,
-}
-
-// Whether a set or an add takes a constant.
-#[tactic(auto, unfolding(protocol::specs::Lists::within))]
-fn is_value(k: i32) -> bool
-    ensures { result ≡ in_range k }
-{
-    match k {
-        limit::LEAST_VALUE..=limit::VALUE => true,
-        _ => false,
+    // The value that a change makes of a value, if it is in a measure's range.
+    #[tactic(auto, unfolding(protocol::specs::Plan::applied))]
+    pub fn apply(self, x: i32) -> Option<i32>
+        ensures { result ≡ ranged_of (applied (view_change self) x) }
+    {
+        ranged(match self {
+            Change::Set(k) => i64::from(k),
+            Change::Add(k) => exact::sum(x, k),
+            Change::Multiply(k) => exact::product(x, k),
+            Change::Divide(k) => exact::quotient(x, k),
+        })
     }
 }
 
@@ -43,54 +47,14 @@ fn is_value(k: i32) -> bool
 fn is_factor(k: i32) -> bool
     ensures { result ≡ is_factor k }
 {
-    match k {
-        -10..=-1 | 1..=10 => true,
-        _ => false,
-    }
+    matches!(k, -10..=-1 | 1..=10)
 }
 
-fn made_if(allowed: bool, change: Change) -> Made
-    ensures { result ≡ made_if allowed change }
-{
-    if allowed {
-        return Made::Made(change);
-    }
-    Made::Refused
-}
-
-// The change of a kind number and a constant. Every other number, and a constant that the kind does not take, is refused as 24.
-#[tactic(auto, unfolding(crate::specs::Change::made_of))]
-pub fn make(kind: u32, constant: i32) -> Made
-    ensures { result ≡ made_of kind constant }
-{
-    match kind {
-        1 => made_if(is_value(constant), Change::Set(constant)),
-        2 => made_if(is_value(constant), Change::Add(constant)),
-        3 => made_if(is_factor(constant), Change::Multiply(constant)),
-        4 => made_if(is_factor(constant), Change::Divide(constant)),
-        _ => Made::Refused,
-    }
-}
-
+// The result as a value, if it is in a measure's range.
 #[tactic(auto, unfolding(crate::specs::Change::ranged_of, protocol::specs::Lists::within))]
-fn ranged(x: i64) -> Applied
+fn ranged(x: i64) -> Option<i32>
     ensures { result ≡ ranged_of x }
 {
-    match x {
-        limit::LEAST_RESULT..=limit::RESULT => Applied::InRange(x as i32),
-        _ => Applied::OutOfRange,
-    }
-}
-
-// The value that a change makes of a value, if it is in a measure's range.
-#[tactic(auto, unfolding(protocol::specs::Plan::applied))]
-pub fn apply(change: Change, x: i32) -> Applied
-    ensures { result ≡ ranged_of (applied (view_change change) x) }
-{
-    match change {
-        Change::Set(k) => ranged(k as i64),
-        Change::Add(k) => ranged(exact::sum(x, k)),
-        Change::Multiply(k) => ranged(exact::product(x, k)),
-        Change::Divide(k) => ranged(exact::quotient(x, k)),
-    }
+    let x = i32::try_from(x).ok()?;
+    exact::in_range(x).then_some(x)
 }

@@ -1,2 +1,2 @@
 pub mod Flags
-pub mod Heads
+pub mod Positions

@@ -1,5 +1,5 @@
 -- Believed: modes and counts as the protocol has them, and where sides and kept edits stand. Assumes nothing.
-use Rattle.std.specs.Prelude.{ℕ, suc, ◌+◌, ◌*◌, ◌-◌, ◌%◌, min, Bool, false, cond, not, ◌&&◌, List, ltb, eqb, leb, get_or, ℤ}
+use Rattle.std.specs.Prelude.{ℕ, zero, suc, ◌+◌, ◌*◌, ◌-◌, ◌%◌, min, Bool, false, cond, not, ◌&&◌, List, ltb, eqb, leb, get_or, ℤ, Option, None, Some}
 use Rattle.protocol.specs.Plan as model
 use Rattle.heads.specs.declared.Mode.{Mode}
 use Rattle.heads.specs.declared.Mode.TheVariants.{Blank, Whole, Split, Joining, Closing}
@@ -48,6 +48,11 @@ kept_in h = min h.kept kept_limit
 -- the position, from 1, of number n among k consecutive numbers that end below e; 0: none
 unfoldable pub position_of : ℕ → ℕ → ℕ → ℕ
 position_of e k n = cond (eqb n 0) (cond (ltb 0 k && leb e k) 1 0) (cond (ltb n e && leb (e - n) k) (suc (k - (e - n))) 0)
+
+-- the place, from 0, of a position from 1; position 0 is none
+abbrev pub seat : ℕ → Option ℕ
+seat zero = None
+seat (suc i) = Some i
 
 -- the slot in which the edit at a position from 1 stands; position 0, which is none, has the last
 abbrev pub slot_at : ℕ → ℕ

@@ -1,30 +1,31 @@
 -- Laws of the kept edits as a state holds them: tests, look-up by number, one more, one changed. Assumes nothing.
 use Prim.Native.Nat.{ℕ, zero, suc, ◌+◌, ◌-◌, ◌<◌, ◌≤◌}
 use native.Mathlib.Omega.{arith}
-use mathlib.Core.Bool.{true, false, cond, ◌||◌}
+use mathlib.Core.Bool.{Bool, true, false, cond}
 use mathlib.Core.Path.{◌≡◌, refl, sym, ap, ◌∙◌}
 use mathlib.Core.Logic.{◌⊎◌, inl, inr, ◌≢◌}
 use mathlib.Core.List.{List, ◌∷◌}
 use borrow.Author.Tests.{eqb-true, eqb-false, lt-ltb, le-leb, ltb-true, ltb-false, leb-true}
 use lib.Dec.{eqb, leb, ltb, eqb-suc-zero}
-use lib.ListN.{length, get_or, set}
-use Rattle.protocol.specs.Lists.{modify, snoc}
-use Rattle.protocol.specs.Plan.{Fate, unsent, waiting, accepted, revoked, fate_number, fate_is, Kept, absent_edit, lookup}
+use lib.ListN.{length, get_or, set, take, drop}
+use lib.Seq.{drop-cons}
+use Rattle.std.specs.Prelude.{Option, None, Some, slice_get}
+use Rattle.std.specs.List.{count_by}
+use Rattle.std.specs.Option.{unwrap_or}
+use Rattle.std.proofs.lemmas.List.Recursion.{is_count_by}
+use Rattle.std.proofs.lemmas.Option.{unwrap_or-slice_get}
+use Rattle.protocol.specs.Lists.{count, modify, snoc}
+use Rattle.protocol.specs.Plan.{Kept, absent_edit, lookup}
 use Rattle.protocol.specs.Calls.{update}
 use Rattle.protocol.proofs.Laws.{cases}
 use Rattle.rows.specs.Rows.{span}
-use Rattle.rows.proofs.Spans.{span_same, span-snoc, modify-span, get_d_set, get_or-other}
+use Rattle.rows.proofs.Spans.{count-span, span_same, span-snoc, modify-span, get_d_set, get_or-other}
 use Rattle.records.specs.declared.EditRecord.{EditRecord}
 use Rattle.records.specs.declared.Test.{Test}
 use Rattle.records.specs.declared.Test.TheVariants.{UnsentOf, Waiting, Open, Settled}
-use Rattle.heads.specs.Heads.{position_of, slot_at}
-use Rattle.records.specs.Records.{kept_at, log_of, no_record, test_of, record_of}
-
-pub open_low : (f : Fate) → (fate_is unsent f || fate_is waiting f) ≡ ltb (fate_number f) 3
-open_low unsent = refl
-open_low waiting = refl
-open_low accepted = refl
-open_low revoked = refl
+use Rattle.heads.specs.Heads.{position_of, seat, slot_at}
+use Rattle.heads.proofs.Positions.{slot_suc}
+use Rattle.records.specs.Records.{kept_at, log_of, no_record, test_of, record_of, found_at, looked}
 
 -- a test looks at no number
 pub any-number : (t : Test) (m n : ℕ) (e : EditRecord) → test_of t (kept_at m e) ≡ test_of t (kept_at n e)
@@ -32,6 +33,26 @@ any-number (UnsentOf s) m n e = refl
 any-number Waiting m n e = refl
 any-number Open m n e = refl
 any-number Settled m n e = refl
+
+-- ---- counting
+
+-- the first k edits, read off
+front : (es : List EditRecord) (i k : ℕ) → i + k ≤ length es → take k (drop i es) ≡ span i k (λ j. get_or es j no_record)
+front es i zero h = refl
+front es i (suc k) h =
+    ap (take (suc k)) (drop-cons es i no_record (omega arith))
+    ∙ ap {B = List EditRecord} (λ xs. get_or es i no_record ∷ xs) (front es (suc i) k (omega arith))
+
+counted : {A : Type 0} (p : A → Bool) (xs : List A) → count_by p xs ≡ count p xs
+counted p xs = sym (is_count_by (count p) p refl (λ y ys. cases (p y) (λ e. rw e) (λ e. rw e (omega arith))) xs)
+
+-- what passes of the first k edits, whatever their numbers
+pub count_front : (t : Test) (e k : ℕ) (es : List EditRecord) → k ≤ length es → count_by (λ r. test_of t (kept_at 0 r)) (take k es) ≡ count (test_of t) (log_of e k es)
+count_front t e k es h =
+    counted (λ r. test_of t (kept_at 0 r)) (take k es)
+    ∙ ap (count (λ r. test_of t (kept_at 0 r))) (front es 0 k (omega arith))
+    ∙ count-span (λ r. test_of t (kept_at 0 r)) (test_of t) 0 k (λ j. get_or es j no_record) (λ j. kept_at (e - (k - j)) (get_or es j no_record))
+    (λ j. any-number t 0 (e - (k - j)) (get_or es j no_record))
 
 -- ---- look-up by number
 
@@ -137,6 +158,15 @@ lookup_record e k n es most = by (placed e k n es)
     by (inr q) =
         let z : slot_at (suc q.0) ≡ q.0 = omega (arith, q.1, most) in
         q.4 ∙ sym (rw (q.2, z, eqb-suc-zero q.0))
+
+-- the edit at the place of a position from 1
+pub looked_record : (i : ℕ) (es : List EditRecord) → i ≤ 256 → looked (found_at es (seat i)) ≡ record_of i (get_or es (slot_at i) no_record)
+looked_record zero es h = refl
+looked_record (suc i) es h = rw (eqb-suc-zero i, slot_suc i (omega arith)) (at (slice_get es i) ∙ unwrap_or-slice_get es i no_record)
+  where
+    at : (o : Option EditRecord) → looked o ≡ unwrap_or o no_record
+    at None = refl
+    at (Some e) = refl
 
 -- ---- one more, and one changed
 

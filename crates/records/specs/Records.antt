@@ -1,5 +1,5 @@
 -- Believed: kept edits as the protocol has them. Assumes nothing.
-use Rattle.std.specs.Prelude.{ℕ, ◌-◌, Bool, false, cond, ◌&&◌, List, pos, eqb, get_or}
+use Rattle.std.specs.Prelude.{ℕ, ◌-◌, Bool, false, cond, ◌&&◌, List, pos, eqb, get_or, Option, None, Some, slice_get}
 use Rattle.protocol.specs.Plan as model
 use Rattle.change.specs.Change.{view_change}
 use Rattle.change.specs.declared.Change.TheVariants.{Set}
@@ -17,10 +17,6 @@ fate_of Unsent = model.unsent
 fate_of Waiting = model.waiting
 fate_of Accepted = model.accepted
 fate_of Revoked = model.revoked
-
--- the same with another fate
-abbrev pub with_fate : EditRecord → Fate → EditRecord
-with_fate e f = record { change = e.change; fate = f; side = e.side; client = e.client; earlier = e.earlier; measure = e.measure; place = e.place; replied = e.replied }
 
 -- what an array of edits reads past its end
 abbrev pub no_record : EditRecord
@@ -51,3 +47,12 @@ test_of Settled k = model.is_settled k
 -- the edit found at a position from 1; position 0 is none
 abbrev pub record_of : ℕ → EditRecord → EditRecord
 record_of i e = cond (eqb i 0) no_record e
+
+-- the edit at a place, if there is one, and no edit where there is none
+abbrev pub found_at : List EditRecord → Option ℕ → Option EditRecord
+found_at es None = None
+found_at es (Some i) = slice_get es i
+
+abbrev pub looked : Option EditRecord → EditRecord
+looked None = no_record
+looked (Some e) = e

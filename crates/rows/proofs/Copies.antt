@@ -2,22 +2,40 @@
 use Prim.Native.Nat.{ℕ, zero, suc, ◌+◌, ◌-◌, ◌<◌, ◌≤◌, min}
 use native.Mathlib.Omega.{arith}
 use native.Mathlib.Numerals.{add-one}
-use mathlib.Core.Path.{◌≡◌, refl, ap₂, ◌∙◌}
+use mathlib.Core.Path.{◌≡◌, refl, sym, ap, ap₂, ◌∙◌}
 use mathlib.Core.Logic.{◌≢◌}
-use mathlib.Core.List.{List}
+use mathlib.Core.List.{List, ◌++◌}
 use borrow.Author.Tests.{eqb-true, eqb-false}
+use borrow.Rule.Slice.PartMut.{put_mid}
 use lib.Dec.{eqb}
 use lib.IntN.{ℤ, pos}
-use lib.ListN.{length, get_or, set, length-set}
+use lib.ListN.{length, get_or, set, take, drop, length-set}
+use lib.Seq.{paste}
+use Rattle.std.proofs.lemmas.List.{append-nil, take-append-drop, length-drop, length-take, take-take, get_or-drop}
+use Rattle.std.proofs.lemmas.List.Edits.{paste_more}
+use Rattle.std.proofs.lemmas.Slice.{put_mid-paste}
 use Rattle.protocol.proofs.Laws.{cases}
 use Rattle.rows.specs.Rows.{row, copied, copied_in}
 use Rattle.rows.proofs.Spans.{span_same, span_moved, get_d_set, get_or-other}
 
--- one value more, at places that need not be written as sums
-pub copied_next : (into values next : List ℤ) (from to i j k : ℕ) (v : ℤ) → next ≡ copied into values from to i → j ≡ from + i → k ≡ to + i → v ≡ get_or values j (pos 0)
-    → set next k v ≡ copied into values from to (i + 1)
+-- a part of one array pasted into another, value by value
+copied_paste : (into values : List ℤ) (from to n : ℕ) → to + n ≤ length into → from + n ≤ length values → paste into to (drop from values) n ≡ copied into values from to n
 unfolding copied
-copied_next into values next from to i j k v e f g h = rw (add-one i, h, f, g, e)
+copied_paste into values from to zero h k = let e : to + 0 ≡ to = omega arith in rw (e, append-nil (take to into)) (take-append-drop to into)
+copied_paste into values from to (suc n) h k =
+    let l = length-drop from values in
+    rw (← add-one n, ← paste_more into to (drop from values) n (pos 0) (omega arith) (omega arith), get_or-drop from values n (pos 0), copied_paste into values from to n (omega arith) (omega arith))
+
+-- after a write of a part of one array to a part of another
+pub copied_part : (into values part : List ℤ) (from to n k j : ℕ) → k ≡ n → j ≡ n → to + n ≤ length into → from + n ≤ length values → part ≡ take j (drop from values)
+    → put_mid to k into part ≡ copied into values from to n
+copied_part into values part from to n k j f g h i e =
+    let l = length-drop from values in
+    let m = length-take n (drop from values) in
+    let p : part ≡ take n (drop from values) = e ∙ ap (λ a. take a (drop from values)) g in
+    put_mid-paste to k into part (take n (drop from values)) n p (sym f) (omega arith)
+    ∙ ap (λ a. take to into ++ a ++ drop (to + n) into) (take-take n n (drop from values) (omega arith))
+    ∙ copied_paste into values from to n h i
 
 pub length-copied : (into values : List ℤ) (from to n : ℕ) → length (copied into values from to n) ≡ length into
 unfolding copied

@@ -368,13 +368,3 @@ module _ (lower upper : List ℕ) (end top m : ℕ) (h : NoneAbove lower upper e
       walked : (i n : ℕ) → ((j : ℕ) → i ≤ j → j < i + n → names_at lower upper m j ≡ false) → false ≡ any (firm_at lower upper firm m) (span i n (λ i. i))
       walked i zero f = refl
       walked i (suc n) f = rw (f i (omega arith) (omega arith), and-false (get_or firm i false)) (walked (suc i) n (λ j a b. f j (omega arith) (omega arith)))
-
--- one rule more, and a number that its measures and those before it are not above
-pub none_above_next : (lower upper : List ℕ) (i top a b r s : ℕ) → NoneAbove lower upper i top → a ≡ get_or lower i 0 → b ≡ get_or upper i 0 → (a ≤ r) × (b ≤ r) → (top ≤ s) × (r ≤ s)
-    → NoneAbove lower upper (i + 1) s
-none_above_next lower upper i top a b r s h e f x y j l = cases (ltb j i)
-    (λ t. let k = h j (ltb-true j i t) in (omega (arith, k.0, y.0), omega (arith, k.1, y.0)))
-    (λ t.
-    let m = ltb-false j i t in
-    let z : j ≡ i = omega arith in
-    rw z (omega (arith, e, x.0, y.1), omega (arith, f, x.1, y.1)))

@@ -1,116 +1,112 @@
 -- What stands in a rule table. Assumes nothing.
-use Prim.Native.Nat.{ℕ, zero, suc, ◌+◌, ◌*◌, ◌<◌}
+use Prim.Native.Nat.{ℕ, zero, suc, ◌+◌, ◌<◌, ◌≤◌, max}
 use native.Mathlib.Omega.{arith}
-use mathlib.Core.Bool.{false}
-use mathlib.Core.Path.{◌≡◌, refl, sym, ap, ◌∙◌}
-use mathlib.Core.Logic.{◌≢◌}
+use mathlib.Core.Bool.{false, ◌&&◌, ◌||◌}
+use mathlib.Core.Path.{◌≡◌, refl, sym, ap, ap₂, ◌∙◌}
 use mathlib.Core.List.{List, [], ◌∷◌}
-use lib.Dec.{eqb}
-use lib.IntN.{ℤ, pos}
-use lib.ListN.{get_or, length, set, length-set}
-use Rattle.protocol.specs.Lists.{natural, modify}
+use lib.IntN.{pos}
+use lib.ListN.{get_or, length, set, take, drop, length-set, get_or-map}
+use lib.Seq.{drop-cons}
+use Rattle.std.specs.List.{fold, list_any}
+use Rattle.std.proofs.lemmas.List.{length-map, map-set}
+use Rattle.rules.specs.declared.Rule.{Rule}
+use Rattle.protocol.specs.Lists.{any}
 use Rattle.rows.specs.Rows.{span}
-use Rattle.rows.proofs.Spans.{nth-span, length-span, modify-span, get_d_set, get_or-other}
-use Rattle.rules.specs.Table.{lowers, gaps, uppers, firms, with_rule}
+use Rattle.rules.specs.Table.{lowers, gaps, uppers, firms, with_rule, top_of}
+use Rattle.rules.specs.Rules.{names_pair, names_firmly, firm_at, firm_in}
+use Rattle.rules.specs.Index.{NoneAbove}
 
--- an element of a list that a function gives
-pub in_span : {A : Type 0} (d : A) (n : ℕ) (f : ℕ → A) (i : ℕ) → i < n → get_or (span 0 n f) i d ≡ f i
-in_span d n f i h = nth-span d 0 n f i h ∙ (let e : 0 + i ≡ i = omega arith in ap f e)
+-- a place that no table has
+abbrev pub none : Rule
+none = record { lower = 0; gap = pos 0; upper = 0; firm = false }
 
-module _ (table : List ℤ) where
-  pub at_lower : (i : ℕ) → i < 64 → get_or (lowers table) i 0 ≡ natural (get_or table (4 * i) (pos 0))
+module _ (table : List Rule) where
+  pub at_lower : (i : ℕ) → get_or (lowers table) i 0 ≡ (get_or table i none).lower
   unfolding lowers
-  at_lower i h = in_span 0 64 (λ i. natural (get_or table (4 * i) (pos 0))) i h
+  at_lower i = get_or-map (λ r. r.lower) table i none
 
-  pub at_gap : (i : ℕ) → i < 64 → get_or (gaps table) i (pos 0) ≡ get_or table (4 * i + 1) (pos 0)
+  pub at_gap : (i : ℕ) → get_or (gaps table) i (pos 0) ≡ (get_or table i none).gap
   unfolding gaps
-  at_gap i h = in_span (pos 0) 64 (λ i. get_or table (4 * i + 1) (pos 0)) i h
+  at_gap i = get_or-map (λ r. r.gap) table i none
 
-  pub at_upper : (i : ℕ) → i < 64 → get_or (uppers table) i 0 ≡ natural (get_or table (4 * i + 2) (pos 0))
+  pub at_upper : (i : ℕ) → get_or (uppers table) i 0 ≡ (get_or table i none).upper
   unfolding uppers
-  at_upper i h = in_span 0 64 (λ i. natural (get_or table (4 * i + 2) (pos 0))) i h
+  at_upper i = get_or-map (λ r. r.upper) table i none
 
-  pub at_firm : (i : ℕ) → i < 64 → get_or (firms table) i false ≡ eqb (natural (get_or table (4 * i + 3) (pos 0))) 1
+  pub at_firm : (i : ℕ) → get_or (firms table) i false ≡ (get_or table i none).firm
   unfolding firms
-  at_firm i h = in_span false 64 (λ i. eqb (natural (get_or table (4 * i + 3) (pos 0))) 1) i h
+  at_firm i = get_or-map (λ r. r.firm) table i none
 
-  pub lowers-length : length (lowers table) ≡ 64
-  unfolding lowers
-  lowers-length = length-span 0 64 (λ i. natural (get_or table (4 * i) (pos 0)))
+  module _ (l : length table ≡ 64) where
+    pub lowers-length : length (lowers table) ≡ 64
+    unfolding lowers
+    lowers-length = length-map table (λ r. r.lower) ∙ l
 
-  pub gaps-length : length (gaps table) ≡ 64
-  unfolding gaps
-  gaps-length = length-span 0 64 (λ i. get_or table (4 * i + 1) (pos 0))
+    pub gaps-length : length (gaps table) ≡ 64
+    unfolding gaps
+    gaps-length = length-map table (λ r. r.gap) ∙ l
 
-  pub uppers-length : length (uppers table) ≡ 64
-  unfolding uppers
-  uppers-length = length-span 0 64 (λ i. natural (get_or table (4 * i + 2) (pos 0)))
+    pub uppers-length : length (uppers table) ≡ 64
+    unfolding uppers
+    uppers-length = length-map table (λ r. r.upper) ∙ l
 
-  pub firms-length : length (firms table) ≡ 64
-  unfolding firms
-  firms-length = length-span 0 64 (λ i. eqb (natural (get_or table (4 * i + 3) (pos 0))) 1)
+    pub firms-length : length (firms table) ≡ 64
+    unfolding firms
+    firms-length = length-map table (λ r. r.firm) ∙ l
 
 -- ---- a rule written anew
 
-modify-set : {A : Type 0} (x : A) (s : ℕ) (xs : List A) → modify (suc s) (λ y. x) xs ≡ set xs s x
-modify-set x zero [] = refl
-modify-set x (suc s) [] = refl
-modify-set x zero (y ∷ ys) = refl
-modify-set x (suc s) (y ∷ ys) = ap {B = List _} (λ zs. y ∷ zs) (modify-set x s ys)
+module _ (table : List Rule) (i : ℕ) (rule : Rule) where
+  abbrev w : List Rule
+  w = with_rule table i rule
 
-set-span : {A : Type 0} (n i : ℕ) (f f' : ℕ → A) (x : A) → i < n → f' i ≡ x → ((k : ℕ) → k ≢ i → f' k ≡ f k) → span 0 n f' ≡ set (span 0 n f) i x
-set-span n i f f' x h same other =
-    let e : 0 + i ≡ i = omega arith in
-    modify-span 0 n i (λ y. x) f f' h (ap f' e ∙ same) (λ k a b ne. other k (λ z. ne (z ∙ sym e))) ∙ modify-set x i (span 0 n f)
+  pub rule-length : length table ≡ 64 → length w ≡ 64
+  rule-length l = length-set table i rule ∙ l
 
-module _ (table : List ℤ) (i : ℕ) (a c b f : ℤ) (h : i < 64) (l : length table ≡ 256) where
-  abbrev w1 : List ℤ
-  w1 = set table (4 * i) a
-
-  abbrev w2 : List ℤ
-  w2 = set w1 (4 * i + 1) c
-
-  abbrev w3 : List ℤ
-  w3 = set w2 (4 * i + 2) b
-
-  abbrev w : List ℤ
-  w = with_rule table i a c b f
-
-  pub rule-length : length w ≡ 256
-  rule-length = simp length-set l
-
-  others : (n : ℕ) → n ≢ 4 * i → n ≢ 4 * i + 1 → n ≢ 4 * i + 2 → n ≢ 4 * i + 3 → get_or w n (pos 0) ≡ get_or table n (pos 0)
-  others n x y z u = get_or-other w3 (4 * i + 3) n f (pos 0) u ∙ get_or-other w2 (4 * i + 2) n b (pos 0) z ∙ get_or-other w1 (4 * i + 1) n c (pos 0) y ∙ get_or-other table (4 * i) n a (pos 0) x
-
-  first : get_or w (4 * i) (pos 0) ≡ a
-  first = get_or-other w3 (4 * i + 3) (4 * i) f (pos 0) (λ e. omega arith) ∙ get_or-other w2 (4 * i + 2) (4 * i) b (pos 0) (λ e. omega arith) ∙ get_or-other w1 (4 * i + 1) (4 * i) c (pos 0)
-      (λ e. omega arith) ∙ get_d_set table (4 * i) a (pos 0) (omega arith)
-
-  second : get_or w (4 * i + 1) (pos 0) ≡ c
-  second = get_or-other w3 (4 * i + 3) (4 * i + 1) f (pos 0) (λ e. omega arith) ∙ get_or-other w2 (4 * i + 2) (4 * i + 1) b (pos 0) (λ e. omega arith) ∙ get_d_set w1 (4 * i + 1) c (pos 0)
-      (let s = length-set table (4 * i) a in omega arith)
-
-  third : get_or w (4 * i + 2) (pos 0) ≡ b
-  third = get_or-other w3 (4 * i + 3) (4 * i + 2) f (pos 0) (λ e. omega arith) ∙ get_d_set w2 (4 * i + 2) b (pos 0)
-      (let s = length-set table (4 * i) a in let t = length-set (set table (4 * i) a) (4 * i + 1) c in omega arith)
-
-  fourth : get_or w (4 * i + 3) (pos 0) ≡ f
-  fourth = get_d_set w3 (4 * i + 3) f (pos 0)
-      (let s = length-set table (4 * i) a in let t = length-set (set table (4 * i) a) (4 * i + 1) c in let u = length-set (set (set table (4 * i) a) (4 * i + 1) c) (4 * i + 2) b in omega arith)
-
-  pub rule-lower : lowers w ≡ set (lowers table) i (natural a)
+  pub rule-lower : lowers w ≡ set (lowers table) i rule.lower
   unfolding lowers
-  rule-lower = set-span 64 i _ _ (natural a) h (ap natural first) (λ k ne. ap natural (others (4 * k) (λ e. ne (omega arith)) (λ e. omega arith) (λ e. omega arith) (λ e. omega arith)))
+  rule-lower = map-set (λ r. r.lower) table i rule
 
-  pub rule-gap : gaps w ≡ set (gaps table) i c
+  pub rule-gap : gaps w ≡ set (gaps table) i rule.gap
   unfolding gaps
-  rule-gap = set-span 64 i _ _ c h second (λ k ne. others (4 * k + 1) (λ e. omega arith) (λ e. ne (omega arith)) (λ e. omega arith) (λ e. omega arith))
+  rule-gap = map-set (λ r. r.gap) table i rule
 
-  pub rule-upper : uppers w ≡ set (uppers table) i (natural b)
+  pub rule-upper : uppers w ≡ set (uppers table) i rule.upper
   unfolding uppers
-  rule-upper = set-span 64 i _ _ (natural b) h (ap natural third) (λ k ne. ap natural (others (4 * k + 2) (λ e. omega arith) (λ e. omega arith) (λ e. ne (omega arith)) (λ e. omega arith)))
+  rule-upper = map-set (λ r. r.upper) table i rule
 
-  pub rule-firm : firms w ≡ set (firms table) i (eqb (natural f) 1)
+  pub rule-firm : firms w ≡ set (firms table) i rule.firm
   unfolding firms
-  rule-firm = set-span 64 i _ _ (eqb (natural f) 1) h (ap (λ x. eqb (natural x) 1) fourth)
-      (λ k ne. ap (λ x. eqb (natural x) 1) (others (4 * k + 3) (λ e. omega arith) (λ e. omega arith) (λ e. omega arith) (λ e. ne (omega arith))))
+  rule-firm = map-set (λ r. r.firm) table i rule
+
+-- ---- the first rules of a table
+
+abbrev higher : ℕ → Rule → ℕ
+higher a r = max (max a r.lower) r.upper
+
+top_least : (n a : ℕ) (rules : List Rule) → a ≤ fold higher a (take n rules)
+top_least zero a rules = omega arith
+top_least (suc n) a [] = omega arith
+top_least (suc n) a (r ∷ rules) = let l = top_least n (higher a r) rules in omega arith
+
+top_from : (n i a : ℕ) (rules : List Rule) → i < n → ((get_or rules i none).lower ≤ fold higher a (take n rules)) × ((get_or rules i none).upper ≤ fold higher a (take n rules))
+top_from zero i a rules h = absurd (omega arith)
+top_from (suc n) i a [] h = (omega arith, omega arith)
+top_from (suc n) zero a (r ∷ rules) h = let l = top_least n (higher a r) rules in (omega arith, omega arith)
+top_from (suc n) (suc i) a (r ∷ rules) h = top_from n i (higher a r) rules (omega arith)
+
+-- no measure is above the highest
+pub top_is : (table : List Rule) (end : ℕ) → NoneAbove (lowers table) (uppers table) end (top_of (take end table))
+top_is table end i h = rw (at_lower table i, at_upper table i) (top_from end i 0 table h)
+
+module _ (table : List Rule) (m : ℕ) where
+  named_from : (i n : ℕ) → i + n ≤ length table → list_any (names_firmly m) (take n (drop i table)) ≡ any (firm_at (lowers table) (uppers table) (firms table) m) (span i n (λ k. k))
+  named_from i zero h = refl
+  named_from i (suc n) h =
+      ap (λ rules. list_any (names_firmly m) (take (suc n) rules)) (drop-cons table i none (omega arith))
+      ∙ ap₂ (λ a b. a || b) (sym (λ j. at_firm table i j && names_pair (at_lower table i j) (at_upper table i j) m)) (named_from (suc i) n (omega arith))
+
+  -- one of them is firm and names the measure
+  pub named_is : (n : ℕ) → n ≤ length table → list_any (names_firmly m) (take n table) ≡ firm_in (lowers table) (uppers table) (firms table) n m
+  unfolding firm_in
+  named_is n h = named_from 0 n (omega arith)

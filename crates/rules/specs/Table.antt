@@ -1,25 +1,29 @@
--- Believed: the rules of a plan as one array of numbers, four to each rule, as the lists that the rules' tests speak of. Assumes nothing.
-use Rattle.std.specs.Prelude.{ℕ, ◌+◌, ◌*◌, Bool, false, List, eqb, ℤ, pos, get_or, set}
-use Rattle.protocol.specs.Lists.{natural}
+-- Believed: the rules of a plan as the lists that the rules' tests speak of. Assumes nothing.
+use Rattle.std.specs.Prelude.{ℕ, max, Bool, false, List, map, ℤ, pos, get_or, set}
+use Rattle.std.specs.List.{fold}
 use Rattle.protocol.specs.Plan as model
-use Rattle.protocol.specs.Plan.{rule_limit}
 use Rattle.rows.specs.Rows.{span}
+use Rattle.rules.specs.declared.Rule.{Rule}
 
-unfoldable pub lowers : List ℤ → List ℕ
-lowers table = span 0 rule_limit (λ i. natural (get_or table (4 * i) (pos 0)))
+unfoldable pub lowers : List Rule → List ℕ
+lowers table = map (λ r. r.lower) table
 
-unfoldable pub gaps : List ℤ → List ℤ
-gaps table = span 0 rule_limit (λ i. get_or table (4 * i + 1) (pos 0))
+unfoldable pub gaps : List Rule → List ℤ
+gaps table = map (λ r. r.gap) table
 
-unfoldable pub uppers : List ℤ → List ℕ
-uppers table = span 0 rule_limit (λ i. natural (get_or table (4 * i + 2) (pos 0)))
+unfoldable pub uppers : List Rule → List ℕ
+uppers table = map (λ r. r.upper) table
 
-unfoldable pub firms : List ℤ → List Bool
-firms table = span 0 rule_limit (λ i. eqb (natural (get_or table (4 * i + 3) (pos 0))) 1)
+unfoldable pub firms : List Rule → List Bool
+firms table = map (λ r. r.firm) table
 
 -- rule i written anew
-abbrev pub with_rule : List ℤ → ℕ → ℤ → ℤ → ℤ → ℤ → List ℤ
-with_rule table i a c b f = set (set (set (set table (4 * i) a) (4 * i + 1) c) (4 * i + 2) b) (4 * i + 3) f
+abbrev pub with_rule : List Rule → ℕ → Rule → List Rule
+with_rule table i rule = set table i rule
+
+-- the highest measure that rules name
+abbrev pub top_of : List Rule → ℕ
+top_of rules = fold (λ top r. max (max top r.lower) r.upper) 0 rules
 
 -- the rules as the protocol has them
 abbrev pub rules_in : List ℕ → List ℤ → List ℕ → List Bool → ℕ → List model.Rule

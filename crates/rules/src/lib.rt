@@ -4,71 +4,88 @@
 
 ghost use Rattle.std.specs.Prelude.{◌≡◌, true, false, cond, ◌&&◌, ◌+◌, ◌-◌, ◌<◌, ◌≤◌, min, pos, ◌+ℤ◌, eqb, length, get_or, take};
 ghost use Rattle.std.specs.Int.Signed.{lt_z};
-ghost use Rattle.protocol.specs.Lists.{count, bit as bit_of};
+ghost use Rattle.std.specs.List.{list_any};
+ghost use Rattle.protocol.specs.Lists.{natural, count, bit as bit_of};
 ghost use Rattle.protocol.specs.Plan.{value};
 ghost use Rattle.rows.specs.Rows.{span};
-ghost use Rattle.rules.specs.Table.{lowers, gaps, uppers, firms, with_rule};
-ghost use Rattle.rules.specs.Rules.{with_value, pair_holds, names_pair, names_at, tested_in, firm_in};
+ghost use Rattle.rules.specs.Table.{lowers, gaps, uppers, firms, with_rule, top_of};
+ghost use Rattle.rules.specs.Rules.{numbered, with_value, pair_holds, names_pair, names_firmly, names_at, tested_in, firm_in};
 ghost use Rattle.rules.specs.Index.{place_of, other_of, with_naming, is_made, NoneAbove, Added, Indexed, listed_as, side_holds, indexed_in, firm_by};
 
 use protocol::limit;
 
 // The value of measure m in a row; 0 where there is none.
+#[tactic(auto, unfolding(protocol::specs::Plan::value))]
 fn value_at(row: &[i32], m: u32) -> i32
     ensures { result ≡ value row.now m }
 {
-    if m == 0 {
-        return 0;
-    }
-    let i = (m - 1) as usize;
-    if i < row.len() {
-        return row[i];
-    }
-    0
+    m.checked_sub(1)
+        .and_then(|i| row.get(i as usize))
+        .copied()
+        .unwrap_or(0)
 }
 
 // ---- the rule table
 
-// The rules as numbers, four to each: measure lower, plus gap, is less than measure upper; firm if 1. A negative number reads as 0.
-pub type Table = [i32; 256];
-
-fn lower_of(table: &Table, i: usize) -> u32
-    requires { i < 64 }
-    ensures { result ≡ get_or (lowers table.now) i 0 }
-{
-    exact::number(table[4 * i])
+// Measure lower, plus gap, is less than measure upper.
+#[derive(Clone, Copy)]
+pub struct Rule {
+    pub lower: u32,
+    pub gap: i32,
+    pub upper: u32,
+    pub firm: bool,
 }
 
-fn gap_of(table: &Table, i: usize) -> i32
-    requires { i < 64 }
-    ensures { result ≡ get_or (gaps table.now) i (pos 0) }
-{
-    table[4 * i + 1]
-}
+pub const NO_RULE: Rule = Rule {
+    lower: 0,
+    gap: 0,
+    upper: 0,
+    firm: false,
+};
 
-fn upper_of(table: &Table, i: usize) -> u32
-    requires { i < 64 }
-    ensures { result ≡ get_or (uppers table.now) i 0 }
-{
-    exact::number(table[4 * i + 2])
-}
+// The rules in the order of drawing.
+pub type Table = [Rule; limit::RULES];
 
-fn firm_of(table: &Table, i: usize) -> bool
-    requires { i < 64 }
-    ensures { result ≡ get_or (firms table.now) i false }
-{
-    exact::number(table[4 * i + 3]) == 1
+impl Rule {
+    // The rule of a call's numbers. A negative number reads as 0, and it is firm if the last is 1.
+    pub fn of(lower: i32, gap: i32, upper: i32, firm: i32) -> Rule
+        ensures { result ≡ record { lower = natural lower; gap = gap; upper = natural upper; firm = eqb (natural firm) 1 } }
+    {
+        Rule {
+            lower: exact::number(lower),
+            gap,
+            upper: exact::number(upper),
+            firm: exact::number(firm) == 1,
+        }
+    }
+
+    // It names measure m.
+    #[tactic(auto, unfolding(crate::specs::Rules::names_pair))]
+    fn names(&self, m: u32) -> bool
+        ensures { result ≡ names_pair self.now.lower self.now.upper m }
+    {
+        self.lower == m || self.upper == m
+    }
+
+    // It holds on a row where measure m counts as x.
+    #[tactic(auto, unfolding(crate::specs::Rules::pair_holds))]
+    fn holds(&self, row: &[i32], m: u32, x: i32) -> bool
+        ensures { result ≡ pair_holds (value (with_value m x row.now)) self.now.lower self.now.gap self.now.upper }
+    {
+        less_by(
+            value_with(row, m, x, self.lower),
+            self.gap,
+            value_with(row, m, x, self.upper),
+        )
+    }
 }
 
 // Writes the rule behind the first k, the last one anew if there are 64.
-pub fn put_rule(table: &mut Table, k: u32, a: i32, c: i32, b: i32, f: i32)
-    ensures { table.new ≡ with_rule table.old (min k 63) a c b f }
+pub fn put_rule(table: &mut Table, k: u32, rule: Rule)
+    ensures { table.new ≡ with_rule table.old (min k 63) rule }
 {
     let i = rows::capped(k, limit::LAST_RULE);
-    table[4 * i] = a;
-    table[4 * i + 1] = c;
-    table[4 * i + 2] = b;
-    table[4 * i + 3] = f;
+    table[i] = rule;
 }
 
 // ---- a row where one measure counts as another number
@@ -77,10 +94,8 @@ pub fn put_rule(table: &mut Table, k: u32, a: i32, c: i32, b: i32, f: i32)
 fn value_with(row: &[i32], m: u32, x: i32, k: u32) -> i32
     ensures { result ≡ value (with_value m x row.now) k }
 {
-    if k == m {
-        if rows::one_to(row.len(), m) {
-            return x;
-        }
+    if k == m && rows::one_to(row.len(), m) {
+        return x;
     }
     value_at(row, k)
 }
@@ -114,16 +129,6 @@ pub fn forget(index: &mut Index)
     index[MADE] = 0;
 }
 
-// A rule on measures a and b names measure m.
-fn names(a: u32, b: u32, m: u32) -> bool
-    ensures { result ≡ names_pair a b m }
-{
-    if a == m {
-        return true;
-    }
-    b == m
-}
-
 // Where the other measure k of a rule that names measure m stands.
 fn place_of(k: u32, m: u32) -> i32
     ensures { result ≡ pos (place_of m k) }
@@ -142,11 +147,11 @@ fn other_of(table: &Table, i: usize, m: u32) -> i32
     requires { i < 64 }
     ensures { result ≡ other_of m (get_or (lowers table.now) i 0) (get_or (uppers table.now) i 0) }
 {
-    let a = lower_of(table, i);
-    if a == m {
-        return place_of(upper_of(table, i), m);
+    let rule = &table[i];
+    if rule.lower == m {
+        return place_of(rule.upper, m);
     }
-    exact::below(place_of(a, m))
+    exact::below(place_of(rule.lower, m))
 }
 
 fn put_naming(index: &mut Index, k: usize, i: i32, o: i32, g: i32)
@@ -158,24 +163,14 @@ fn put_naming(index: &mut Index, k: usize, i: i32, o: i32, g: i32)
     index[130 + 3 * k] = g;
 }
 
-fn larger(a: u32, b: u32) -> u32
-    ensures { (a ≤ result) × (b ≤ result) }
-{
-    if a < b { b } else { a }
-}
-
 // A number that no measure of the first rules is above.
 fn highest(table: &Table, end: usize) -> u32
     requires { end ≤ 64 }
-    ensures { NoneAbove (lowers table.now) (uppers table.now) end result }
+    ensures { result ≡ top_of (take end table.now) }
 {
-    let mut top: u32 = 0;
-    let mut i: usize = 0;
-    while i < end {
-        top = larger(top, larger(lower_of(table, i), upper_of(table, i)));
-        i += 1;
-    }
-    top
+    table[..end]
+        .iter()
+        .fold(0, |top: u32, rule| top.max(rule.lower).max(rule.upper))
 }
 
 // Puts the namings of measure m among the first rules, none of which names one above `top`, behind the n that there are, and gives how many there are then.
@@ -188,17 +183,11 @@ fn add_namings(index: &mut Index, table: &Table, end: usize, top: u32, m: u32, n
         return n;
     }
     let mut next = n;
-    let mut i: usize = 0;
-    while i < end {
-        let a = lower_of(table, i);
-        let b = upper_of(table, i);
-        if names(a, b, m) {
-            let o = other_of(table, i, m);
-            let g = gap_of(table, i);
-            put_naming(index, next, i as i32, o, g);
+    for i in 0..end {
+        if table[i].names(m) {
+            put_naming(index, next, i as i32, other_of(table, i, m), table[i].gap);
             next += 1;
         }
-        i += 1;
     }
     next
 }
@@ -304,57 +293,27 @@ pub fn broken_by_index<'a>(index: &'a Index, lent: &'a [i32], m: u32, x: i32) ->
     0
 }
 
-fn pair_holds(row: &[i32], m: u32, x: i32, a: u32, g: i32, b: u32) -> bool
-    ensures { result ≡ pair_holds (value (with_value m x row.now)) a g b }
+// The number of a broken rule among the first k, on a row where measure m counts as x: the first, last drawn first (02, S-3).
+pub fn broken_of_all<'a>(table: &'a Table, k: u32, row: &'a [i32], m: u32, x: i32) -> Option<u32>
+    ensures { result ≡ numbered (tested_in false m (lowers table.now) (gaps table.now) (uppers table.now) (min k 64) x row.now) }
 {
-    less_by(value_with(row, m, x, a), g, value_with(row, m, x, b))
-}
-
-// The number of a broken rule among the first k, on a row where measure m counts as x: the first, last drawn first (02, S-3); 0 if none is broken.
-pub fn broken_of_all<'a>(table: &'a Table, k: u32, row: &'a [i32], m: u32, x: i32) -> u32
-    ensures { result ≡ tested_in false m (lowers table.now) (gaps table.now) (uppers table.now) (min k 64) x row.now }
-{
-    let mut i = rows::capped(k, limit::RULES);
-    while 0 < i {
-        let a = lower_of(table, i - 1);
-        let b = upper_of(table, i - 1);
-        let g = gap_of(table, i - 1);
-        if !pair_holds(row, m, x, a, g, b) {
-            return i as u32;
+    for i in (0..rows::capped(k, limit::RULES)).rev() {
+        if !table[i].holds(row, m, x) {
+            return Some(i as u32 + 1);
         }
-        i -= 1;
     }
-    0
+    None
 }
 
 // ---- firm rules
 
-// A rule on measures a and b, firm or not, is firm and names measure m.
-fn names_firmly(f: bool, a: u32, b: u32, m: u32) -> bool
-    ensures { result ≡ (f && names_pair a b m) }
-{
-    if f {
-        return names(a, b, m);
-    }
-    false
-}
-
 // Whether one of the first k rules is firm and names the measure: a search.
 fn firm_named(table: &Table, k: u32, m: u32) -> bool
-    ensures { result ≡ firm_in (lowers table.now) (uppers table.now) (firms table.now) (min k 64) m }
+    ensures { result ≡ list_any (names_firmly m) (take (min k 64) table.now) }
 {
-    let end = rows::capped(k, limit::RULES);
-    let mut i: usize = 0;
-    while i < end {
-        let f = firm_of(table, i);
-        let a = lower_of(table, i);
-        let b = upper_of(table, i);
-        if names_firmly(f, a, b, m) {
-            return true;
-        }
-        i += 1;
-    }
-    false
+    table[..rows::capped(k, limit::RULES)]
+        .iter()
+        .any(|rule| rule.firm && rule.names(m))
 }
 
 // The same where no rule names a measure above `top`.
@@ -362,10 +321,7 @@ fn firm_below(table: &Table, k: u32, top: u32, m: u32) -> bool
     requires { NoneAbove (lowers table.now) (uppers table.now) (min k 64) top }
     ensures { result ≡ firm_in (lowers table.now) (uppers table.now) (firms table.now) (min k 64) m }
 {
-    if top < m {
-        return false;
-    }
-    firm_named(table, k, m)
+    m <= top && firm_named(table, k, m)
 }
 
 // The same from an index that a caller lends, where it knows that all rules hold (`sound`): the rules' own (`Indexed`) says the same.

@@ -1,15 +1,15 @@
 -- Slots as four words. Assumes nothing.
-use Rattle.std.proofs.Common.{◌≡◌, ℕ, suc, ◌+◌, ◌-◌, ◌*◌, ◌/◌, ◌%◌, ◌<◌, ◌≤◌, true, false, T, List, [], ◌∷◌, ◌++◌, length, get_or, take, set, ℤ, pos, negsuc, sym, refl, ap, ◌∙◌, subst, ap₂, arith, length-set, ltb-true, le-ltb, lt-ltb}
-use lib.Seq.{sets}
-use lib.Signed.{lt_z}
-use Rattle.protocol.specs.Lists.{natural}
-use Rattle.exact.specs.Signs.{beyond}
+use Rattle.std.proofs.Common.{◌≡◌, ℕ, suc, ◌+◌, ◌-◌, ◌*◌, ◌/◌, ◌%◌, ◌<◌, ◌≤◌, ltb, List, [], ◌∷◌, ◌++◌, length, get_or, take, drop, set, ℤ, pos, negsuc, sym, refl, ap, ◌∙◌, subst, ap₂, arith, lt-ltb, append_assoc, w32, to_z, of_z, to_z-of_z, FitsSigned}
+use Rattle.std.proofs.lemmas.Int.{of_z-to_z}
+use lib.Seq.{sets, sets-eq}
+use borrow.Rule.Slice.PartMut.{put_mid, Post-is}
+use Rattle.protocol.proofs.Laws.{cases}
 use Rattle.file.specs.Bytes.{word_size, two_at, four_at, four_bytes, signed, complement, total}
 use Rattle.file.specs.Loaded.{slot_in}
 use Rattle.file.proofs.Cells.{two_slot, four_slot, total_more}
 use Rattle.file.proofs.Chains.{slot_byte}
 use Rattle.slots.specs.declared.Slot.{Slot}
-use Rattle.slots.specs.Words.{words_of, no_words, words_in, Parted, sum_of, bytes_of, put_in}
+use Rattle.slots.specs.Words.{words_of, words_in, Parted, sum_of, bytes_of, put_in}
 
 -- ---- reading
 
@@ -40,56 +40,30 @@ module _ (f : List ℕ) (k : ℕ) (h : k < length f / 16) where
       half i m l x = two_slot f k i (omega arith) ∙ ap (two_at f) (sym x)
 
   -- the sum of the first slots, with one more
-  pub sum_more : (s : ℕ) (w : Slot) → s ≡ total (take (16 * k) f) % word_size → w ≡ words_in f k → (s + sum_of w) % word_size ≡ total (take (16 * suc k) f) % word_size
-  sum_more s w e u =
+  pub sum_more : (s t : ℕ) (w : Slot) → s ≡ total (take (16 * k) f) % word_size → w ≡ words_in f k → t ≡ sum_of w % word_size → (s + t) % word_size ≡ total (take (16 * (k + 1)) f) % word_size
+  sum_more s t w e u x =
       let v : w ≡ words_of (slot_in f k) = u ∙ rw (lt-ltb k (length f / 16) h) in
-      let t = total_more f k (omega arith) in
-      let n = ap sum_of v in
-      let m : sum_of w ≡ sum_of (words_of (slot_in f k)) = n in
-      mod_more (total (take (16 * k) f)) s (sum_of w) (total (take (16 * suc k) f)) e (t ∙ ap (λ x. total (take (16 * k) f) + x) (sym m))
+      let m : sum_of w ≡ sum_of (words_of (slot_in f k)) = ap sum_of v in
+      let n : suc k ≡ k + 1 = omega arith in
+      mod_more (total (take (16 * k) f)) s (sum_of w) t (total (take (16 * suc k) f)) e x (total_more f k (omega arith) ∙ ap (λ y. total (take (16 * k) f) + y) (sym m))
+      ∙ ap (λ y. total (take (16 * y) f) % word_size) n
     where
-      mod_more : (a s b c : ℕ) → s ≡ a % word_size → c ≡ a + b → (s + b) % word_size ≡ c % word_size
-      mod_more a s b c e g = omega (arith, e, g)
-
-pub read_none : (f : List ℕ) (k : ℕ) → length f / 16 ≤ k → no_words ≡ words_in f k
-read_none f k h = rw (le-ltb k (length f / 16) h)
-
--- a sum of sums, modulo 2^32
-pub sum-words : (s a b c d x y z r : ℕ) → x ≡ (a + b) % word_size → y ≡ (c + d) % word_size → z ≡ (x + y) % word_size → r ≡ (s + z) % word_size → r ≡ (s + (a + b + (c + d))) % word_size
-sum-words s a b c d x y z r p q u v =
-    v ∙ ap (λ n. (s + n) % word_size) u ∙ mod_right s (x + y) ∙ ap₂ (λ m n. (s + (m + n)) % word_size) p q ∙ both s (a + b) (c + d)
-  where
-    mod_right : (s n : ℕ) → (s + n % word_size) % word_size ≡ (s + n) % word_size
-    mod_right s n = omega arith
-
-    both : (s m n : ℕ) → (s + (m % word_size + n % word_size)) % word_size ≡ (s + (m + n)) % word_size
-    both s m n =
-        let e : s + (m % word_size + n % word_size) ≡ (s + m % word_size) + n % word_size = omega arith in
-        let g : s + m % word_size + n ≡ (s + n) + m % word_size = omega arith in
-        let h : s + n + m ≡ s + (m + n) = omega arith in
-        ap (λ k. k % word_size) e ∙ mod_right (s + m % word_size) n ∙ ap (λ k. k % word_size) g ∙ mod_right (s + n) m ∙ ap (λ k. k % word_size) h
+      mod_more : (a s b t c : ℕ) → s ≡ a % word_size → t ≡ b % word_size → c ≡ a + b → (s + t) % word_size ≡ c % word_size
+      mod_more a s b t c e g x = omega (arith, e, g, x)
 
 -- ---- two's complement
 
-pub signed_above : (w : ℕ) → w < 2_147_483_648 → pos w ≡ signed w
+pub signed_is : (w : ℕ) (z : ℤ) → w < word_size → z ≡ to_z w32 w → to_z w32 (of_z w32 z) ≡ signed w
 unfolding signed
-signed_above w h = rw (lt-ltb w 2_147_483_648 h)
+signed_is w z h e = ap (λ y. to_z w32 (of_z w32 y)) e ∙ ap (to_z w32) (of_z-to_z w32 w h) ∙ cases (ltb w 2_147_483_648) (λ e. rw e) (λ e. let k : word_size - w ≡ suc (word_size - suc w) = omega arith in rw (e, k))
 
-pub signed_below : (w : ℕ) → 2_147_483_648 ≤ w → w < word_size → negsuc (4_294_967_295 - w) ≡ signed w
-unfolding signed
-signed_below w h l =
-    let e : word_size - w ≡ suc (4_294_967_295 - w) = omega arith in
-    rw (le-ltb w 2_147_483_648 h, e)
-
-pub complement_below : (v : ℤ) → lt_z v (pos 0) ≡ true → 4_294_967_295 - beyond v ≡ complement v
+pub complement_is : (v : ℤ) (w : ℕ) → FitsSigned w32 v → w ≡ of_z w32 (to_z w32 (of_z w32 v)) → w ≡ complement v
 unfolding complement
-complement_below (pos n) e = absurd (let h = ltb-true n 0 e in omega arith)
-complement_below (negsuc n) e = let s : 4_294_967_295 - n ≡ word_size - suc n = omega arith in s
-
-pub complement_above : (v : ℤ) → lt_z v (pos 0) ≡ false → natural v ≡ complement v
-unfolding complement
-complement_above (pos n) e = refl
-complement_above (negsuc n) e = absurd (subst T e tt)
+complement_is v w h e = e ∙ ap (of_z w32) (to_z-of_z h) ∙ plain v
+  where
+    plain : (z : ℤ) → of_z w32 z ≡ complement z
+    plain (pos n) = refl
+    plain (negsuc n) = refl
 
 -- ---- writing
 
@@ -97,17 +71,12 @@ pub sets_both : (xs ys area : List ℕ) (at : ℕ) → sets (sets area at xs) (a
 sets_both [] ys area at = let e : at + 0 ≡ at = omega arith in ap (λ n. sets area n ys) e
 sets_both (x ∷ xs) ys area at = let e : at + suc (length xs) ≡ suc at + length xs = omega arith in ap (λ n. sets (sets (set area at x) (suc at) xs) n ys) e ∙ sets_both xs ys (set area at x) (suc at)
 
--- a place of an area is one of it still once a byte is stored
-pub still : {n : ℕ} (area : List ℕ) (at b : ℕ) → n < length area → n < length (set area at b)
-still area at b h = let l = length-set area at b in omega arith
-
--- four bytes, stored one after the other
-pub four_sets : (area : List ℕ) (at a b c d : ℕ) → set (set (set (set area at a) (at + 1) b) (at + 2) c) (at + 3) d ≡ sets area at (a ∷ b ∷ c ∷ d ∷ [])
-four_sets area at a b c d =
-    let x : at + 1 ≡ suc at = omega arith in
-    let y : at + 2 ≡ suc (suc at) = omega arith in
-    let z : at + 3 ≡ suc (suc (suc at)) = omega arith in
-    rw (x, y, z)
+-- a part of an area, copied over
+pub part_sets : (area : List ℕ) (at k : ℕ) (xs ys : List ℕ) → ys ≡ xs → k ≡ length xs → at + k ≤ length area → put_mid at (at + k - at) area ys ≡ sets area at xs
+part_sets area at k xs ys e l h =
+    let p : at + k ≡ at + length xs = omega (arith, l) in
+    ap (λ zs. put_mid at (at + k - at) area zs) e ∙ ap (λ zs. take at area ++ (xs ++ zs)) (Post-is at (at + k) area (omega arith) ∙ ap (λ n. drop n area) p)
+    ∙ sym (append_assoc (take at area) xs _) ∙ sym (sets-eq xs area at (omega (arith, l, h)))
 
 -- slot k, from its four words written one after the other
 pub put_in_lem : (area : List ℕ) (k at : ℕ) (w : Slot) (a b c d : List ℕ) → k < length area / 16 → at ≡ 16 * k → a ≡ sets area at (four_bytes w.first) → b ≡ sets a (at + 4) (four_bytes w.second)
@@ -129,6 +98,3 @@ put_in_lem area k at w a b c d h e p q r s =
 
     sum_8 : (n : ℕ) → n + 8 ≡ n + 4 + 4
     sum_8 n = omega arith
-
-pub put-none : (area : List ℕ) (k : ℕ) (w : Slot) → length area / 16 ≤ k → area ≡ put_in area k w
-put-none area k w h = rw (le-ltb k (length area / 16) h)

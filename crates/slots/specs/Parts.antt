@@ -1,8 +1,15 @@
 -- Scaffolding: the parts of a slot, from its words; and that nothing is set in it that must be nought. Assumes nothing.
 use Rattle.std.specs.Prelude.{ℕ, ◌/◌, ◌%◌, Bool, true, cond, not, ◌&&◌, ◌==◌}
 use Rattle.protocol.specs.Lists.{is_none}
-use Rattle.file.specs.Bytes.{measure_kind, kind_bits, firm_bit, high_bits}
+use Rattle.file.specs.Bytes.{measure_kind, rule_kind, kind_bits, firm_bit, high_bits}
+use Rattle.slots.specs.declared.Kind.{Kind}
+use Rattle.slots.specs.declared.Kind.TheVariants.{Measure, Rule}
 use Rattle.slots.specs.declared.Slot.{Slot}
+
+-- a kind's number
+abbrev pub kind_number : Kind → ℕ
+kind_number Measure = measure_kind
+kind_number Rule = rule_kind
 
 -- the mark byte
 abbrev pub mark_part : Slot → ℕ

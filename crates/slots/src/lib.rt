@@ -6,7 +6,7 @@ ghost use Rattle.std.proofs.lemmas.List.Edits.{sets};
 ghost use Rattle.file.specs.Bytes.{word_size, byte_at, two_at, four_at, four_bytes, signed, complement, kind_bits, firm_bit, high_bits, mark, total};
 ghost use Rattle.file.specs.Loaded.{slot_in, slots};
 ghost use Rattle.slots.specs.Words.{words_in, Parted, sum_of, joined_word, put_in};
-ghost use Rattle.slots.specs.Parts.{fits_kind};
+ghost use Rattle.slots.specs.Parts.{kind_number, fits_kind};
 
 // Bytes of a slot.
 pub const SIZE: usize = 16;
@@ -14,10 +14,24 @@ pub const SIZE: usize = 16;
 // Slots of a file, slot 0 with them.
 pub const LIMIT: usize = 97;
 
-// The kinds of slots, as the two low bits of the mark byte have them.
-pub const MEASURE: u8 = 1;
+// The kinds of slots.
+#[derive(Clone, Copy, PartialEq, Eq)]
+pub enum Kind {
+    Measure,
+    Rule,
+}
 
-pub const RULE: u8 = 2;
+impl Kind {
+    // As the two low bits of the mark byte have it.
+    fn bits(self) -> u8
+        ensures { result ≡ kind_number self }
+    {
+        match self {
+            Kind::Measure => 1,
+            Kind::Rule => 2,
+        }
+    }
+}
 
 // A slot as four words, little-endian.
 #[derive(Clone, Copy)]
@@ -30,69 +44,83 @@ pub struct Slot {
 
 // ---- reading
 
-fn wide(x: u8) -> u32
-    ensures { (result ≡ x) × (result < 256) }
-{
-    x as u32
-}
-
-#[tactic(auto, unfolding(file::specs::Bytes::two_at))]
-fn two(f: &[u8], at: usize) -> u32
-    requires { at + 2 ≤ length f.now }
-    ensures { (result ≡ two_at f.now at) × (result < 65536) × (byte_at f.now at < 256) }
-{
-    wide(f[at]) + 256 * wide(f[at + 1])
-}
-
-#[tactic(auto, unfolding(file::specs::Bytes::four_at))]
+#[tactic(auto, unfolding(file::specs::Bytes::four_at, file::specs::Bytes::two_at))]
 fn word(f: &[u8], at: usize) -> u32
     requires { at + 4 ≤ length f.now }
     ensures { (result ≡ four_at f.now at) × (two_at f.now at < 65536) × (byte_at f.now (at + 2) < 256) }
 {
-    two(f, at) + 65536 * two(f, at + 2)
+    u32::from_le_bytes([f[at], f[at + 1], f[at + 2], f[at + 3]])
 }
 
-// Slot k of a file; nought where the file has none.
-pub fn read(f: &[u8], k: usize) -> Slot
-    ensures { (result ≡ words_in f.now k) × (k < slots f.now → Parted (slot_in f.now k)) }
-{
-    if k < f.len() / SIZE {
-        let at = SIZE * k;
-        return Slot {
-            first: word(f, at),
-            second: word(f, at + 4),
-            third: word(f, at + 8),
-            fourth: word(f, at + 12),
-        };
-    }
-    Slot {
+impl Slot {
+    const NOUGHT: Slot = Slot {
         first: 0,
         second: 0,
         third: 0,
         fourth: 0,
+    };
+
+    // Slot k of a file; nought where the file has none.
+    pub fn read(f: &[u8], k: usize) -> Slot
+        ensures { (result ≡ words_in f.now k) × (k < slots f.now → Parted (slot_in f.now k)) }
+    {
+        if f.len() / SIZE <= k {
+            return Slot::NOUGHT;
+        }
+        let at = SIZE * k;
+        Slot {
+            first: word(f, at),
+            second: word(f, at + 4),
+            third: word(f, at + 8),
+            fourth: word(f, at + 12),
+        }
+    }
+
+    // The sum of its words, modulo 2^32.
+    fn sum(&self) -> u32
+        ensures { result ≡ sum_of self.now % word_size }
+    {
+        self.first
+            .wrapping_add(self.second)
+            .wrapping_add(self.third)
+            .wrapping_add(self.fourth)
+    }
+
+    // It is of a kind, and nothing is set in it that must be nought.
+    pub fn fits(&self, kind: Kind) -> bool
+        ensures { result ≡ fits_kind (kind_number kind) self.now }
+    {
+        let m = mark_byte(self.first);
+        kind_of(m) == kind.bits()
+            && high_bits(m) == 0
+            && last_byte(self.first) == 0
+            && self.fourth == 0
+            && (kind != Kind::Measure || (!firm_of(m) && self.third == 0))
+    }
+
+    // Written anew as slot k of an area; nothing where the area has none.
+    #[tactic(auto, using(crate::proofs::Words::put_in_lem))]
+    pub fn put(self, area: &mut [u8], k: usize)
+        ensures { area.new ≡ put_in area.old k self }
+    {
+        if k < area.len() / SIZE {
+            let at = SIZE * k;
+            put_word(area, at, self.first);
+            put_word(area, at + 4, self.second);
+            put_word(area, at + 8, self.third);
+            put_word(area, at + 12, self.fourth);
+        }
     }
 }
 
-// The sum of words, modulo 2^32.
-fn added(s: u32, w: Slot) -> u32
-    ensures { result ≡ (s + sum_of w) % word_size }
-{
-    let a = std::num::wrapping_add_u32(w.first, w.second);
-    let b = std::num::wrapping_add_u32(w.third, w.fourth);
-    std::num::wrapping_add_u32(s, std::num::wrapping_add_u32(a, b))
-}
-
 // The sum of all words of a file's slots, modulo 2^32.
+#[tactic(auto, using(crate::proofs::Words::sum_more), unfolding(file::specs::Bytes::total))]
 pub fn sum(f: &[u8]) -> u32
     ensures { result ≡ total (take (16 * slots f.now) f.now) % word_size }
 {
-    let n = f.len() / SIZE;
     let mut s: u32 = 0;
-    let mut k: usize = 0;
-    while k < n {
-        let w = read(f, k);
-        s = added(s, w);
-        k += 1;
+    for k in 0..f.len() / SIZE {
+        s = s.wrapping_add(Slot::read(f, k).sum());
     }
     s
 }
@@ -102,13 +130,13 @@ pub fn sum(f: &[u8]) -> u32
 pub fn low(w: u32) -> u32
     ensures { result ≡ w % 65536 }
 {
-    w % 65536
+    w & 0xffff
 }
 
 pub fn high(w: u32) -> u32
     ensures { result ≡ w / 65536 }
 {
-    w / 65536
+    w >> 16
 }
 
 // Two numbers of two bytes as a word.
@@ -119,22 +147,18 @@ pub fn joined(a: u32, b: u32) -> u32
 }
 
 // A word as a whole number, two's complement, and back.
+#[tactic(auto, using(crate::proofs::Words::signed_is))]
 pub fn value(w: u32) -> i32
     ensures { result ≡ signed w }
 {
-    if w < 2147483648 {
-        return w as i32;
-    }
-    exact::below((4294967295 - w) as i32)
+    w.cast_signed()
 }
 
+#[tactic(auto, using(crate::proofs::Words::complement_is))]
 pub fn word_of(v: i32) -> u32
     ensures { result ≡ complement v }
 {
-    if v < 0 {
-        return 4294967295 - exact::behind(v);
-    }
-    exact::number(v)
+    v.cast_unsigned()
 }
 
 // ---- the mark byte
@@ -143,15 +167,16 @@ pub fn word_of(v: i32) -> u32
 pub fn mark_byte(w: u32) -> u8
     ensures { result ≡ w / 65536 % 256 }
 {
-    (w / 65536 % 256) as u8
+    ((w >> 16) & 0xff) as u8
 }
 
 pub fn last_byte(w: u32) -> u32
     ensures { result ≡ w / 16777216 }
 {
-    w / 16777216
+    w >> 24
 }
 
+// The kind's bits as they stand, those of no kind with them.
 #[tactic(auto, unfolding(file::specs::Bytes::kind_bits))]
 pub fn kind_of(m: u8) -> u8
     ensures { result ≡ kind_bits m }
@@ -174,62 +199,19 @@ pub fn high_bits(m: u8) -> u8
     m >> 3
 }
 
-#[tactic(auto, unfolding(file::specs::Bytes::mark, file::specs::Bytes::kind_bits))]
-pub fn mark_of(kind: u8, firm: bool) -> u8
-    ensures { result ≡ mark (kind_bits kind) firm }
+#[tactic(auto, unfolding(file::specs::Bytes::mark))]
+pub fn mark_of(kind: Kind, firm: bool) -> u8
+    ensures { result ≡ mark (kind_number kind) firm }
 {
-    if firm { (kind & 3) | 4 } else { kind & 3 }
-}
-
-// A slot is of a kind, and nothing is set in it that must be nought.
-pub fn fits(kind: u8, w: Slot) -> bool
-    ensures { result ≡ fits_kind kind w }
-{
-    let m = mark_byte(w.first);
-    if kind_of(m) != kind {
-        return false;
-    }
-    if high_bits(m) != 0 {
-        return false;
-    }
-    if last_byte(w.first) != 0 {
-        return false;
-    }
-    if w.fourth != 0 {
-        return false;
-    }
-    if kind != MEASURE {
-        return true;
-    }
-    if firm_of(m) {
-        return false;
-    }
-    w.third == 0
+    kind.bits() | (u8::from(firm) << 2)
 }
 
 // ---- writing
 
-#[tactic(auto, using(crate::proofs::Words::four_sets), unfolding(file::specs::Bytes::four_bytes))]
+#[tactic(auto, using(crate::proofs::Words::part_sets), unfolding(file::specs::Bytes::four_bytes))]
 fn put_word(area: &mut [u8], at: usize, w: u32)
     requires { at + 4 ≤ length area.old }
     ensures { area.new ≡ sets area.old at (four_bytes w) }
 {
-    area[at] = (w % 256) as u8;
-    area[at + 1] = (w / 256 % 256) as u8;
-    area[at + 2] = (w / 65536 % 256) as u8;
-    area[at + 3] = (w / 16777216 % 256) as u8;
-}
-
-// Slot k of an area, written anew; nothing where the area has none.
-#[tactic(auto, using(crate::proofs::Words::put_in_lem))]
-pub fn put(area: &mut [u8], k: usize, w: Slot)
-    ensures { area.new ≡ put_in area.old k w }
-{
-    if k < area.len() / SIZE {
-        let at = SIZE * k;
-        put_word(area, at, w.first);
-        put_word(area, at + 4, w.second);
-        put_word(area, at + 8, w.third);
-        put_word(area, at + 12, w.fourth);
-    }
+    area[at..at + 4].copy_from_slice(&w.to_le_bytes());
 }

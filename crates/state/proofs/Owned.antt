@@ -27,6 +27,9 @@ use Rattle.state.proofs.View.{unmapped}
 
 -- ---- lengths
 
+pub owned_table : (p : State) → Is (Declared.row the_type) p (val the_type the_laws p ∷ []) → length p.table ≡ 64
+owned_table p g = search unmapped
+
 pub owned_spread : (p : State) → Is (Declared.row the_type) p (val the_type the_laws p ∷ []) → Sized (spread p)
 owned_spread p g = record {
   base = search rules;
@@ -34,15 +37,12 @@ owned_spread p g = record {
   values = search rules;
   arrived = search rules;
   confirmed = search rules;
-  lower = lowers-length p.table;
-  gap = gaps-length p.table;
-  upper = uppers-length p.table;
-  firm = firms-length p.table;
+  lower = lowers-length p.table (owned_table p g);
+  gap = gaps-length p.table (owned_table p g);
+  upper = uppers-length p.table (owned_table p g);
+  firm = firms-length p.table (owned_table p g);
   edits = search unmapped;
 }
-
-pub owned_table : (p : State) → Is (Declared.row the_type) p (val the_type the_laws p ∷ []) → length p.table ≡ 256
-owned_table p g = search rules
 
 -- ---- ranges
 

@@ -1,15 +1,17 @@
+use Prim.Native.Nat.{◌-◌, min}
 use native.Mathlib.Omega.{arith}
-use mathlib.Core.Path.{refl}
-use mir.Facts.{to_z-of_z}
-use Rattle.exact.proofs.Ints.{fits32}
+use mathlib.Core.Path.{◌≡◌, ap}
+use lib.ListN.{length}
 use Rattle.rows.specs.Rows.{copied}
-use Rattle.rows.proofs.Copies.{copied_next}
-use Rattle.rows.specs.Rows.{copied}
+use Rattle.rows.proofs.Copies.{copied_part}
 use Rattle.rows.proofs.copy.Goals as goal
 
-pub loop-i-init : goal.loop-i-init
-unfolding copied
-loop-i-init c = (omega arith, refl)
+pub returns-then-size-gt0 : goal.returns-then-size-gt0
+returns-then-size-gt0 c =
+    copied_part c.args.into.now c.args.values.now c.copy_from_slice.new.self c.args.from c.args.to _ _ _ (omega arith) (omega arith) (omega arith) (omega arith) c.copy_from_slice.ensures.after
 
-pub loop-i-preserved : goal.loop-i-preserved
-loop-i-preserved c = (omega arith, copied_next _ _ _ _ _ _ _ _ _ c.loop-i.invariant.1 refl refl (to_z-of_z (fits32 _ c.v-1.given)))
+pub returns-else-size-gt0 : goal.returns-else-size-gt0
+unfolding copied
+returns-else-size-gt0 c =
+    let e : 0 ≡ min c.args.n (min (length c.args.into.now - c.args.to) (length c.args.values.now - c.args.from)) = omega arith in
+    ap (copied c.args.into.now c.args.values.now c.args.from c.args.to) e

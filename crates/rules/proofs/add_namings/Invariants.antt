@@ -1,10 +1,6 @@
-use Prim.Native.Nat.{◌-◌, ◌≤◌}
 use Rattle.rules.specs.Table.{lowers, gaps, uppers}
 use Rattle.rules.proofs.Making.{Adding}
 use Rattle.rules.proofs.add_namings.Given as goal
 
 abbrev pub invariant-loop-i : goal.invariant-loop-i
-invariant-loop-i l = (l.i ≤ l.end) × Adding (lowers l.table) (gaps l.table) (uppers l.table) l.end l.m l.n l.initial.index l.index l.next l.i
-
-abbrev pub decreases-loop-i : goal.decreases-loop-i
-decreases-loop-i l = l.end - l.i
+invariant-loop-i l = Adding (lowers l.table) (gaps l.table) (uppers l.table) l.end l.m l.n l.initial.index l.index l.next l.i

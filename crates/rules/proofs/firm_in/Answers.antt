@@ -1,4 +1,5 @@
-use Prim.Native.Nat.{◌+◌}
+use Prim.Native.Nat.{◌+◌, min}
+use native.Mathlib.Omega.{arith}
 use mathlib.Core.Path.{ap, ◌∙◌}
 use lib.Dec.{eqb}
 use lib.IntN.{pos}
@@ -7,6 +8,7 @@ use mir.Facts.{to_z-of_z}
 use Rattle.exact.proofs.Ints.{fits32}
 use Rattle.protocol.specs.Lists.{natural}
 use Rattle.rules.specs.Index.{firm_by, flag_in}
+use Rattle.rules.proofs.Table.{named_is}
 use Rattle.rules.proofs.firm_in.Goals as goal
 
 pub returns-then-sound : goal.returns-then-sound
@@ -19,4 +21,4 @@ returns-then-sound c = let i = c.args.index.now in
 
 pub returns : goal.returns
 unfolding firm_by
-returns c = rw c.if-sound.false c.firm_named.ensures
+returns c = let a = c.args in rw c.if-sound.false (c.firm_named.ensures ∙ named_is a.table.now a.m (min a.k 64) (omega arith))

@@ -1,14 +1,15 @@
-use Prim.Native.Nat.{◌<◌, ◌≤◌}
+use Prim.Native.Nat.{◌<◌, ◌≤◌, min}
 use native.Mathlib.Omega.{arith}
 use mathlib.Core.Path.{refl, sym, ap, subst, ◌∙◌}
 use lib.IntN.{pos}
-use lib.ListN.{replicate}
+use lib.ListN.{replicate, take}
 use mir.Facts.{to_z-of_z}
 use Rattle.exact.proofs.Ints.{fits32}
 use Rattle.rows.proofs.Spans.{get_or-blank}
-use Rattle.rules.specs.Table.{lowers, gaps, uppers, firms}
+use Rattle.rules.specs.Table.{lowers, gaps, uppers, firms, top_of}
 use Rattle.rules.specs.Rules.{firm_in}
-use Rattle.rules.specs.Index.{Indexed}
+use Rattle.rules.specs.Index.{NoneAbove, Indexed}
+use Rattle.rules.proofs.Table.{top_is}
 use Rattle.rules.proofs.Making.{indexing_begin, indexing_over, indexing_room, indexing_few, indexing_next, indexed-marked, marked}
 use Rattle.rules.proofs.indexed.Goals as goal
 
@@ -16,7 +17,7 @@ pub loop-m-init : goal.loop-m-init
 loop-m-init c = indexing_begin _ _ _ _ _ (replicate 512 (pos 0)) refl (λ j. get_or-blank 512 j (pos 0))
 
 pub add_namings-n-requires : goal.add_namings-n-requires
-add_namings-n-requires c = (c.loop-m.invariant.long, omega arith, c.highest-top.ensures, indexing_room _ _ _ _ _ _ _ _ c.loop-m.invariant (omega arith) (omega arith))
+add_namings-n-requires c = (c.loop-m.invariant.long, omega arith, subst (NoneAbove (lowers c.args.table.now) (uppers c.args.table.now) c.capped-rules.result) (sym c.highest-top.ensures) (top_is c.args.table.now c.capped-rules.result), indexing_room _ _ _ _ _ _ _ _ c.loop-m.invariant (omega arith) (omega arith))
 
 pub overflow_cast-index : goal.overflow_cast-index
 overflow_cast-index c = fits32 _ (let f = indexing_few _ _ _ _ _ _ _ _ c.loop-m.invariant (omega arith) (omega arith) _ _ c.add_namings-n.ensures in omega arith)
@@ -41,3 +42,7 @@ returns c = let a = c.args in
           (indexing_over _ _ _ _ _ _ _ _ c.loop-m.invariant (omega arith))),
       marked index c.loop-m.invariant.long,
     )
+
+pub firm_below-requires : goal.firm_below-requires
+firm_below-requires c = let n = c.capped-rules.ensures in
+    subst (NoneAbove (lowers c.args.table.now) (uppers c.args.table.now) (min c.args.k 64)) (sym c.highest-top.ensures) (subst (λ n. NoneAbove (lowers c.args.table.now) (uppers c.args.table.now) n (top_of (take c.capped-rules.result c.args.table.now))) n (top_is c.args.table.now c.capped-rules.result))
