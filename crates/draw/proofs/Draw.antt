@@ -1,24 +1,26 @@
 -- What measure, rule and open store where their checks pass is the protocol's step. Assumes nothing.
-use Prim.Native.Nat.{ℕ, suc, ◌+◌, ◌<◌, min}
+use Prim.Native.Nat.{ℕ, zero, suc, ◌+◌, ◌<◌, min}
 use native.Mathlib.Omega.{arith}
-use mathlib.Core.Bool.{Bool, true, false}
+use mathlib.Core.Bool.{Bool, true, false, not}
 use mathlib.Core.Path.{◌≡◌, refl, sym, ap, ap₂, ◌∙◌}
-use mathlib.Core.Logic.{◌≢◌}
 use mathlib.Core.List.{List, [], ◌∷◌}
+use borrow.Author.Tests.{ne_eqb}
 use lib.IntN.{ℤ, pos}
-use lib.Dec.{eqb, eqb→eq}
+use lib.Dec.{T, eqb, ltb, eqb→eq, ltb→lt}
 use lib.ListN.{length, get_or, set}
 use Rattle.std.proofs.Common.{Ok, Err}
 use Rattle.protocol.specs.Asked.{number_of}
-use Rattle.protocol.specs.Lists.{natural, snoc}
+use Rattle.protocol.specs.Lists.{natural, is_none, snoc}
 use Rattle.protocol.specs.Plan.{Rule, blank, is, mode_number}
 use Rattle.protocol.specs.Calls.{Call, measure, rule, open_plan, Check, fine, refused, first, checks, further, first_values, on_values, rule_of, after, gives, ok}
 use Rattle.protocol.specs.declared.refusal.Refusal.{Refusal}
 use Rattle.protocol.proofs.Laws.{is_yes, yes_is}
 use Rattle.rows.specs.Rows.{row}
-use Rattle.rules.specs.Rules.{with_value}
+use Rattle.rules.specs.Rules.{numbered, with_value}
+use Rattle.std.specs.Option.{is_some}
+use Rattle.rules.specs.declared.Rule as stored
 use Rattle.rules.specs.Table.{rules_in, lowers, gaps, uppers, firms, with_rule}
-use Rattle.rules.proofs.Table.{rule-lower, rule-gap, rule-upper, rule-firm, lowers-length, gaps-length, uppers-length, firms-length}
+use Rattle.rules.proofs.Table.{none, at_lower, at_gap, at_upper, at_firm}
 use Rattle.rows.proofs.Spans.{length-span, span_same, span-snoc, get_d_set, get_or-other}
 use Rattle.rules.proofs.Rules.{holds-is}
 use Rattle.heads.specs.declared.Head.{Head}
@@ -31,7 +33,7 @@ use Rattle.state.specs.Spread.{spread, side_of, MeetsSpread}
 use Rattle.state.specs.Meets.{Makes, number, done}
 use Rattle.state.proofs.View.{plan-same, sides-modify, sides-least, first-row, row_snoc, row-length}
 use Rattle.state.proofs.Steps.{refuses, accepts}
-use Rattle.draw.specs.Draw.{measure_checks, rule_checks, open_checks}
+use Rattle.draw.specs.Draw.{measure_checks, rule_checks, open_checks, LeavesRest}
 
 -- ---- what is promised of a state, from what its lists show
 
@@ -107,68 +109,48 @@ pub rule_refused : (p : State) (a c b f : ℤ) {r : Refusal} → refused (number
 rule_refused p a c b f e = refused_makes (rule_checks p.head (natural a) c (natural b) f) (rule_checks_lem p a c b f) e
 
 -- the state with a rule more, in this table
-abbrev pub rule_to : State → List ℤ → State
+abbrev pub rule_to : State → List stored.Rule → State
 rule_to p t = record p { head = record p.head { rules = p.head.rules + 1 }; table = t }
 
-rules-snoc : (lower : List ℕ) (gap : List ℤ) (upper : List ℕ) (firm : List Bool) (n : ℕ) (r : Rule) → n < length lower → n < length gap → n < length upper → n < length firm
-    → rules_in (set lower n r.lower) (set gap n r.gap) (set upper n r.upper) (set firm n r.firm) (suc n) ≡ snoc (rules_in lower gap upper firm n) r
-rules-snoc lower gap upper firm n r in_lower in_gap in_upper in_firm =
+-- a rule as the protocol has it, and rule k of a table
+abbrev drawn_as : stored.Rule → Rule
+drawn_as r = record { lower = r.lower; gap = r.gap; upper = r.upper; firm = r.firm }
+
+abbrev rule_at : List stored.Rule → ℕ → Rule
+rule_at table k = record { lower = get_or (lowers table) k 0; gap = get_or (gaps table) k (pos 0); upper = get_or (uppers table) k 0; firm = get_or (firms table) k false }
+
+stands_at : (table : List stored.Rule) (k : ℕ) → rule_at table k ≡ drawn_as (get_or table k none)
+stands_at table k = λ i. record { lower = at_lower table k i; gap = at_gap table k i; upper = at_upper table k i; firm = at_firm table k i }
+
+-- one written behind the first n
+written : (table : List stored.Rule) (n : ℕ) (r : stored.Rule) → n < length table → let t = set table n r in
+    rules_in (lowers t) (gaps t) (uppers t) (firms t) (suc n) ≡ snoc (rules_in (lowers table) (gaps table) (uppers table) (firms table) n) (drawn_as r)
+written table n r h =
     let e : 0 + n ≡ n = omega arith in
-    span-snoc 0 n rule_at ∙ ap₂ (λ xs x. snoc xs x) (span_same 0 n _ _ (λ k a b. before k (omega arith))) (ap rule_at e ∙ last)
+    span-snoc 0 n (rule_at t) ∙ ap₂ (λ xs x. snoc xs x) (span_same 0 n _ _ (λ k a b. before k (omega arith))) (ap (rule_at t) e ∙ last)
   where
-    rule_at : ℕ → Rule
-    rule_at k =
-        record {
-          lower = get_or (set lower n r.lower) k 0;
-          gap = get_or (set gap n r.gap) k (pos 0);
-          upper = get_or (set upper n r.upper) k 0;
-          firm = get_or (set firm n r.firm) k false;
-        }
+    t : List stored.Rule
+    t = set table n r
 
-    before : (k : ℕ) → k < n → rule_at k ≡ record { lower = get_or lower k 0; gap = get_or gap k (pos 0); upper = get_or upper k 0; firm = get_or firm k false }
-    before k b =
-        let ne : k ≢ n = λ e. omega arith in
-        λ i. record {
-          lower = get_or-other lower n k r.lower 0 ne i;
-          gap = get_or-other gap n k r.gap (pos 0) ne i;
-          upper = get_or-other upper n k r.upper 0 ne i;
-          firm = get_or-other firm n k r.firm false ne i;
-        }
+    before : (k : ℕ) → k < n → rule_at t k ≡ rule_at table k
+    before k b = stands_at t k ∙ ap drawn_as (get_or-other table n k r none (λ e. omega arith)) ∙ sym (stands_at table k)
 
-    last : rule_at n ≡ r
-    last =
-        λ i. record {
-          lower = get_d_set lower n r.lower 0 in_lower i;
-          gap = get_d_set gap n r.gap (pos 0) in_gap i;
-          upper = get_d_set upper n r.upper 0 in_upper i;
-          firm = get_d_set firm n r.firm false in_firm i;
-        }
+    last : rule_at t n ≡ drawn_as r
+    last = stands_at t n ∙ ap drawn_as (get_d_set table n r none h)
 
--- the rules of a table in which one is written behind n
-written : (table : List ℤ) (n : ℕ) (a c b f : ℤ) → length table ≡ 256 → n < 64 → let t = with_rule table n a c b f in
-    rules_in (lowers t) (gaps t) (uppers t) (firms t) (suc n) ≡ snoc (rules_in (lowers table) (gaps table) (uppers table) (firms table) n) (rule_of a c b f)
-written table n a c b f l h =
-    let t = with_rule table n a c b f in
-    let each : rules_in (lowers t) (gaps t) (uppers t) (firms t) (suc n)
-    ≡ rules_in (set (lowers table) n (natural a)) (set (gaps table) n c) (set (uppers table) n (natural b)) (set (firms table) n (eqb (natural f) 1)) (suc n) =
-    (λ i. rules_in (rule-lower table n a c b f h l i) (rule-gap table n a c b f h l i) (rule-upper table n a c b f h l i) (rule-firm table n a c b f h l i) (suc n)) in
-    each ∙
-    (rules-snoc (lowers table) (gaps table) (uppers table) (firms table) n (rule_of a c b f) (let e = lowers-length table in omega arith) (let e = gaps-length table in omega arith)
-    (let e = uppers-length table in omega arith) (let e = firms-length table in omega arith))
+-- the rule of a call's numbers
+abbrev pub asked_rule : (a c b f : ℤ) → stored.Rule
+asked_rule a c b f = record { lower = natural a; gap = c; upper = natural b; firm = eqb (natural f) 1 }
 
-rule-next : (p : State) (a c b f : ℤ) {t : List ℤ} → length p.table ≡ 256 → p.head.rules < 64 → t ≡ with_rule p.table (min p.head.rules 63) a c b f
-    → view (rule_to p t) ≡ after (rule a c b f) (view p).mode (view p).content
+rule-next : (p : State) (a c b f : ℤ) → p.head.rules < length p.table → p.head.rules < 64 → view (rule_to p (set p.table p.head.rules (asked_rule a c b f))) ≡ after (rule a c b f) (view p).mode (view p).content
 unfolding after
-rule-next p a c b f {t} l h e =
+rule-next p a c b f l h =
     let n = p.head.rules in
+    let t = set p.table n (asked_rule a c b f) in
     let m : min (n + 1) 64 ≡ suc n = omega arith in
     let o : n ≡ min n 64 = omega arith in
-    let u : min n 63 ≡ n = omega arith in
-    let same : t ≡ with_rule p.table n a c b f = e ∙ ap (λ k. with_rule p.table k a c b f) u in
     plan-same refl
-    (ap (λ x. rules_in (lowers x) (gaps x) (uppers x) (firms x) (min (n + 1) 64)) same
-    ∙ ap (λ k. let x = with_rule p.table n a c b f in rules_in (lowers x) (gaps x) (uppers x) (firms x) k) m
-    ∙ written p.table n a c b f l h
+    (ap (rules_in (lowers t) (gaps t) (uppers t) (firms t)) m ∙ written p.table n (asked_rule a c b f) l
     ∙ ap (λ k. snoc (rules_in (lowers p.table) (gaps p.table) (uppers p.table) (firms p.table) k) (rule_of a c b f)) o)
     refl refl refl refl refl
 
@@ -179,12 +161,19 @@ rule-given p a c b f h =
     let n : p.head.rules + 1 ≡ suc (length (view p).content.rules) = omega arith in
     ap {B = List ℤ} (λ k. pos k ∷ []) n
 
-pub rule_drawn : (p : State) (a c b f : ℤ) {t : List ℤ} → length p.table ≡ 256 → p.head.rules < 64 → t ≡ with_rule p.table (min p.head.rules 63) a c b f
+pub rule_drawn : (p : State) (a c b f : ℤ) {t : List stored.Rule} → p.head.rules < length p.table → t ≡ with_rule p.table (min p.head.rules 63) (asked_rule a c b f)
     → fine ≡ first (rule_checks p.head (natural a) c (natural b) f) → Makes (rule a c b f) p (number (p.head.rules + 1)) (rule_to p t)
-rule_drawn p a c b f {t} l h w e =
+rule_drawn p a c b f {t} l w e =
     given_makes
     (accepts (rule_checks p.head (natural a) c (natural b) f) (record { state = spread (rule_to p t); answer = number (p.head.rules + 1) }) (rule_checks_lem p a c b f) (sym e)
-    (λ _. ap ok (rule-given p a c b f h)) (λ _. rule-next p a c b f l h w) tt)
+    (λ k. ap ok (rule-given p a c b f (room k.1.0)))
+    (λ k. ap (λ x. view (rule_to p x)) (w ∙ ap (λ n. set p.table n (asked_rule a c b f)) (last_place (room k.1.0))) ∙ rule-next p a c b f l (room k.1.0)) tt)
+  where
+    room : T (ltb (min p.head.rules 64) 64) → p.head.rules < 64
+    room k = let l = ltb→lt (min p.head.rules 64) 64 k in omega arith
+
+    last_place : p.head.rules < 64 → min p.head.rules 63 ≡ p.head.rules
+    last_place h = omega arith
 
 -- ---- open
 
@@ -192,6 +181,13 @@ rule_drawn p a c b f {t} l h w e =
 pub no_value : (x : ℤ) (vs : List ℤ) → with_value 0 x vs ≡ vs
 unfolding with_value
 no_value x vs = refl
+
+-- no rule is broken
+pub unbroken : (i : ℕ) (b : Bool) → is_some (numbered i) ≡ not b → b ≡ is_none i
+unbroken zero true e = refl
+unbroken zero false e = cc
+unbroken (suc i) true e = cc
+unbroken (suc i) false e = sym (ne_eqb (suc i) 0 (λ z. omega arith))
 
 open_checks_lem : (p : State) → first (checks open_plan (view p)) ≡ first (open_checks p.head (lowers p.table) (gaps p.table) (uppers p.table) p.values)
 unfolding checks further
@@ -217,3 +213,37 @@ open_drawn p e =
     given_makes
     (accepts (open_checks p.head (lowers p.table) (gaps p.table) (uppers p.table) p.values) (record { state = spread (open_to p); answer = done }) (open_checks_lem p) (sym e)
     (λ _. refl) (λ t. open_next p (yes_is _ t.0)) tt)
+
+-- ---- the rest
+
+pub rest_same : (p : State) → LeavesRest p p
+rest_same p = record { added = refl; kept = refl; mark = refl; based = refl; drafted = refl; base = refl; draft = refl; arrived = refl; confirmed = refl; edits = refl }
+
+pub rest_then : {p q r : State} → LeavesRest p q → LeavesRest q r → LeavesRest p r
+rest_then a b =
+    record {
+      added = b.added ∙ a.added;
+      kept = b.kept ∙ a.kept;
+      mark = b.mark ∙ a.mark;
+      based = b.based ∙ a.based;
+      drafted = b.drafted ∙ a.drafted;
+      base = b.base ∙ a.base;
+      draft = b.draft ∙ a.draft;
+      arrived = b.arrived ∙ a.arrived;
+      confirmed = b.confirmed ∙ a.confirmed;
+      edits = b.edits ∙ a.edits;
+    }
+
+-- with the head, the values and the table put back, all is as it was
+pub put_back : {p q : State} → LeavesRest p q → record q { head = p.head; values = p.values; table = p.table } ≡ p
+put_back {p} {q} a =
+    λ i. record {
+      head = p.head;
+      base = a.base i;
+      draft = a.draft i;
+      values = p.values;
+      arrived = a.arrived i;
+      confirmed = a.confirmed i;
+      table = p.table;
+      edits = a.edits i;
+    }

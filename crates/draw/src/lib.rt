@@ -1,7 +1,7 @@
 // What measure, rule and open decide (01, "The calls"), each by a check that only reads, and what they store, in place. Nothing else of the state changes.
 #![tactic(auto)]
 
-ghost use Rattle.std.specs.Prelude.{not, ◌&&◌, eqb, min, ◌≡◌, ◌<◌, OnOk};
+ghost use Rattle.std.specs.Prelude.{true, not, ltb, ◌&&◌, eqb, min, length, ◌≡◌, ◌<◌, OnOk};
 ghost use Rattle.draw.specs.Draw.{measure_checks, rule_checks, open_checks, LeavesRest};
 ghost use Rattle.protocol.specs.Asked.{verdict_of};
 ghost use Rattle.protocol.specs.Calls.{measure, rule, open_plan, first, no15};
@@ -15,6 +15,7 @@ ghost use Rattle.state.specs.Meets.{Makes};
 use heads::{Head, Mode};
 use protocol::limit;
 use protocol::refusal::Refusal;
+use rules::{Rule, Table};
 use state::{Answer, Given, State};
 
 // ---- measure
@@ -23,7 +24,7 @@ fn check_measure(h: &Head, v: i32) -> Result<(), Refusal>
     ensures verdict { verdict_of result ≡ first (measure_checks h.now v) }
     ensures room { OnOk result (h.now.measures < 32) }
 {
-    if !matches!(h.mode, Mode::Blank) {
+    if h.mode != Mode::Blank {
         return Err(Refusal::WrongMode);
     }
     if limit::MEASURE <= h.measures {
@@ -49,6 +50,13 @@ pub fn measure(p: &mut State, v: i32) -> Answer
 
 // ---- rule
 
+// The table has room behind its first n rules.
+fn has_room(table: &Table, n: u32) -> bool
+    ensures { (result ≡ ltb n 64) × (result ≡ true → n < length table.now) }
+{
+    (n as usize) < table.len()
+}
+
 // The rule's measures are two different ones of n.
 fn pair_in(n: usize, lower: u32, upper: u32) -> bool
     ensures { result ≡ (one_to n lower && one_to n upper && not (eqb lower upper)) }
@@ -61,20 +69,20 @@ fn pair_in(n: usize, lower: u32, upper: u32) -> bool
 fn limits_ok(gap: i32, firm: i32) -> bool
     ensures { result ≡ (no15 gap firm).passes }
 {
-    matches!(gap, limit::LEAST_GAP..=limit::GAP) && matches!(firm, 0..=1)
+    (limit::LEAST_GAP..=limit::GAP).contains(&gap) && (0..=1).contains(&firm)
 }
 
-fn check_rule(h: &Head, lower: i32, gap: i32, upper: i32, firm: i32) -> Result<(), Refusal>
-    ensures verdict { verdict_of result ≡ first (rule_checks h.now (natural lower) gap (natural upper) firm) }
-    ensures room { OnOk result (h.now.rules < 64) }
+fn check_rule(p: &State, lower: i32, gap: i32, upper: i32, firm: i32) -> Result<(), Refusal>
+    ensures verdict { verdict_of result ≡ first (rule_checks p.now.head (natural lower) gap (natural upper) firm) }
+    ensures room { OnOk result (p.now.head.rules < length p.now.table) }
 {
-    if !matches!(h.mode, Mode::Blank) {
+    if p.head.mode != Mode::Blank {
         return Err(Refusal::WrongMode);
     }
-    if limit::RULE <= h.rules {
+    if !has_room(&p.table, p.head.rules) {
         return Err(Refusal::TooManyRules);
     }
-    let size = rows::capped(h.measures, limit::MEASURES);
+    let size = rows::capped(p.head.measures, limit::MEASURES);
     if !pair_in(size, exact::number(lower), exact::number(upper)) {
         return Err(Refusal::NoPairOfMeasures);
     }
@@ -89,9 +97,9 @@ pub fn rule(p: &mut State, lower: i32, gap: i32, upper: i32, firm: i32) -> Answe
     ensures makes { Makes (rule lower gap upper firm) p.old result p.new }
     ensures rest { LeavesRest p.old p.new }
 {
-    check_rule(&p.head, lower, gap, upper, firm)?;
+    check_rule(p, lower, gap, upper, firm)?;
     let n = p.head.rules;
-    rules::put_rule(&mut p.table, n, lower, gap, upper, firm);
+    rules::put_rule(&mut p.table, n, Rule::of(lower, gap, upper, firm));
     p.head.rules = n + 1;
     Ok(Given::One(n + 1))
 }
@@ -104,13 +112,13 @@ pub fn rules_hold(p: &State) -> bool
         (row p.now.values 0 (measures_in p.now.head)) }
 {
     let size = rows::capped(p.head.measures, limit::MEASURES);
-    rules::broken_of_all(&p.table, p.head.rules, &p.values[0..size], 0, 0) == 0
+    rules::broken_of_all(&p.table, p.head.rules, &p.values[..size], 0, 0).is_none()
 }
 
 fn check_open(p: &State) -> Result<(), Refusal>
     ensures { verdict_of result ≡ first (open_checks p.now.head (lowers p.now.table) (gaps p.now.table) (uppers p.now.table) p.now.values) }
 {
-    if !matches!(p.head.mode, Mode::Blank) {
+    if p.head.mode != Mode::Blank {
         return Err(Refusal::WrongMode);
     }
     if p.head.measures == 0 {

@@ -1,7 +1,6 @@
 use Prim.Native.Nat.{min}
-use mathlib.Core.Path.{◌≡◌, ◌∙◌}
+use mathlib.Core.Path.{◌≡◌, ap, ◌∙◌}
 use lib.IntN.{ℤ}
-use lib.ListN.{length}
 use mir.Syntax.{w32}
 use mir.Val.{SFits, to_z, of_z}
 use mir.Facts.{to_z-of_z}
@@ -11,7 +10,7 @@ use Rattle.protocol.specs.Calls.{first}
 use Rattle.heads.specs.declared.Head.{Head}
 use Rattle.rules.specs.Table.{with_rule}
 use Rattle.draw.specs.Draw.{rule_checks}
-use Rattle.draw.proofs.Draw.{rule_refused, rule_drawn}
+use Rattle.draw.proofs.Draw.{asked_rule, rule_refused, rule_drawn}
 use Rattle.draw.proofs.rule.Goals as goal
 
 -- the checks, of the numbers that were handed on
@@ -32,8 +31,7 @@ returns-clause-makes c =
     let a = c.args in
     let i = c.ranges in
     let p = a.p.now in
-    let l : length p.table ≡ 256 = search rules in
     let found = c.in_ok-check_rule.ensures in
-    rule_drawn p a.lower a.gap a.upper a.firm l found.room
-    (c.put_rule.ensures ∙ (λ j. with_rule p.table (min p.head.rules 63) (to_z-of_z i.lower j) (to_z-of_z i.gap j) (to_z-of_z i.upper j) (to_z-of_z i.firm j)))
+    rule_drawn p a.lower a.gap a.upper a.firm found.room
+    (c.put_rule.ensures ∙ ap (with_rule p.table (min p.head.rules 63)) (c.of.ensures ∙ (λ j. asked_rule (to_z-of_z i.lower j) (to_z-of_z i.gap j) (to_z-of_z i.upper j) (to_z-of_z i.firm j))))
     (found.verdict ∙ checked p.head i.lower i.gap i.upper i.firm)
