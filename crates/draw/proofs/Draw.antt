@@ -6,7 +6,7 @@ use mathlib.Core.Path.{◌≡◌, refl, sym, ap, ap₂, ◌∙◌}
 use mathlib.Core.List.{List, [], ◌∷◌}
 use borrow.Author.Tests.{ne_eqb}
 use lib.IntN.{ℤ, pos}
-use lib.Dec.{T, eqb, ltb, eqb→eq, ltb→lt}
+use lib.Dec.{eqb→eq}
 use lib.ListN.{length, get_or, set}
 use Rattle.std.proofs.Common.{Ok, Err}
 use Rattle.protocol.specs.Asked.{number_of}
@@ -19,21 +19,20 @@ use Rattle.rows.specs.Rows.{row}
 use Rattle.rules.specs.Rules.{numbered, with_value}
 use Rattle.std.specs.Option.{is_some}
 use Rattle.rules.specs.declared.Rule as stored
-use Rattle.rules.specs.Table.{rules_in, lowers, gaps, uppers, firms, with_rule}
+use Rattle.rules.specs.Table.{rules_in, lowers, gaps, uppers, firms}
 use Rattle.rules.proofs.Table.{none, at_lower, at_gap, at_upper, at_firm}
 use Rattle.rows.proofs.Spans.{length-span, span_same, span-snoc, get_d_set, get_or-other}
 use Rattle.rules.proofs.Rules.{holds-is}
 use Rattle.heads.specs.declared.Head.{Head}
-use Rattle.heads.specs.declared.Mode.TheVariants.{Whole}
 use Rattle.heads.specs.Heads.{mode_of, sides_in, measures_in}
 use Rattle.state.specs.declared.State.{State}
 use Rattle.state.specs.declared.Given.{Given}
 use Rattle.state.specs.View.{view}
-use Rattle.state.specs.Spread.{spread, side_of, MeetsSpread}
+use Rattle.state.specs.Spread.{Spread, spread, side_of, rules_of, MeetsSpread}
 use Rattle.state.specs.Meets.{Makes, number, done}
 use Rattle.state.proofs.View.{plan-same, sides-modify, sides-least, first-row, row_snoc, row-length}
 use Rattle.state.proofs.Steps.{refuses, accepts}
-use Rattle.draw.specs.Draw.{measure_checks, rule_checks, open_checks, LeavesRest}
+use Rattle.draw.specs.Draw.{measure_checks, rule_checks, open_checks, measured, rule_asked, ruled, opened, LeavesRest}
 
 -- ---- what is promised of a state, from what its lists show
 
@@ -59,10 +58,6 @@ measure_checks_lem p v = rw (drawn_length p)
 pub measure_refused : (p : State) (v : ℤ) {r : Refusal} → refused (number_of r) ≡ first (measure_checks p.head v) → Makes (measure v) p (Err r) p
 measure_refused p v e = refused_makes (measure_checks p.head v) (measure_checks_lem p v) e
 
--- the state with a measure more
-abbrev pub measure_to : State → ℤ → State
-measure_to p v = record p { head = record p.head { measures = p.head.measures + 1 }; values = set p.values p.head.measures v }
-
 longer : (p : State) (v : ℤ) → length p.values ≡ 256 → p.head.measures < 32
     → row (set p.values p.head.measures v) 0 (min (p.head.measures + 1) 32) ≡ snoc (row p.values 0 (measures_in p.head)) v
 longer p v l h =
@@ -74,11 +69,11 @@ longer p v l h =
     ∙ ap (λ k. snoc (row p.values 0 k) v) o
 
 measure-next : (p : State) (v : ℤ) → length p.values ≡ 256 → p.head.measures < 32 → is blank (mode_of p.head.mode) ≡ true
-    → view (measure_to p v) ≡ after (measure v) (view p).mode (view p).content
+    → view (measured p v) ≡ after (measure v) (view p).mode (view p).content
 unfolding after
 measure-next p v l h b =
     plan-same refl refl refl refl refl
-    (sides-modify 1 (sides_in p.head) (on_values (λ vs. snoc vs v)) (side_of (spread p)) (side_of (spread (measure_to p v))) (omega arith) (sides-least p.head)
+    (sides-modify 1 (sides_in p.head) (on_values (λ vs. snoc vs v)) (side_of (spread p)) (side_of (spread (measured p v))) (omega arith) (sides-least p.head)
     (λ i. record { values = longer p v l h i; arrived = get_or p.arrived 0 false; confirmed = get_or p.confirmed 0 false })
     (λ k a c ne. absurd (ne (let one = alone p.head b in omega arith))))
     refl
@@ -90,27 +85,23 @@ measure-given p v h =
     let n : p.head.measures + 1 ≡ suc (length (first_values (view p).content)) = omega arith in
     ap {B = List ℤ} (λ k. pos k ∷ []) n
 
-pub measure_drawn : (p : State) (v : ℤ) → length p.values ≡ 256 → p.head.measures < 32 → fine ≡ first (measure_checks p.head v) → Makes (measure v) p (number (p.head.measures + 1)) (measure_to p v)
+pub measure_drawn : (p : State) (v : ℤ) → length p.values ≡ 256 → p.head.measures < 32 → fine ≡ first (measure_checks p.head v) → Makes (measure v) p (number (p.head.measures + 1)) (measured p v)
 measure_drawn p v l h e =
     given_makes
-    (accepts (measure_checks p.head v) (record { state = spread (measure_to p v); answer = number (p.head.measures + 1) }) (measure_checks_lem p v) (sym e)
+    (accepts (measure_checks p.head v) (record { state = spread (measured p v); answer = number (p.head.measures + 1) }) (measure_checks_lem p v) (sym e)
     (λ t. ap ok (measure-given p v h)) (λ t. measure-next p v l h (yes_is _ t.0)) tt)
 
 -- ---- rule
 
-rules-length : (p : State) → length (view p).content.rules ≡ min p.head.rules 64
+pub rules-length : (p : Spread) → length (rules_of p) ≡ min p.head.rules 64
 rules-length p = length-span 0 (min p.head.rules 64) _
 
 rule_checks_lem : (p : State) (a c b f : ℤ) → first (checks (rule a c b f) (view p)) ≡ first (rule_checks p.head (natural a) c (natural b) f)
 unfolding checks further
-rule_checks_lem p a c b f = rw (drawn_length p, rules-length p)
+rule_checks_lem p a c b f = rw (drawn_length p, rules-length (spread p))
 
 pub rule_refused : (p : State) (a c b f : ℤ) {r : Refusal} → refused (number_of r) ≡ first (rule_checks p.head (natural a) c (natural b) f) → Makes (rule a c b f) p (Err r) p
 rule_refused p a c b f e = refused_makes (rule_checks p.head (natural a) c (natural b) f) (rule_checks_lem p a c b f) e
-
--- the state with a rule more, in this table
-abbrev pub rule_to : State → List stored.Rule → State
-rule_to p t = record p { head = record p.head { rules = p.head.rules + 1 }; table = t }
 
 -- a rule as the protocol has it, and rule k of a table
 abbrev drawn_as : stored.Rule → Rule
@@ -138,42 +129,31 @@ written table n r h =
     last : rule_at t n ≡ drawn_as r
     last = stands_at t n ∙ ap drawn_as (get_d_set table n r none h)
 
--- the rule of a call's numbers
-abbrev pub asked_rule : (a c b f : ℤ) → stored.Rule
-asked_rule a c b f = record { lower = natural a; gap = c; upper = natural b; firm = eqb (natural f) 1 }
-
-rule-next : (p : State) (a c b f : ℤ) → p.head.rules < length p.table → p.head.rules < 64 → view (rule_to p (set p.table p.head.rules (asked_rule a c b f))) ≡ after (rule a c b f) (view p).mode (view p).content
+rule-next : (p : State) (a c b f : ℤ) → p.head.rules < 64 → p.head.rules < length p.table → view (ruled p a c b f) ≡ after (rule a c b f) (view p).mode (view p).content
 unfolding after
-rule-next p a c b f l h =
+rule-next p a c b f h l =
     let n = p.head.rules in
-    let t = set p.table n (asked_rule a c b f) in
+    let t = (ruled p a c b f).table in
     let m : min (n + 1) 64 ≡ suc n = omega arith in
     let o : n ≡ min n 64 = omega arith in
     plan-same refl
-    (ap (rules_in (lowers t) (gaps t) (uppers t) (firms t)) m ∙ written p.table n (asked_rule a c b f) l
+    (ap (rules_in (lowers t) (gaps t) (uppers t) (firms t)) m ∙ written p.table n (rule_asked a c b f) l
     ∙ ap (λ k. snoc (rules_in (lowers p.table) (gaps p.table) (uppers p.table) (firms p.table) k) (rule_of a c b f)) o)
     refl refl refl refl refl
 
 rule-given : (p : State) (a c b f : ℤ) → p.head.rules < 64 → ◌≡◌ {A = List ℤ} (pos (p.head.rules + 1) ∷ []) (gives (rule a c b f) (view p).mode (view p).content)
 unfolding gives
 rule-given p a c b f h =
-    let e = rules-length p in
+    let e = rules-length (spread p) in
     let n : p.head.rules + 1 ≡ suc (length (view p).content.rules) = omega arith in
     ap {B = List ℤ} (λ k. pos k ∷ []) n
 
-pub rule_drawn : (p : State) (a c b f : ℤ) {t : List stored.Rule} → p.head.rules < length p.table → t ≡ with_rule p.table (min p.head.rules 63) (asked_rule a c b f)
-    → fine ≡ first (rule_checks p.head (natural a) c (natural b) f) → Makes (rule a c b f) p (number (p.head.rules + 1)) (rule_to p t)
-rule_drawn p a c b f {t} l w e =
+pub rule_drawn : (p : State) (a c b f : ℤ) → p.head.rules < 64 → p.head.rules < length p.table → fine ≡ first (rule_checks p.head (natural a) c (natural b) f)
+    → Makes (rule a c b f) p (number (p.head.rules + 1)) (ruled p a c b f)
+rule_drawn p a c b f h l e =
     given_makes
-    (accepts (rule_checks p.head (natural a) c (natural b) f) (record { state = spread (rule_to p t); answer = number (p.head.rules + 1) }) (rule_checks_lem p a c b f) (sym e)
-    (λ k. ap ok (rule-given p a c b f (room k.1.0)))
-    (λ k. ap (λ x. view (rule_to p x)) (w ∙ ap (λ n. set p.table n (asked_rule a c b f)) (last_place (room k.1.0))) ∙ rule-next p a c b f l (room k.1.0)) tt)
-  where
-    room : T (ltb (min p.head.rules 64) 64) → p.head.rules < 64
-    room k = let l = ltb→lt (min p.head.rules 64) 64 k in omega arith
-
-    last_place : p.head.rules < 64 → min p.head.rules 63 ≡ p.head.rules
-    last_place h = omega arith
+    (accepts (rule_checks p.head (natural a) c (natural b) f) (record { state = spread (ruled p a c b f); answer = number (p.head.rules + 1) }) (rule_checks_lem p a c b f) (sym e)
+    (λ _. ap ok (rule-given p a c b f h)) (λ _. rule-next p a c b f h l) tt)
 
 -- ---- open
 
@@ -197,21 +177,17 @@ open_checks_lem p =
 pub open_refused : (p : State) {r : Refusal} → refused (number_of r) ≡ first (open_checks p.head (lowers p.table) (gaps p.table) (uppers p.table) p.values) → Makes open_plan p (Err r) p
 open_refused p e = refused_makes (open_checks p.head (lowers p.table) (gaps p.table) (uppers p.table) p.values) (open_checks_lem p) e
 
--- the state, whole
-abbrev pub open_to : State → State
-open_to p = record p { head = record p.head { mode = Whole; next = 1 } }
-
-open_next : (p : State) → is blank (mode_of p.head.mode) ≡ true → view (open_to p) ≡ after open_plan (view p).mode (view p).content
+open_next : (p : State) → is blank (mode_of p.head.mode) ≡ true → view (opened p) ≡ after open_plan (view p).mode (view p).content
 unfolding after
 open_next p b =
     let e = eqb→eq (mode_number (mode_of p.head.mode)) 0 (is_yes b) in
     plan-same refl refl refl refl refl (rw e) (rw e)
 
-pub open_drawn : (p : State) → fine ≡ first (open_checks p.head (lowers p.table) (gaps p.table) (uppers p.table) p.values) → Makes open_plan p done (open_to p)
+pub open_drawn : (p : State) → fine ≡ first (open_checks p.head (lowers p.table) (gaps p.table) (uppers p.table) p.values) → Makes open_plan p done (opened p)
 unfolding gives
 open_drawn p e =
     given_makes
-    (accepts (open_checks p.head (lowers p.table) (gaps p.table) (uppers p.table) p.values) (record { state = spread (open_to p); answer = done }) (open_checks_lem p) (sym e)
+    (accepts (open_checks p.head (lowers p.table) (gaps p.table) (uppers p.table) p.values) (record { state = spread (opened p); answer = done }) (open_checks_lem p) (sym e)
     (λ _. refl) (λ t. open_next p (yes_is _ t.0)) tt)
 
 -- ---- the rest

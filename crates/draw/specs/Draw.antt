@@ -1,11 +1,14 @@
--- Scaffolding: the checks of measure, rule and open by what they read of the state, and what the three leave as it was. Assumes nothing.
-use Rattle.std.specs.Prelude.{ℕ, min, ◌≡◌, not, ◌&&◌, List, [], ◌∷◌, eqb, ltb, ℤ}
-use Rattle.protocol.specs.Lists.{is_none, one_to}
+-- Scaffolding: the checks of measure, rule and open by what they read of the state, what each stores, and what the three leave as it was. Assumes nothing.
+use Rattle.std.specs.Prelude.{ℕ, ◌+◌, min, ◌≡◌, not, ◌&&◌, List, [], ◌∷◌, eqb, ltb, ℤ, set}
+use Rattle.protocol.specs.Lists.{natural, is_none, one_to}
 use Rattle.protocol.specs.Plan.{blank, is, measure_limit, rule_limit}
 use Rattle.protocol.specs.Calls.{Check, ◌unless◌, ◌when◌, no11, no15}
 use Rattle.rows.specs.Rows.{row}
 use Rattle.rules.specs.Rules.{holds_in}
+use Rattle.rules.specs.declared.Rule.{Rule}
+use Rattle.rules.specs.Table.{with_rule}
 use Rattle.heads.specs.declared.Head.{Head}
+use Rattle.heads.specs.declared.Mode.TheVariants.{Whole}
 use Rattle.heads.specs.Heads.{mode_of, measures_in}
 use Rattle.state.specs.declared.State.{State}
 
@@ -27,6 +30,21 @@ open_checks h lower gap upper values =
     ∷ (16 when is_none (measures_in h))
     ∷ (17 unless holds_in lower gap upper (min h.rules rule_limit) (row values 0 (measures_in h)))
     ∷ []
+
+-- ---- what each stores where it is accepted
+
+abbrev pub measured : State → ℤ → State
+measured p v = record p { head = record p.head { measures = p.head.measures + 1 }; values = set p.values p.head.measures v }
+
+-- the rule of a call's numbers
+abbrev pub rule_asked : (a c b f : ℤ) → Rule
+rule_asked a c b f = record { lower = natural a; gap = c; upper = natural b; firm = eqb (natural f) 1 }
+
+abbrev pub ruled : State → (a c b f : ℤ) → State
+ruled p a c b f = record p { head = record p.head { rules = p.head.rules + 1 }; table = with_rule p.table p.head.rules (rule_asked a c b f) }
+
+abbrev pub opened : State → State
+opened p = record p { head = record p.head { mode = Whole; next = 1 } }
 
 -- ---- the rest
 

@@ -2,7 +2,7 @@
 #![tactic(auto)]
 
 ghost use Rattle.std.specs.Prelude.{true, not, ltb, ◌&&◌, eqb, min, length, ◌≡◌, ◌<◌, OnOk};
-ghost use Rattle.draw.specs.Draw.{measure_checks, rule_checks, open_checks, LeavesRest};
+ghost use Rattle.draw.specs.Draw.{measure_checks, rule_checks, open_checks, measured, ruled, opened, LeavesRest};
 ghost use Rattle.protocol.specs.Asked.{verdict_of};
 ghost use Rattle.protocol.specs.Calls.{measure, rule, open_plan, first, no15};
 ghost use Rattle.protocol.specs.Lists.{natural, one_to};
@@ -39,6 +39,7 @@ fn check_measure(h: &Head, v: i32) -> Result<(), Refusal>
 // A measure of value v.
 pub fn measure(p: &mut State, v: i32) -> Answer
     ensures makes { Makes (measure v) p.old result p.new }
+    ensures stored { OnOk result (p.new ≡ measured p.old v) }
     ensures rest { LeavesRest p.old p.new }
 {
     check_measure(&p.head, v)?;
@@ -74,7 +75,7 @@ fn limits_ok(gap: i32, firm: i32) -> bool
 
 fn check_rule(p: &State, lower: i32, gap: i32, upper: i32, firm: i32) -> Result<(), Refusal>
     ensures verdict { verdict_of result ≡ first (rule_checks p.now.head (natural lower) gap (natural upper) firm) }
-    ensures room { OnOk result (p.now.head.rules < length p.now.table) }
+    ensures room { OnOk result ((p.now.head.rules < 64) × (p.now.head.rules < length p.now.table)) }
 {
     if p.head.mode != Mode::Blank {
         return Err(Refusal::WrongMode);
@@ -95,6 +96,7 @@ fn check_rule(p: &State, lower: i32, gap: i32, upper: i32, firm: i32) -> Result<
 // A rule that measure lower plus gap is less than measure upper, firm if firm is 1.
 pub fn rule(p: &mut State, lower: i32, gap: i32, upper: i32, firm: i32) -> Answer
     ensures makes { Makes (rule lower gap upper firm) p.old result p.new }
+    ensures stored { OnOk result (p.new ≡ ruled p.old lower gap upper firm) }
     ensures rest { LeavesRest p.old p.new }
 {
     check_rule(p, lower, gap, upper, firm)?;
@@ -133,6 +135,7 @@ fn check_open(p: &State) -> Result<(), Refusal>
 // The plan becomes whole, and its first edit will have number 1.
 pub fn open_plan(p: &mut State) -> Answer
     ensures makes { Makes open_plan p.old result p.new }
+    ensures stored { OnOk result (p.new ≡ opened p.old) }
     ensures rest { LeavesRest p.old p.new }
 {
     check_open(p)?;
