@@ -124,6 +124,7 @@ fn begin(p: &mut State)
 pub fn split(p: &mut State, s: i32) -> Answer
     ensures step { Makes (split-side s) p.old result p.new }
     ensures rules { SameRules p.old p.new }
+    ensures edits { p.new.edits ≡ p.old.edits }
 {
     let from = exact::number(s);
     split_check(&p.head, from)?;
@@ -144,6 +145,7 @@ pub fn split(p: &mut State, s: i32) -> Answer
 pub fn join(p: &mut State) -> Answer
     ensures step { Makes join p.old result p.new }
     ensures rules { SameRules p.old p.new }
+    ensures edits { p.new.edits ≡ p.old.edits }
 {
     if p.head.mode != Mode::Split {
         return Err(Refusal::WrongMode);
@@ -171,6 +173,7 @@ pub fn send(p: &mut State, s: i32, unsent: u32) -> Answer
 pub fn stop(p: &mut State, waiting: u32) -> Answer
     ensures step { Waiting p.old waiting → Makes stop p.old result p.new }
     ensures rules { SameRules p.old p.new }
+    ensures edits { p.new.edits ≡ p.old.edits }
 {
     let missing = p.head.unset(&p.arrived);
     turn_check(
@@ -187,6 +190,7 @@ pub fn stop(p: &mut State, waiting: u32) -> Answer
 pub fn confirm(p: &mut State, s: i32, unsent: u32) -> Answer
     ensures step { Unsent p.old (natural s) unsent → Makes (confirm s) p.old result p.new }
     ensures rules { SameRules p.old p.new }
+    ensures edits { p.new.edits ≡ p.old.edits }
 {
     let side = exact::number(s);
     let place = heads::index(side);
@@ -199,6 +203,7 @@ pub fn confirm(p: &mut State, s: i32, unsent: u32) -> Answer
 pub fn install(p: &mut State, waiting: u32) -> Answer
     ensures step { Waiting p.old waiting → Makes install p.old result p.new }
     ensures rules { SameRules p.old p.new }
+    ensures edits { p.new.edits ≡ p.old.edits }
 {
     let missing = p.head.unset(&p.confirmed);
     turn_check(

@@ -123,10 +123,7 @@ found-is line at x n e = by (number (word_at line at)) refl
     by none q = let f : None ≡ behind_it x n = rw q at e in (cc, cc)
     by (some y) q = let f = same_found y x (at + length (word_at line at)) n (rw q at e) in (q ∙ ap some f.0, sym f.1)
 
--- the place behind a number lies behind its first
-pub found-further : (line : List ℕ) (at : ℕ) (x : ℤ) (n : ℕ) → number_at line (at + 1) ≡ behind_it x n → at < n
-found-further line at x n e = let f = (found-is line (at + 1) x n e).1 in omega arith
-
+-- the place behind a number lies in the line
 pub found_within : (line : List ℕ) (at : ℕ) (x : ℤ) (n : ℕ) → at < length line → number_at line (at + 1) ≡ behind_it x n → n ≤ length line
 found_within line at x n h e =
     let f = (found-is line (at + 1) x n e).1 in
@@ -226,12 +223,20 @@ module _ (line : List ℕ) (op k : ℕ) (xs : List ℤ) (at : ℕ) (r : Listing 
       )
 
   -- one number too many
-  pub listing_many : (x : ℤ) (n : ℕ) → at < length line → number_at line (at + 1) ≡ behind_it x n → k ≡ taken_by op → none ≡ line_call line
+  listing_many : (x : ℤ) (n : ℕ) → at < length line → number_at line (at + 1) ≡ behind_it x n → k ≡ taken_by op → none ≡ line_call line
   listing_many x n h e f = sym (here x n h e ∙ by (numbers (more (drop n line))))
     where
       by : (o : math.Option (List ℤ)) → asked (shape_at op) (behind (take k xs) (joined (some x) o)) ≡ none
       by none = none-asked (shape_at op)
       by (some zs) = not-called op (take k xs ++ (x ∷ zs)) (λ q. let l = length-append (take k xs) (x ∷ zs) in let t = taken in omega arith)
+
+  -- the line goes on behind the last number
+  pub listing_more : at < length line → k ≡ taken_by op → none ≡ line_call line
+  listing_more h e = by (number_at line (at + 1)) refl
+    where
+      by : (o : Option (Found ℤ)) → number_at line (at + 1) ≡ o → none ≡ line_call line
+      by None q = listing_unread h q
+      by (Some f) q = listing_many f.value f.next h q e
 
   over : length line ≤ at → line_call line ≡ asked (shape_at op) (some (take k xs))
   over h =

@@ -5,15 +5,14 @@ use mathlib.Core.Bool.{Bool, true, false, cond, ◌&&◌}
 use mathlib.Core.Path.{◌≡◌, refl, sym, ap, ap₂, ◌∙◌, subst}
 use mathlib.Core.Logic.{◌⊎◌, inl, inr}
 use mathlib.Core.List.{List, [], ◌∷◌}
-use borrow.Author.Tests.{eqb-true, leb-true, leb-false, ltb-true, ltb-false}
-use lib.Dec.{eqb, leb, ltb}
-use lib.ListN.{length, get_or, take, length-take}
+use borrow.Author.Tests.{eqb-true, leb-true, leb-false}
+use lib.Dec.{eqb, leb}
+use lib.ListN.{length, get_or, take}
 use Rattle.std.specs.Prelude.{Option, Some, None}
 use Rattle.protocol.specs.Lists.{all}
 use Rattle.protocol.proofs.Laws.{cases}
 use Rattle.format.specs.Lines.{Form, forms, space, line_feed, same_bytes}
 use Rattle.format.proofs.Digits.{and_true}
-use Rattle.reader.specs.declared.Found.{Found}
 use Rattle.reader.specs.declared.Op.{Op}
 use Rattle.reader.specs.declared.Op.TheVariants.{Measure, Rule, Open, Split, Edit, Join, Send, Replay, Stop, Confirm, Install, Show, Fate, Left}
 use Rattle.reader.specs.Cut.{first_line}

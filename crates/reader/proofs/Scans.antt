@@ -21,7 +21,7 @@ use Rattle.format.specs.Lines.{space, line_feed}
 use Rattle.format.specs.Numbers.{minus, nought, is_digit, decimal, is_magnitude, number}
 use Rattle.format.proofs.Digits.{digit_range}
 use Rattle.format.proofs.Inverse.{magnitude, magnitude_below, decimal-first}
-use Rattle.std.specs.Prelude.{Option, Some, None}
+use Rattle.std.specs.Prelude.{Option, None}
 use Rattle.reader.specs.declared.Found.{Found}
 use Rattle.reader.specs.Cut.{first_line}
 use Rattle.reader.specs.Reads.{behind_it, word_at, number_at, magnitude_at, followed, is_end, ending}

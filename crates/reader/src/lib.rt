@@ -3,7 +3,6 @@
 #![tactic(auto)]
 
 ghost use Rattle.std.specs.Prelude.{◌≡◌, false, ◌+◌, ◌*◌, ◌<◌, ◌≤◌, min, length, drop, get_or, position, ◌==◌};
-ghost use Rattle.protocol.specs.Lists.{bit};
 ghost use Rattle.protocol.specs.Asked.{asked};
 ghost use Rattle.format.specs.Lines.{line_feed, line_call};
 ghost use Rattle.reader.specs.Cut.{up_to, first_line};
@@ -16,13 +15,6 @@ use protocol::call::{Call, Edit};
 struct Found<T> {
     value: T,
     next: usize,
-}
-
-// Where a number's digits begin, and the byte there.
-#[derive(Clone, Copy)]
-struct Start {
-    at: usize,
-    byte: u8,
 }
 
 // The fourteen calls' names.
@@ -52,7 +44,8 @@ impl Op {
     {
         match self {
             Op::Open | Op::Join | Op::Stop | Op::Install | Op::Left => 0,
-            Op::Measure | Op::Split | Op::Send | Op::Replay | Op::Confirm | Op::Show | Op::Fate => 1,
+            Op::Measure | Op::Split | Op::Send | Op::Replay | Op::Confirm | Op::Show | Op::Fate =>
+                1,
             Op::Rule => 4,
             Op::Edit => 6,
         }
@@ -147,40 +140,28 @@ fn further(sheet: &[u8], from: usize, first: u32) -> Option<Found<u32>>
     requires { (first < 10) × (from ≤ length (first_line sheet.now)) }
     ensures { result ≡ followed 0 first from (word_at (first_line sheet.now) from) }
 {
+    let last = from + 8;
     let mut n = first;
-    let mut i = from;
-    while i - from < 8 {
+    for i in from..last {
         let b = byte_at(sheet, i);
         if !b.is_ascii_digit() {
             return ended(b, n, i);
         }
         n = 10 * n + u32::from(b - b'0');
-        i += 1;
     }
-    ended(byte_at(sheet, i), n, i)
+    ended(byte_at(sheet, last), n, last)
 }
 
-// 1 to 9 digits of which the first, b, is not 0.
-fn read_digits(sheet: &[u8], at: usize, b: u8) -> Option<Found<u32>>
-    requires { (at ≤ length (first_line sheet.now)) × (b ≡ get_or sheet.now at line_feed) }
+// 1 to 9 digits of which the first is not 0.
+fn read_digits(sheet: &[u8], at: usize) -> Option<Found<u32>>
+    requires { at ≤ length (first_line sheet.now) }
     ensures { result ≡ magnitude_at (first_line sheet.now) at }
 {
+    let b = byte_at(sheet, at);
     if !b.is_ascii_digit() || b == b'0' {
         return None;
     }
     further(sheet, at + 1, u32::from(b - b'0'))
-}
-
-// The digits begin behind a minus or at once.
-fn digits_from(sheet: &[u8], at: usize, minus: bool) -> Start
-    requires { at < 9223372036854775808 }
-    ensures { (result.at ≡ at + bit minus) × (result.byte ≡ get_or sheet.now result.at line_feed) }
-{
-    let at = at + usize::from(minus);
-    Start {
-        at,
-        byte: byte_at(sheet, at),
-    }
 }
 
 // The number written by the word that begins at a place, whatever its length and sign, but for a 0 alone.
@@ -189,8 +170,7 @@ fn read_signed(sheet: &[u8], at: usize) -> Option<Found<i32>>
     ensures { result ≡ number_at (first_line sheet.now) at }
 {
     let minus = byte_at(sheet, at) == b'-';
-    let start = digits_from(sheet, at, minus);
-    let size = read_digits(sheet, start.at, start.byte)?;
+    let size = read_digits(sheet, at + usize::from(minus))?;
     let n = size.value.cast_signed();
     Some(Found {
         value: if minus { -n } else { n },
@@ -265,20 +245,17 @@ fn read_call(sheet: &[u8]) -> Result<Found<Call>, usize>
 {
     let name = read_name(sheet).ok_or(0usize)?;
     let op = name.value;
-    let count = op.count();
     let mut numbers = [0i32; 6];
-    let mut k: usize = 0;
     let mut at = name.next;
-    while byte_at(sheet, at) != b'\n' {
-        let number = read_number(sheet, at + 1).ok_or(at)?;
-        if k == count {
+    for k in 0..op.count() {
+        if byte_at(sheet, at) == b'\n' {
             return Err(at);
         }
+        let number = read_number(sheet, at + 1).ok_or(at)?;
         numbers[k] = number.value;
-        k += 1;
         at = number.next;
     }
-    if k != count {
+    if byte_at(sheet, at) != b'\n' {
         return Err(at);
     }
     Ok(Found {

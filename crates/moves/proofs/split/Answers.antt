@@ -1,6 +1,5 @@
 use Rattle.std.proofs.Common.{rules, length, ◌≡◌}
 use mathlib.Core.Path.{ap, ◌∙◌}
-use mir.Facts.{to_z-of_z}
 use native.Mathlib.Numerals.{add-one}
 use Prim.Native.Nat.{◌+◌}
 use Rattle.heads.specs.Heads.{offset_of, index_of}
@@ -12,12 +11,12 @@ use Rattle.moves.proofs.split.Goals as goal
 
 pub returns-in_err-split_check-clause-step : goal.returns-in_err-split_check-clause-step
 returns-in_err-split_check-clause-step c = let a = c.args in
-    let w = c.number-from.ensures ∙ ap natural (to_z-of_z c.ranges.s) in
+    let w : c.number-from.result ≡ natural a.s = search rules in
     refused_by (split_checked (spread a.p.now) a.s w) (search rules) c.in_err-split_check.ensures
 
 pub returns-clause-step : goal.returns-clause-step
 returns-clause-step c = let a = c.args in
-    let w = c.number-from.ensures ∙ ap natural (to_z-of_z c.ranges.s) in
+    let w : c.number-from.result ≡ natural a.s = search rules in
     let p = spread a.p.now in
     let arrived : length p.arrived ≡ 8 = search rules in
     let confirmed : length p.confirmed ≡ 8 = search rules in

@@ -4,7 +4,6 @@ use mathlib.Core.Path.{sym, ap}
 use mathlib.Core.List.{[], ◌∷◌}
 use Rattle.std.proofs.lemmas.Slice.Eq.{text_from_reads}
 use Rattle.reader.specs.Reads.{op_of}
-use Rattle.reader.proofs.Names.{no_name}
 use Rattle.reader.proofs.op_named.Goals as goal
 
 pub returns-in-split : goal.returns-in-split
@@ -26,6 +25,3 @@ returns-in-confirm c = sym (ap op_of (text_from_reads c.args.name.now (99 ∷ 11
 pub returns-in-install : goal.returns-in-install
 unfolding op_of
 returns-in-install c = sym (ap op_of (text_from_reads c.args.name.now (105 ∷ 110 ∷ 115 ∷ 116 ∷ 97 ∷ 108 ∷ 108 ∷ []) (omega arith) (search rules)))
-
-pub returns-in_default-4 : goal.returns-in_default-4
-returns-in_default-4 c = no_name c.args.name.now (λ s. omega arith)

@@ -12,9 +12,9 @@ use lib.ListN.{length, get_or, replicate}
 use Rattle.std.specs.Result.{result_ok}
 use Rattle.format.specs.Lines.{space, line_feed}
 use Rattle.reader.specs.Cut.{first_line}
-use Rattle.reader.specs.Reads.{place_of, taken_by, Named}
+use Rattle.reader.specs.Reads.{place_of, Named}
 use Rattle.reader.proofs.Cut.{up_to-length, line_over, line_here}
-use Rattle.reader.proofs.Calls.{found-further, found_within, listing_begin, listing_unread, listing_next, listing_many, listing_few, listing_all, unnamed, taken_most, failed_at, taken_err}
+use Rattle.reader.proofs.Calls.{found_within, listing_begin, listing_unread, listing_next, listing_more, listing_few, listing_all, unnamed, taken_most, failed_at, taken_err}
 use Rattle.reader.proofs.read_call.Goals as goal
 
 -- the line goes on at the place, or ends there
@@ -31,8 +31,8 @@ returns-in_err-name c =
     let n = subst (Named line) f.0 c.read_name.ensures in
     taken_err line c.from_residual.result _ c.from_residual.ensures.0 c.from_residual.ensures.1 (λ at e. (sym (unnamed line n), omega (arith, e, f.1)))
 
-pub loop-op-init : goal.loop-op-init
-loop-op-init c =
+pub loop-k-init : goal.loop-k-init
+loop-k-init c =
     let line = first_line c.args.sheet.now in
     let n = subst (Named line) (c.ok_or.ensures.ok_part ∙ ap result_ok c.in_ok-name.was) c.read_name.ensures in
     let w = up_to-length space line in
@@ -40,62 +40,53 @@ loop-op-init c =
 
 pub read_number-requires : goal.read_number-requires
 read_number-requires c =
-    let l = c.loop-op in
-    let g = goes c.args.sheet.now l.at c.byte_at.result l.invariant.0 c.byte_at.ensures c.loop-op-test.true in
+    let l = c.loop-k in
+    let g = goes c.args.sheet.now l.at c.byte_at.result l.invariant.0 c.byte_at.ensures c.if-byte_at-eq10.false in
     omega (arith, g)
 
 pub returns-in_err-number : goal.returns-in_err-number
 returns-in_err-number c =
     let line = first_line c.args.sheet.now in
-    let l = c.loop-op in
-    let g = goes c.args.sheet.now l.at c.byte_at.result l.invariant.0 c.byte_at.ensures c.loop-op-test.true in
-    let f = failed_at c.read_number.result l.at _ c.ok_or-in-loop-op.result c.ok_or-in-loop-op.ensures.value c.in_err-number.was in
+    let l = c.loop-k in
+    let g = goes c.args.sheet.now l.at c.byte_at.result l.invariant.0 c.byte_at.ensures c.if-byte_at-eq10.false in
+    let f = failed_at c.read_number.result l.at _ c.ok_or-in-loop-k.result c.ok_or-in-loop-k.ensures.value c.in_err-number.was in
     taken_err line c.from_residual-in_err-number.result _ c.from_residual-in_err-number.ensures.0 c.from_residual-in_err-number.ensures.1
     (λ at e. (listing_unread line _ l.k l.numbers l.at l.invariant.1 g (sym c.read_number.ensures ∙ f.0), omega (arith, e, f.1, l.invariant.0)))
 
-pub returns-then-k-count : goal.returns-then-k-count
-returns-then-k-count c =
-    let line = first_line c.args.sheet.now in
-    let l = c.loop-op in
-    let g = goes c.args.sheet.now l.at c.byte_at.result l.invariant.0 c.byte_at.ensures c.loop-op-test.true in
-    let e = sym c.read_number.ensures ∙ c.ok_or-in-loop-op.ensures.ok_part ∙ ap result_ok c.in_ok-number.was in
-    (listing_many line _ l.k l.numbers l.at l.invariant.1 c.in_ok-number.number.value c.in_ok-number.number.next g e (c.if-k-count.true ∙ c.count-count.ensures), l.invariant.0)
+pub returns-then-byte_at-eq10 : goal.returns-then-byte_at-eq10
+returns-then-byte_at-eq10 c =
+    let l = c.loop-k in
+    let z = at-end c.args.sheet.now l.at c.byte_at.result l.invariant.0 c.byte_at.ensures c.if-byte_at-eq10.true in
+    (listing_few (first_line c.args.sheet.now) _ l.k l.numbers l.at l.invariant.1 (omega (arith, z)) (λ e. omega (arith, e, c.count-k-end.ensures, c.loop-k-test.true)), l.invariant.0)
 
 pub offset_bounds-numbers-k : goal.offset_bounds-numbers-k
-offset_bounds-numbers-k c = omega (arith, taken_most (place_of c.in_ok-name.name.value), c.loop-op.invariant.1.1)
+offset_bounds-numbers-k c = omega (arith, taken_most (place_of c.in_ok-name.name.value), c.loop-k.invariant.1.1)
 
 pub bounds-numbers-k : goal.bounds-numbers-k
-bounds-numbers-k c = omega (arith, taken_most (place_of c.in_ok-name.name.value), c.loop-op.invariant.1.1, c.count-count.ensures, c.if-k-count.false)
+bounds-numbers-k c = omega (arith, taken_most (place_of c.in_ok-name.name.value), c.count-k-end.ensures, c.loop-k-test.true)
 
-pub loop-op-smaller : goal.loop-op-smaller
-loop-op-smaller c =
-    let l = c.loop-op in
-    let g = goes c.args.sheet.now l.at c.byte_at.result l.invariant.0 c.byte_at.ensures c.loop-op-test.true in
-    let e = sym c.read_number.ensures ∙ c.ok_or-in-loop-op.ensures.ok_part ∙ ap result_ok c.in_ok-number.was in
-    let f = found-further (first_line c.args.sheet.now) l.at c.in_ok-number.number.value c.in_ok-number.number.next e in
-    omega (arith, f, g)
-
-pub loop-op-preserved : goal.loop-op-preserved
-loop-op-preserved c =
+pub loop-k-preserved : goal.loop-k-preserved
+loop-k-preserved c =
     let line = first_line c.args.sheet.now in
-    let l = c.loop-op in
+    let l = c.loop-k in
     let x = c.in_ok-number.number.value in
     let n = c.in_ok-number.number.next in
-    let g = goes c.args.sheet.now l.at c.byte_at.result l.invariant.0 c.byte_at.ensures c.loop-op-test.true in
-    let e = sym c.read_number.ensures ∙ c.ok_or-in-loop-op.ensures.ok_part ∙ ap result_ok c.in_ok-number.was in
+    let g = goes c.args.sheet.now l.at c.byte_at.result l.invariant.0 c.byte_at.ensures c.if-byte_at-eq10.false in
+    let e = sym c.read_number.ensures ∙ c.ok_or-in-loop-k.ensures.ok_part ∙ ap result_ok c.in_ok-number.was in
     let s : SFits w32 x = search rules in
-    (found_within line l.at x n g e, rw (to_z-of_z s) (listing_next line _ l.k l.numbers l.at l.invariant.1 x n g e (λ z. c.if-k-count.false (z ∙ sym c.count-count.ensures))))
+    (found_within line l.at x n g e, rw (to_z-of_z s) (listing_next line _ l.k l.numbers l.at l.invariant.1 x n g e (λ z. omega (arith, z, c.count-k-end.ensures, c.loop-k-test.true))))
 
-pub returns-then-k-count-2 : goal.returns-then-k-count-2
-returns-then-k-count-2 c =
-    let line = first_line c.args.sheet.now in
-    let l = c.loop-op in
-    let z = at-end c.args.sheet.now l.at c.byte_at.result l.invariant.0 c.byte_at.ensures c.loop-op-test.false in
-    (listing_few line _ l.k l.numbers l.at l.invariant.1 (omega (arith, z)) (λ e. c.if-k-count-2.true (e ∙ sym c.count-count.ensures)), l.invariant.0)
+pub returns-then-byte_at-ne10 : goal.returns-then-byte_at-ne10
+returns-then-byte_at-ne10 c =
+    let l = c.loop-k in
+    let g = goes c.args.sheet.now l.at c.byte_at-2.result l.invariant.0 c.byte_at-2.ensures c.if-byte_at-ne10.true in
+    (listing_more (first_line c.args.sheet.now) _ l.k l.numbers l.at l.invariant.1 g (omega (arith, c.count-k-end.ensures, c.loop-k-test.false, l.invariant.1.1)), l.invariant.0)
 
 pub returns : goal.returns
 returns c =
-    let line = first_line c.args.sheet.now in
-    let l = c.loop-op in
-    let z = at-end c.args.sheet.now l.at c.byte_at.result l.invariant.0 c.byte_at.ensures c.loop-op-test.false in
-    (ap some c.call.ensures ∙ listing_all line c.in_ok-name.name.value l.k l.numbers l.at l.invariant.1 (omega (arith, z)) (c.if-k-count-2.false ∙ c.count-count.ensures), z)
+    let l = c.loop-k in
+    let z = at-end c.args.sheet.now l.at c.byte_at-2.result l.invariant.0 c.byte_at-2.ensures c.if-byte_at-ne10.false in (
+      ap some c.call.ensures
+          ∙ listing_all (first_line c.args.sheet.now) c.in_ok-name.name.value l.k l.numbers l.at l.invariant.1 (omega (arith, z)) (omega (arith, c.count-k-end.ensures, c.loop-k-test.false, l.invariant.1.1)),
+      z,
+    )

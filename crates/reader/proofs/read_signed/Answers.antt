@@ -5,13 +5,11 @@ use mathlib.Core.Path.{◌≡◌, sym, ap, ◌∙◌}
 use borrow.Author.Tests.{eq-eqb, ne_eqb}
 use lib.Dec.{eqb}
 use lib.IntN.{ℤ}
-use Rattle.std.specs.Prelude.{Option, Some}
+use Rattle.std.specs.Prelude.{Option}
 use Rattle.protocol.specs.Lists.{bit}
-use Rattle.format.specs.Lines.{line_feed}
 use Rattle.reader.specs.declared.Found.{Found}
 use Rattle.reader.specs.Cut.{first_line}
 use Rattle.reader.specs.Reads.{behind_it, magnitude_at}
-use Rattle.reader.proofs.Cut.{up_to-length}
 use Rattle.reader.proofs.Scans.{small_signed, below_nought, neg-fits, negated, magnitude_small, signed-room, signed-not, signed-minus, signed-plain}
 use Rattle.reader.proofs.read_signed.Goals as goal
 
@@ -19,19 +17,17 @@ use Rattle.reader.proofs.read_signed.Goals as goal
 behind-sign : (bs : List ℕ) (at from x : ℕ) (m : Option (Found ℕ)) → from ≡ at + bit (eqb x 45) → m ≡ magnitude_at (first_line bs) from → magnitude_at (first_line bs) (at + bit (eqb x 45)) ≡ m
 behind-sign bs at from x m e f = ap (magnitude_at (first_line bs)) (sym e) ∙ sym f
 
-pub digits_from-start-requires : goal.digits_from-start-requires
-digits_from-start-requires c = let l = up_to-length line_feed c.args.sheet.now in omega (arith, l, c.requires.0)
-
 pub read_digits-requires : goal.read_digits-requires
 read_digits-requires c =
     let r = signed-room c.args.sheet.now c.args.at c.requires.0 c.byte_at-minus.result c.byte_at-minus.ensures in
-    (omega (arith, r, c.digits_from-start.ensures.0), c.digits_from-start.ensures.1)
+    let e : c.args.at + c.from.result ≡ c.args.at + bit (eqb c.byte_at-minus.result 45) = ap (λ k. c.args.at + k) c.from.ensures in
+    omega (arith, r, e)
 
 pub returns-in_err-size : goal.returns-in_err-size
 returns-in_err-size c =
     c.from_residual.ensures
     ∙ signed-not c.args.sheet.now c.args.at c.requires.0 c.byte_at-minus.result c.byte_at-minus.ensures c.read_digits.result
-    (behind-sign c.args.sheet.now c.args.at _ c.byte_at-minus.result _ c.digits_from-start.ensures.0 c.read_digits.ensures) c.requires.1 c.in_err-size.was
+    (behind-sign c.args.sheet.now c.args.at _ c.byte_at-minus.result _ (ap (λ k. c.args.at + k) c.from.ensures) c.read_digits.ensures) c.requires.1 c.in_err-size.was
 
 pub overflow_sub-result : goal.overflow_sub-result
 overflow_sub-result c =
@@ -47,7 +43,7 @@ returns-then-minus c =
     rw (c.cast_signed-n.ensures, small_signed n m)
     (ap (λ (x : ℤ). behind_it x next) (negated n m)
     ∙ signed-minus c.args.sheet.now c.args.at c.requires.0 c.byte_at-minus.result c.byte_at-minus.ensures c.read_digits.result
-    (behind-sign c.args.sheet.now c.args.at _ c.byte_at-minus.result _ c.digits_from-start.ensures.0 c.read_digits.ensures) n next (eq-eqb _ _ c.if-minus.true) c.in_ok-size.was)
+    (behind-sign c.args.sheet.now c.args.at _ c.byte_at-minus.result _ (ap (λ k. c.args.at + k) c.from.ensures) c.read_digits.ensures) n next (eq-eqb _ _ c.if-minus.true) c.in_ok-size.was)
 
 pub returns-else-minus : goal.returns-else-minus
 returns-else-minus c =
@@ -57,4 +53,4 @@ returns-else-minus c =
     rw (c.cast_signed-n.ensures, small_signed n m)
     (ap (λ (x : ℤ). behind_it x next) (small_signed n m)
     ∙ signed-plain c.args.sheet.now c.args.at c.requires.0 c.byte_at-minus.result c.byte_at-minus.ensures c.read_digits.result
-    (behind-sign c.args.sheet.now c.args.at _ c.byte_at-minus.result _ c.digits_from-start.ensures.0 c.read_digits.ensures) n next (ne_eqb _ _ c.if-minus.false) c.in_ok-size.was)
+    (behind-sign c.args.sheet.now c.args.at _ c.byte_at-minus.result _ (ap (λ k. c.args.at + k) c.from.ensures) c.read_digits.ensures) n next (ne_eqb _ _ c.if-minus.false) c.in_ok-size.was)
