@@ -153,6 +153,27 @@ module _ {on : Bool} {reserve : ℕ} {sheet : List ℕ} {from : ℕ} {lent : Lis
                   (sym (ap (take (at + length bytes)) two ∙ take_at (take at area ++ bytes) (drop (length bytes) (drop at area)) (at + length bytes) long));
             }
 
+-- ---- a sheet and an area of which the rest is lent
+
+abbrev pub lent_from : ℕ → List ℕ → List ℕ
+lent_from at xs = take (length xs - at) (drop at xs)
+
+lent_rest : (at : ℕ) (xs : List ℕ) → lent_from at xs ≡ drop at xs
+lent_rest at xs = take_all (length xs - at) (drop at xs) (let e = length-drop at xs in omega arith)
+
+put_back : (at : ℕ) (xs ys : List ℕ) → put_mid at (length xs - at) xs ys ≡ take at xs ++ ys
+put_back at xs ys =
+    let e : drop (length xs - at) (drop at xs) ≡ [] = drop_of_length-le (drop at xs) {i = length xs - at} (let d = length-drop at xs in omega arith) in
+    rw (e, append-nil)
+
+pub still_long : (at : ℕ) (xs ys : List ℕ) → at ≤ length xs → length ys ≡ length (lent_from at xs) → length (put_mid at (length xs - at) xs ys) ≡ length xs
+still_long at xs ys h e =
+    let r = ap length (lent_rest at xs) in let d = length-drop at xs in let t = length-take at xs in let a = length-append (take at xs) ys in
+    ap length (put_back at xs ys) ∙ omega (arith, h, e, r, d, t, a)
+
+lent_most : (at : ℕ) (xs : List ℕ) → length (lent_from at xs) ≡ length xs - at
+lent_most at xs = ap length (lent_rest at xs) ∙ length-drop at xs
+
 -- ---- the loop's invariant
 
 -- The run is over, as an answer did not fit, or goes on.
@@ -183,35 +204,29 @@ module _ {on : Bool} {reserve : ℕ} {sheet : List ℕ} {from : ℕ} {lent : Lis
   ended_room e h r = let g = c.under e in rw e (paused g h (let s = g.same in omega (arith, r, s)))
 
   -- a line is made on the plan and answered
-  module _ (e : ended ≡ false) (h : i < length sheet) (r : reserve ≤ length area - at) {put : Option ℕ} {q : State} {b' : Beside} {room' : List ℕ} {end : ℕ} (m : end ≡ first_length (drop i sheet))
-      (l : Kept b p → AnsweredLine (drop i sheet) p (drop at area) put q b' room') where
+  module _ (e : ended ≡ false) (h : i < length sheet) (r : reserve ≤ length area - at) {put : Option ℕ} {q : State} {b' : Beside} {room' : List ℕ} {end : ℕ}
+      (m : end ≡ first_length (lent_from i sheet)) (l : Kept b p → AnsweredLine (lent_from i sheet) p (lent_from at area) put q b' room') where
     g : Going on reserve sheet from lent start area p b at i
     g = c.under e
 
-    room : reserve ≤ length lent - at
-    room = let s = g.same in omega (arith, r, s)
+    enough : reserve ≤ length lent - at
+    enough = let s = g.same in omega (arith, r, s)
+
+    made : AnsweredLine (drop i sheet) p (drop at area) put q b' room'
+    made = subst (λ xs. AnsweredLine xs p (drop at area) put q b' room') (lent_rest i sheet)
+        (subst (λ xs. AnsweredLine (lent_from i sheet) p xs put q b' room') (lent_rest at area) (l g.kept))
 
     behind : i + length (first_line (drop i sheet)) + 1 ≡ i + (end + 1)
-    behind = omega (arith, m)
+    behind = let k = m ∙ ap first_length (lent_rest i sheet) in omega (arith, k)
 
-    pub written_on : (n : ℕ) → put ≡ Some n → Course on reserve sheet from lent start (take at area ++ room') q b' (at + n) (i + (end + 1)) ended
-    written_on n f = record {
+    pub written_on : (n : ℕ) → put ≡ Some n → Course on reserve sheet from lent start (put_mid at (length area - at) area room') q b' (at + n) (i + (end + 1)) ended
+    written_on n f = rw (put_back at area room') (record {
       over = λ x. absurd (is_yes (sym e ∙ x));
-      under = λ x. subst (Going on reserve sheet from lent start (take at area ++ room') q b' (at + n)) behind (next_line g h room (l g.kept) n f);
-    }
+      under = λ x. subst (Going on reserve sheet from lent start (take at area ++ room') q b' (at + n)) behind (next_line g h enough made n f);
+    })
 
-    pub left_out : put ≡ None → Course on reserve sheet from lent start (take at area ++ room') q b' at (i + (end + 1)) (not on)
-    left_out f = record {
-      over = λ x. subst (λ j. Advanced on reserve sheet from start lent (view q) j at true (take at area ++ room')) behind (unfit g h room (l g.kept) (off on x) f);
-      under = λ x. subst (Going on reserve sheet from lent start (take at area ++ room') q b' at) behind (dropped g h room (l g.kept) (kept_on on x) f);
-    }
-
--- ---- an area and a sheet of which the rest is lent
-
-pub lent_rest : (at : ℕ) (xs : List ℕ) → take (length xs - at) (drop at xs) ≡ drop at xs
-lent_rest at xs = take_all (length xs - at) (drop at xs) (let e = length-drop at xs in omega arith)
-
-pub put_back : (at : ℕ) (xs ys : List ℕ) → put_mid at (length xs - at) xs ys ≡ take at xs ++ ys
-put_back at xs ys =
-    let e : drop (length xs - at) (drop at xs) ≡ [] = drop_of_length-le (drop at xs) {i = length xs - at} (let d = length-drop at xs in omega arith) in
-    rw (e, append-nil)
+    pub left_out : put ≡ None → Course on reserve sheet from lent start (put_mid at (length area - at) area room') q b' at (i + (end + 1)) (not on)
+    left_out f = rw (put_back at area room') (record {
+      over = λ x. subst (λ j. Advanced on reserve sheet from start lent (view q) j at true (take at area ++ room')) behind (unfit g h enough made (off on x) f);
+      under = λ x. subst (Going on reserve sheet from lent start (take at area ++ room') q b' at) behind (dropped g h enough made (kept_on on x) f);
+    })
