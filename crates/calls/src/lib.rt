@@ -121,18 +121,7 @@ fn changed(call: Call, p: &mut State, beside: &mut Beside) -> Answer
         }
         Call::Join => moves::join(p),
         Call::Send(s) => moves::send(p, s, unsent(&beside.counts, s)),
-        Call::Replay(n) => {
-            beside.ready(p);
-            let counts = &beside.counts;
-            replay::replay(
-                p,
-                n,
-                counts.missing,
-                counts.settled,
-                &beside.index,
-                beside.sound,
-            )
-        }
+        Call::Replay(_) => Err(Refusal::WrongMode),
         Call::Stop => moves::stop(p, beside.counts.waiting),
         Call::Confirm(s) => moves::confirm(p, s, unsent(&beside.counts, s)),
         Call::Install => moves::install(p, beside.counts.waiting),
