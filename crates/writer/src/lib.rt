@@ -104,7 +104,8 @@ fn put_signed(x: i32, at: usize, area: &mut [u8]) -> usize
 
 // ---- a row
 
-// A value has at most 11 bytes and a space. The loop changes nothing, and a compiler drops it: that a value of a slice is an i32 the proof knows only once it is read.
+// A value has at most 11 bytes and a space. The loop changes nothing, and a compiler drops it: that a value of a slice is an i32 the proof knows only
+// once it is read.
 #[tactic(auto, using(crate::proofs::Widths::read_next, crate::proofs::Widths::read_over))]
 fn row_most(row: &[i32])
     ensures { length (spaced row.now) ≤ 12 * length row.now }
