@@ -5,9 +5,9 @@ use mathlib.Core.Bool.{Bool, true, false, cond, and-false}
 use mathlib.Core.Path.{◌≡◌, refl, sym, ap, ap₂, ◌∙◌}
 use mathlib.Core.Logic.{◌≢◌}
 use mathlib.Core.List.{List, [], ◌∷◌, map, reverse}
-use borrow.Author.Tests.{eqb-true, eqb-false, eq-eqb, ne_eqb, leb-true, le-leb}
+use borrow.Author.Tests.{eqb-true, eqb-false, ne_eqb, leb-true, le-leb}
 use lib.Dec.{eqb, ltb, leb}
-use lib.IntN.{ℤ, pos, negsuc, ◌+ℤ◌}
+use lib.IntN.{ℤ, pos, ◌+ℤ◌}
 use lib.ListN.{length, get_or, take}
 use lib.Seq.{take_all}
 use lib.Signed.{lt_z}
@@ -19,7 +19,10 @@ use Rattle.rows.specs.Rows.{span}
 use Rattle.rows.proofs.Spans.{span-snoc, reverse_snoc}
 use Rattle.rules.specs.Rules.{with_value, pair_holds, names_pair, names_at, due_at, is_due, plain_rules, numbers_in, tested_in, firm_in}
 use Rattle.rules.proofs.Rules.{value_in_lem, value_past, value_out, with_other, pair_at, due_at_lem}
-use Rattle.rules.specs.Index.{Naming, place_of, other_of, other_at, naming_of, namings_of, naming_holds, number_of, side_holds, naming_at, first_at, last_at, namings_in, flag_in, Indexed, IndexedIf, listed_as, indexed_in, tested_by, firm_by}
+use Rattle.rules.specs.declared.Other.TheVariants.{Above, Below}
+use Rattle.rules.specs.declared.Naming.{Naming}
+use Rattle.rules.specs.declared.Index.{Index}
+use Rattle.rules.specs.Index.{place_of, other_of, other_at, naming_of, namings_of, naming_holds, number_of, side_holds, naming_at, first_at, last_at, namings_in, flag_in, Indexed, IndexedIf, listed_as, indexed_in, tested_by, firm_by}
 
 -- ---- what passes a test
 
@@ -48,10 +51,6 @@ module _ {A B : Type 0} (f : A → B) where
 -- ---- a rule at a measure that it names
 
 module _ (a b m : ℕ) where
-  pub names-lower : a ≡ m → names_pair a b m ≡ true
-  unfolding names_pair
-  names-lower e = rw (eq-eqb _ _ e)
-
   pub names-upper : a ≢ m → names_pair a b m ≡ eqb b m
   unfolding names_pair
   names-upper ne = rw (ne_eqb _ _ ne)
@@ -65,13 +64,6 @@ module _ (vs : List ℤ) (y : ℤ) (p : ℕ) where
 
   pub far_is : length vs ≤ p → cond (eqb p 33) y (pos 0) ≡ other_at (value vs) y p
   far_is h = ap (λ v. cond (eqb p 33) y v) (value_past vs (p + 1) (omega arith) (omega arith))
-
--- the place of the other measure
-pub other-upper : (m a b : ℕ) → a ≡ m → pos (place_of m b) ≡ other_of m a b
-other-upper m a b e = sym (ap (λ t. cond t (pos (place_of m b)) (negsuc (place_of m a))) (eq-eqb a m e))
-
-pub other-lower : (m a b : ℕ) → a ≢ m → negsuc (place_of m a) ≡ other_of m a b
-other-lower m a b ne = sym (ap (λ t. cond t (pos (place_of m b)) (negsuc (place_of m a))) (ne_eqb a m ne))
 
 -- a row where measure m counts as x
 module _ (m : ℕ) (x : ℤ) (vs : List ℤ) (l : length vs ≤ 32) where
@@ -90,9 +82,9 @@ module _ (m : ℕ) (x : ℤ) (vs : List ℤ) (l : length vs ≤ 32) where
   side-is : (a b : ℕ) (g : ℤ) → names_pair a b m ≡ true → side_holds (value vs) own (other_of m a b) g ≡ pair_holds (value (with_value m x vs)) a g b
   unfolding pair_holds
   side-is a b g h = cases (eqb a m)
-      (λ t. ap (λ c. side_holds (value vs) own (cond c (pos (place_of m b)) (negsuc (place_of m a))) g) t ∙ ap₂ (λ u v. lt_z (u +ℤ g) v) (ap (value (with_value m x vs)) (sym (eqb-true a m t)))
+      (λ t. ap (λ c. side_holds (value vs) own (cond c (Above (place_of m b)) (Below (place_of m a))) g) t ∙ ap₂ (λ u v. lt_z (u +ℤ g) v) (ap (value (with_value m x vs)) (sym (eqb-true a m t)))
       (other-is b))
-      (λ t. ap (λ c. side_holds (value vs) own (cond c (pos (place_of m b)) (negsuc (place_of m a))) g) t
+      (λ t. ap (λ c. side_holds (value vs) own (cond c (Above (place_of m b)) (Below (place_of m a))) g) t
       ∙ ap₂ (λ u v. lt_z (u +ℤ g) v) (other-is a) (ap (value (with_value m x vs)) (sym (eqb-true b m (sym (names-upper a b m (eqb-false a m t)) ∙ h)))))
 
 -- ---- the tests
@@ -135,7 +127,7 @@ module _ (lower : List ℕ) (gap : List ℤ) (upper : List ℕ) (n : ℕ) where
             ∙ sym (pair_at lower gap upper n j h [] (with_value m x vs))
 
   -- With the rules' own index those that are due are tested, and no others.
-  indexed-is : (index : List ℤ) (firm : List Bool) (m : ℕ) (x : ℤ) (vs : List ℤ) → length vs ≤ 32 → Indexed index lower gap upper firm n → indexed_in index m x vs ≡ tested_in true m lower gap upper n
+  indexed-is : (index : Index) (firm : List Bool) (m : ℕ) (x : ℤ) (vs : List ℤ) → length vs ≤ 32 → Indexed index lower gap upper firm n → indexed_in index m x vs ≡ tested_in true m lower gap upper n
       x vs
   unfolding indexed_in tested_in numbers_in namings_of first_broken is_due
   indexed-is index firm m x vs l w = cases (leb m 32)
@@ -150,24 +142,24 @@ module _ (lower : List ℕ) (gap : List ℤ) (upper : List ℕ) (n : ℕ) where
       none-due : leb m 32 ≡ false → first_broken rules (with_value m x vs) (passing (λ k. is_due m (rule_at rules k)) (last_first n)) ≡ 0
       none-due t = rw (t, and-false (ltb 0 m), none-passing (last_first n))
 
-pub tested_indexed : (sound : Bool) (index : List ℤ) (m : ℕ) (lower : List ℕ) (gap : List ℤ) (upper : List ℕ) (firm : List Bool) (n : ℕ) (x : ℤ) (vs : List ℤ) → length vs ≤ 32
+pub tested_indexed : (sound : Bool) (index : Index) (m : ℕ) (lower : List ℕ) (gap : List ℤ) (upper : List ℕ) (firm : List Bool) (n : ℕ) (x : ℤ) (vs : List ℤ) → length vs ≤ 32
     → IndexedIf sound index lower gap upper firm n → tested_by sound index m lower gap upper n x vs ≡ tested_in sound m lower gap upper n x vs
 unfolding tested_by
 tested_indexed true index m lower gap upper firm n x vs l w = indexed-is lower gap upper n index firm m x vs l (w refl)
 tested_indexed false index m lower gap upper firm n x vs l w = refl
 
 -- a caller that asks the index where all held before, and tests all rules else, tests by what it knows
-module _ (sound : Bool) (index : List ℤ) (m : ℕ) (lower : List ℕ) (gap : List ℤ) (upper : List ℕ) (n : ℕ) {x x' : ℤ} {vs vs' : List ℤ} {r : ℕ} (x-is : x' ≡ x) (vs-is : vs' ≡ vs) where
-  pub asked_index : sound ≡ true → r ≡ indexed_in index m x' (take 32 vs') → length vs ≤ 32 → r ≡ tested_by sound index m lower gap upper n x vs
+module _ (sound : Bool) (index : Index) (m : ℕ) (lower : List ℕ) (gap : List ℤ) (upper : List ℕ) (n : ℕ) {x x' : ℤ} {vs vs' : List ℤ} (x-is : x' ≡ x) (vs-is : vs' ≡ vs) where
+  pub asked_index : sound ≡ true → length vs ≤ 32 → indexed_in index m x' (take 32 vs') ≡ tested_by sound index m lower gap upper n x vs
   unfolding tested_by
-  asked_index e r-is l = rw e (r-is ∙ (λ j. indexed_in index m (x-is j) (take 32 (vs-is j))) ∙ ap (indexed_in index m x) (take_all 32 vs l))
+  asked_index e l = rw e ((λ j. indexed_in index m (x-is j) (take 32 (vs-is j))) ∙ ap (indexed_in index m x) (take_all 32 vs l))
 
-  pub asked-all : sound ≡ false → r ≡ tested_in false m lower gap upper n x' vs' → r ≡ tested_by sound index m lower gap upper n x vs
+  pub asked-all : sound ≡ false → tested_in false m lower gap upper n x' vs' ≡ tested_by sound index m lower gap upper n x vs
   unfolding tested_by
-  asked-all e r-is = rw e (r-is ∙ (λ j. tested_in false m lower gap upper n (x-is j) (vs-is j)))
+  asked-all e = rw e (λ j. tested_in false m lower gap upper n (x-is j) (vs-is j))
 
 -- and of the 32 measures it says whether a firm rule names them
-pub firm-indexed : (sound : Bool) (index : List ℤ) (lower : List ℕ) (gap : List ℤ) (upper : List ℕ) (firm : List Bool) (n m : ℕ) → 0 < m → m ≤ 32
+pub firm-indexed : (sound : Bool) (index : Index) (lower : List ℕ) (gap : List ℤ) (upper : List ℕ) (firm : List Bool) (n m : ℕ) → 0 < m → m ≤ 32
     → IndexedIf sound index lower gap upper firm n → firm_by sound index lower upper firm n m ≡ firm_in lower upper firm n m
 unfolding firm_by
 firm-indexed true index lower gap upper firm n m p q w = ap (flag_in index) (listed-is m q) ∙ (w refl).firmly m p q
@@ -176,11 +168,11 @@ firm-indexed false index lower gap upper firm n m p q w = refl
 -- ---- a walk along the namings of a measure, from their end
 
 -- what the code begins with
-pub reading_begin : (index : List ℤ) (m : ℕ) (x : ℤ) (vs : List ℤ) (p first last left : ℕ) → p ≡ listed_as m → first ≡ first_at index p → last ≡ last_at index p → left ≡ last - first
-    → indexed_in index m x vs ≡ first_not (naming_holds (value vs) (value (with_value m x vs) m)) number_of (reverse (span first left (naming_at index)))
+pub reading_begin : (index : Index) (m : ℕ) (x : ℤ) (vs : List ℤ) (p first last left : ℕ) → p ≡ listed_as m → first ≡ first_at index p → last ≡ last_at index p → left ≡ last - first
+    → indexed_in index m x vs ≡ first_not (naming_holds (value vs) (value (with_value m x vs) m)) number_of (reverse (span first left (naming_at index.namings)))
 unfolding indexed_in namings_in
 reading_begin index m x vs p first last left p-is first-is last-is left_is =
     let a = first-is ∙ ap (first_at index) p-is in
     let b = last-is ∙ ap (last_at index) p-is in
     let n = left_is ∙ (λ j. b j - a j) in
-    sym (λ j. first_not (naming_holds (value vs) (value (with_value m x vs) m)) number_of (reverse (span (a j) (n j) (naming_at index))))
+    sym (λ j. first_not (naming_holds (value vs) (value (with_value m x vs) m)) number_of (reverse (span (a j) (n j) (naming_at index.namings))))
