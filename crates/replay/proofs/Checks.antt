@@ -4,7 +4,6 @@ use native.Mathlib.Omega.{arith}
 use mathlib.Core.Bool.{false}
 use mathlib.Core.Path.{◌≡◌, refl, sym, ap, ◌∙◌}
 use mathlib.Core.Logic.{◌≢◌}
-use denote.Enum.Bare.{sameb}
 use Rattle.std.specs.Prelude.{Option, Some, IfSome}
 use Rattle.protocol.specs.Plan.{fate_is}
 use lib.IntN.{ℤ}
@@ -16,7 +15,6 @@ use Rattle.heads.proofs.Positions.{seat_some, slot_suc}
 use Rattle.records.specs.declared.EditRecord.{EditRecord}
 use Rattle.records.specs.declared.Fate.{Fate}
 use Rattle.records.specs.declared.Fate.TheVariants.{Unsent, Waiting, Accepted, Revoked}
-use Rattle.records.specs.contracts.Fate.{the_type}
 use Rattle.records.specs.Records.{fate_of, found_at, looked, no_record}
 use Rattle.records.proofs.Records.{looked_record}
 use Rattle.state.specs.declared.State.{State}
@@ -33,25 +31,7 @@ found_named p n at few is =
     let q = position_of (end_in p.head) (kept_in p.head) n in
     ap looked (is ∙ ap (found_at p.edits) at) ∙ looked_record q p.edits (seat_most q (rw at at few))
 
--- two fates compared, and the fate of no edit
-pub same_fate : (f g : Fate) → sameb the_type f g ≡ fate_is (fate_of g) (fate_of f)
-same_fate Unsent Unsent = refl
-same_fate Unsent Waiting = refl
-same_fate Unsent Accepted = refl
-same_fate Unsent Revoked = refl
-same_fate Waiting Unsent = refl
-same_fate Waiting Waiting = refl
-same_fate Waiting Accepted = refl
-same_fate Waiting Revoked = refl
-same_fate Accepted Unsent = refl
-same_fate Accepted Waiting = refl
-same_fate Accepted Accepted = refl
-same_fate Accepted Revoked = refl
-same_fate Revoked Unsent = refl
-same_fate Revoked Waiting = refl
-same_fate Revoked Accepted = refl
-same_fate Revoked Revoked = refl
-
+-- the fate of no edit
 pub no_fate : (f : Fate) → f ≢ Unsent → false ≡ fate_is (fate_of f) (fate_of no_record.fate)
 no_fate Unsent h = absurd (h refl)
 no_fate Waiting h = refl

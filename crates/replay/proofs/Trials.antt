@@ -20,10 +20,9 @@ use Rattle.rows.specs.Rows.{row}
 use Rattle.rules.specs.Rules.{RuleTest, numbered}
 use Rattle.rules.proofs.Rules.{value_none, value_row, value-outside}
 use Rattle.records.specs.declared.EditRecord.{EditRecord}
-use Rattle.records.specs.Records.{kept_at}
-use Rattle.state.specs.Spread.{Spread, named_in}
+use Rattle.state.specs.Spread.{Spread}
 use Rattle.replay.specs.declared.Outcome.TheVariants.{Accepted, Revoked}
-use Rattle.replay.specs.Replays.{draft_in, effective_in, broken_in, tried_of, outcome_of, point_of}
+use Rattle.replay.specs.Replays.{draft_in, effective_in, broken_in, tried_of, point_of}
 
 -- a measure's value in the draft is the one at its place, and 0 where there is none
 none-there : (draft : List ℤ) (n m : ℕ) → one_to n m ≡ false → pos 0 ≡ value (row draft 0 n) m
@@ -53,7 +52,7 @@ pub as_numbered : (k : ℕ) → then_some (not (eqb k 0)) k ≡ numbered k
 as_numbered zero = refl
 as_numbered (suc k) = rw (eqb-suc-zero k)
 
-module _ (test : RuleTest) (p : Spread) (e : EditRecord) (free : is_revoked (kept_at 0 (named_in p e.earlier)) ≡ false) where
+module _ (test : RuleTest) (p : Spread) (e : EditRecord) where
   abbrev vs : List ℤ
   vs = draft_in p.head p.draft
 
@@ -67,21 +66,21 @@ module _ (test : RuleTest) (p : Spread) (e : EditRecord) (free : is_revoked (kep
   abbrev number : ℤ → ℕ
   number x = test e.measure p.lower p.gap p.upper (min p.head.rules 64) x vs
 
-  pub tried-out : None ≡ ranged_of result → Revoked None ≡ outcome_of test p e
+  pub tried-out : None ≡ ranged_of result → Revoked None ≡ tried_of test p e
   unfolding tried_of effective_in broken_in fits
-  tried-out n = rw (free, ranged_out result n)
+  tried-out n = rw (ranged_out result n)
 
-  pub tried-broken : (x : ℤ) (r : ℕ) → Some x ≡ ranged_of result → Some r ≡ numbered (number x) → Revoked (Some r) ≡ outcome_of test p e
+  pub tried-broken : (x : ℤ) (r : ℕ) → Some x ≡ ranged_of result → Some r ≡ numbered (number x) → Revoked (Some r) ≡ tried_of test p e
   unfolding tried_of effective_in broken_in fits
   tried-broken x r s b =
       let i = ranged_in result x s in
       let c : Some r ≡ numbered (number result) = b ∙ ap (λ y. numbered (number y)) i.1 in
-      rw (free, i.0, number_some (number result) r c) (ap Revoked c)
+      rw (i.0, number_some (number result) r c) (ap Revoked c)
 
   pub tried-passes : (x : ℤ) {v : ℤ} → Some x ≡ ranged_of result → None ≡ numbered (number x) → v ≡ cond (one_to (min p.head.drafted 32) e.measure) x (get_or p.draft (point_of e.measure) (pos 0))
-      → Accepted v ≡ outcome_of test p e
+      → Accepted v ≡ tried_of test p e
   unfolding tried_of effective_in broken_in fits
   tried-passes x s b v-is =
       let i = ranged_in result x s in
       let c : number result ≡ 0 = number_none (number result) (b ∙ ap (λ y. numbered (number y)) i.1) in
-      rw (free, i.0, c) (ap Accepted (v-is ∙ ap (λ y. cond (one_to (min p.head.drafted 32) e.measure) y (get_or p.draft (point_of e.measure) (pos 0))) i.1))
+      rw (i.0, c) (ap Accepted (v-is ∙ ap (λ y. cond (one_to (min p.head.drafted 32) e.measure) y (get_or p.draft (point_of e.measure) (pos 0))) i.1))

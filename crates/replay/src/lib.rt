@@ -9,8 +9,7 @@ ghost use Rattle.protocol.specs.Lists.{natural};
 ghost use Rattle.protocol.specs.Plan.{fate_is};
 ghost use Rattle.records.specs.Records.{fate_of, kept_at, no_record};
 ghost use Rattle.records.specs.declared.Fate.TheVariants.{Unsent};
-ghost use Rattle.replay.specs.Replays.{point_of, outcome_fate, outcome_of, settled_record, settled_in, checks_in, Decided, Replayed, Trusted};
-ghost use Rattle.rows.specs.Rows.{row};
+ghost use Rattle.replay.specs.Replays.{draft_in, point_of, tried_of, outcome_fate, outcome_of, settled_record, settled_in, checks_in, Decided, Replayed, Trusted};
 ghost use Rattle.rules.specs.Index.{tested_by};
 ghost use Rattle.rules.specs.Rules.{numbered};
 ghost use Rattle.rules.specs.Table.{lowers, gaps, uppers};
@@ -51,14 +50,11 @@ fn point(m: u32) -> usize
 
 // ---- its checks
 
-// Whether the kept edit that a number names has a fate.
-fn has_fate(p: &State, n: u32, fate: Fate) -> bool
-    ensures { fate ≢ Unsent → result ≡ fate_is (fate_of fate) (kept_at 0 (named_in (spread p.now) n)).fate }
+// Whether the edit that one names as earlier has a fate.
+fn earlier_is(p: &State, e: &EditRecord, fate: Fate) -> bool
+    ensures { fate ≢ Unsent → result ≡ fate_is (fate_of fate) (kept_at 0 (named_in (spread p.now) e.now.earlier)).fate }
 {
-    match records::find(&p.edits, p.head.position(n)) {
-        Some(e) => e.fate == fate,
-        None => false,
-    }
+    matches!(records::find(&p.edits, p.head.position(e.earlier)), Some(earlier) if earlier.fate == fate)
 }
 
 // The place of the edit that a call names, where the checks 31, 34, 35 and 36 pass, from how many first logs are missing.
@@ -78,7 +74,7 @@ fn waiting(p: &State, n: i32, missing: u32) -> Result<usize, Refusal>
     if p.edits[i].fate != Fate::Waiting {
         return Err(Refusal::NotWaiting);
     }
-    if has_fate(p, p.edits[i].earlier, Fate::Waiting) {
+    if earlier_is(p, &p.edits[i], Fate::Waiting) {
         return Err(Refusal::EarlierWaits);
     }
     Ok(i)
@@ -88,54 +84,43 @@ fn waiting(p: &State, n: i32, missing: u32) -> Result<usize, Refusal>
 
 // The number of a rule that is broken on the draft where measure m counts as x. A caller that knows that all rules hold on the draft says so (`sound`): then the
 // index that is lent is asked, which, if it is the rules', has those that name the measure, and the number is the same.
-fn broken(
-    table: &Table,
-    k: u32,
-    index: &Index,
-    draft: &[i32; limit::MEASURES],
-    n: u32,
-    m: u32,
-    x: i32,
-    sound: bool,
-) -> Option<u32>
-    ensures { result ≡ numbered (tested_by sound index.now m (lowers table.now) (gaps table.now) (uppers table.now)
-        (min k 64) x (row draft.now 0 (min n 32))) }
+fn broken(p: &State, index: &Index, m: u32, x: i32, sound: bool) -> Option<u32>
+    ensures { result ≡ numbered (tested_by sound index.now m (lowers p.now.table) (gaps p.now.table) (uppers p.now.table)
+        (min p.now.head.rules 64) x (draft_in p.now.head p.now.draft)) }
 {
-    let vs = &draft[..];
-    let row = &vs[..rows::capped(n, limit::MEASURES)];
+    let row = &p.draft[..rows::capped(p.head.drafted, limit::MEASURES)];
     if sound {
         let rule = rules::broken_by_index(index, row, m, x);
         return (rule != 0).then_some(rule);
     }
-    rules::broken_of_all(table, k, row, m, x)
+    rules::broken_of_all(&p.table, p.head.rules, row, m, x)
 }
 
-// What an edit comes to on the draft. One built on a revoked edit is revoked, untested (02, S-2).
-fn trial(p: &State, e: &EditRecord, index: &Index, sound: bool) -> Outcome
-    ensures { result ≡ outcome_of (tested_by sound index.now) (spread p.now) e.now }
+// The change of an edit tried on the draft.
+fn try_draft(p: &State, e: &EditRecord, index: &Index, sound: bool) -> Outcome
+    ensures { result ≡ tried_of (tested_by sound index.now) (spread p.now) e.now }
 {
-    if has_fate(p, e.earlier, Fate::Revoked) {
-        return Outcome::Revoked(None);
-    }
     let m = u32::from(e.measure);
     let here = rows::one_to(rows::capped(p.head.drafted, limit::MEASURES), m);
     let old = p.draft[point(m)];
     let Some(x) = e.change.apply(if here { old } else { 0 }) else {
         return Outcome::Revoked(None);
     };
-    if let Some(rule) = broken(
-        &p.table,
-        p.head.rules,
-        index,
-        &p.draft,
-        p.head.drafted,
-        m,
-        x,
-        sound,
-    ) {
+    if let Some(rule) = broken(p, index, m, x, sound) {
         return Outcome::Revoked(Some(rule));
     }
     Outcome::Accepted(if here { x } else { old })
+}
+
+// What an edit comes to. One built on a revoked edit is revoked, untested, and the draft stays (02, S-2).
+fn trial(p: &State, e: &EditRecord, index: &Index, sound: bool) -> Outcome
+    ensures { result ≡ outcome_of (tested_by sound index.now) (spread p.now) e.now }
+{
+    if earlier_is(p, e, Fate::Revoked) {
+        Outcome::Revoked(None)
+    } else {
+        try_draft(p, e, index, sound)
+    }
 }
 
 // What a replay decides.

@@ -17,11 +17,11 @@ use Rattle.rules.specs.Table.{lowers, gaps, uppers}
 use Rattle.state.specs.Spread.{spread}
 use Rattle.replay.specs.Replays.{draft_in, point_of}
 use Rattle.replay.proofs.Trials.{value_there, tried-out, tried-broken, tried-passes}
-use Rattle.replay.proofs.trial.Goals as goal
-use Rattle.replay.proofs.trial.Goals.{then-here, else-here}
-use Rattle.replay.proofs.trial.Lts as lts
-use Rattle.replay.proofs.trial.Tie as tie
-use Rattle.replay.proofs.trial.Reads as reads
+use Rattle.replay.proofs.try_draft.Goals as goal
+use Rattle.replay.proofs.try_draft.Goals.{then-here, else-here}
+use Rattle.replay.proofs.try_draft.Lts as lts
+use Rattle.replay.proofs.try_draft.Tie as tie
+use Rattle.replay.proofs.try_draft.Reads as reads
 
 abbrev After-broken : Type 0
 After-broken = lts.After-broken tie.the-claims reads.Pre reads.Post
@@ -68,28 +68,24 @@ module _ (c : After-broken) where
 pub returns-in_default : goal.returns-in_default
 returns-in_default c =
     let a = c.args in
-    let free = sym (c.has_fate.ensures (λ e. cc)) ∙ c.if-has_fate.false in
-    tried-out (tested_by a.sound a.index.now) (spread a.p.now) a.e.now free (sym c.in_default.is ∙ gives c.before.before)
+    tried-out (tested_by a.sound a.index.now) (spread a.p.now) a.e.now (sym c.in_default.is ∙ gives c.before.before)
 
 pub returns-in-Some-broken : goal.returns-in-Some-broken
 returns-in-Some-broken c =
     let a = c.args in
-    let free = sym (c.has_fate.ensures (λ e. cc)) ∙ c.if-has_fate.false in
-    tried-broken (tested_by a.sound a.index.now) (spread a.p.now) a.e.now free c.in-Some.x c.in-Some-broken.rule (sym c.in-Some.is ∙ gives c.before.before.before.before)
+    tried-broken (tested_by a.sound a.index.now) (spread a.p.now) a.e.now c.in-Some.x c.in-Some-broken.rule (sym c.in-Some.is ∙ gives c.before.before.before.before)
     (sym c.in-Some-broken.is ∙ tested c.before.before)
 
 pub returns-then-here-2 : goal.returns-then-here-2
 returns-then-here-2 c =
     let a = c.args in
-    let free = sym (c.has_fate.ensures (λ e. cc)) ∙ c.if-has_fate.false in
     let t = c.before.before.before.before.before in
-    tried-passes (tested_by a.sound a.index.now) (spread a.p.now) a.e.now free c.in-Some.x (sym c.in-Some.is ∙ gives t)
+    tried-passes (tested_by a.sound a.index.now) (spread a.p.now) a.e.now c.in-Some.x (sym c.in-Some.is ∙ gives t)
     (sym c.in_default-broken.is ∙ tested c.before.before.before) (rw (sym (here t) ∙ c.if-here-2.true) (kept c.before.before.before))
 
 pub returns-else-here-2 : goal.returns-else-here-2
 returns-else-here-2 c =
     let a = c.args in
-    let free = sym (c.has_fate.ensures (λ e. cc)) ∙ c.if-has_fate.false in
     let t = c.before.before.before.before.before in
-    tried-passes (tested_by a.sound a.index.now) (spread a.p.now) a.e.now free c.in-Some.x (sym c.in-Some.is ∙ gives t)
+    tried-passes (tested_by a.sound a.index.now) (spread a.p.now) a.e.now c.in-Some.x (sym c.in-Some.is ∙ gives t)
     (sym c.in_default-broken.is ∙ tested c.before.before.before) (rw (sym (here t) ∙ c.if-here-2.false) (read t ∙ old t))
