@@ -1,20 +1,16 @@
--- Scaffolding: what measure, rule and open decide from what they read of the state, and what they store. Assumes nothing.
-use Rattle.std.specs.Prelude.{ℕ, min, ◌+◌, ◌≡◌, Bool, not, cond, ◌&&◌, List, [], ◌∷◌, eqb, ltb, ℤ, pos, get_or, set}
+-- Scaffolding: the checks of measure, rule and open by what they read of the state, what each stores, and what the three leave as it was. Assumes nothing.
+use Rattle.std.specs.Prelude.{ℕ, ◌+◌, min, ◌≡◌, not, ◌&&◌, List, [], ◌∷◌, eqb, ltb, ℤ, set}
 use Rattle.protocol.specs.Lists.{natural, is_none, one_to}
 use Rattle.protocol.specs.Plan.{blank, is, measure_limit, rule_limit}
-use Rattle.protocol.specs.Calls.{Call, measure, rule, open_plan, Check, ◌unless◌, ◌when◌, Verdict, fine, refused, first, no11, no15}
-use Rattle.protocol.specs.Numbering.{measure_op, rule_op}
-use Rattle.protocol.specs.Sizes.{last_measure, last_rule}
+use Rattle.protocol.specs.Calls.{Check, ◌unless◌, ◌when◌, no11, no15}
 use Rattle.rows.specs.Rows.{row}
 use Rattle.rules.specs.Rules.{holds_in}
-use Rattle.rules.specs.Table.{lowers, gaps, uppers, with_rule}
+use Rattle.rules.specs.declared.Rule.{Rule}
+use Rattle.rules.specs.Table.{with_rule}
 use Rattle.heads.specs.declared.Head.{Head}
-use Rattle.state.specs.Spread.{Spread, is_accepted}
-use Rattle.state.specs.declared.Answer.{Answer}
-use Rattle.state.specs.Meets.{refusal, done, number}
 use Rattle.heads.specs.declared.Mode.TheVariants.{Whole}
 use Rattle.heads.specs.Heads.{mode_of, measures_in}
-use Rattle.draw.specs.declared.Drawing.{Drawing}
+use Rattle.state.specs.declared.State.{State}
 
 -- ---- checks
 
@@ -35,83 +31,32 @@ open_checks h lower gap upper values =
     ∷ (17 unless holds_in lower gap upper (min h.rules rule_limit) (row values 0 (measures_in h)))
     ∷ []
 
--- ---- heads
+-- ---- what each stores where it is accepted
 
-abbrev pub measured : Head → ℕ → Head
-measured h n = record { mode = h.mode; measures = n; rules = h.rules; added = h.added; kept = h.kept; next = h.next; mark = h.mark; based = h.based; drafted = h.drafted }
+abbrev pub measured : State → ℤ → State
+measured p v = record p { head = record p.head { measures = p.head.measures + 1 }; values = set p.values p.head.measures v }
 
-abbrev pub ruled : Head → ℕ → Head
-ruled h n = record { mode = h.mode; measures = h.measures; rules = n; added = h.added; kept = h.kept; next = h.next; mark = h.mark; based = h.based; drafted = h.drafted }
+-- the rule of a call's numbers
+abbrev pub rule_asked : (a c b f : ℤ) → Rule
+rule_asked a c b f = record { lower = natural a; gap = c; upper = natural b; firm = eqb (natural f) 1 }
 
-abbrev pub opened : Head → Head
-opened h = record { mode = Whole; measures = h.measures; rules = h.rules; added = h.added; kept = h.kept; next = 1; mark = h.mark; based = h.based; drafted = h.drafted }
+abbrev pub ruled : State → (a c b f : ℤ) → State
+ruled p a c b f = record p { head = record p.head { rules = p.head.rules + 1 }; table = with_rule p.table p.head.rules (rule_asked a c b f) }
 
--- ---- decisions
+abbrev pub opened : State → State
+opened p = record p { head = record p.head { mode = Whole; next = 1 } }
 
-abbrev pub refused_drawing : Head → ℤ → ℕ → Drawing
-refused_drawing h old k = record { head = h; value = old; answer = refusal k }
+-- ---- the rest
 
--- by the verdict on the checks: the drawing, or all as it was
-abbrev pub draw_by : Verdict → Drawing → Head → ℤ → Drawing
-draw_by fine d h old = d
-draw_by (refused k) d h old = refused_drawing h old k
-
-abbrev pub measure_drawing : Head → ℤ → Drawing
-measure_drawing h v = let n = min h.measures last_measure + 1 in record { head = measured h n; value = v; answer = number n }
-
-abbrev pub measure_decision : Head → ℤ → ℤ → Drawing
-measure_decision h v old = draw_by (first (measure_checks h v)) (measure_drawing h v) h old
-
-abbrev pub rule_drawing : Head → ℤ → Drawing
-rule_drawing h old = let n = min h.rules last_rule + 1 in record { head = ruled h n; value = old; answer = number n }
-
-abbrev pub rule_decision : Head → ℤ → ℤ → ℤ → ℤ → ℤ → Drawing
-rule_decision h a c b f old = draw_by (first (rule_checks h (natural a) c (natural b) f)) (rule_drawing h old) h old
-
-abbrev pub open_drawing : Head → ℤ → Drawing
-open_drawing h old = record { head = opened h; value = old; answer = done }
-
-abbrev pub open_decision : Head → List ℕ → List ℤ → List ℕ → List ℤ → ℤ → Drawing
-open_decision h lower gap upper values old = draw_by (first (open_checks h lower gap upper values)) (open_drawing h old) h old
-
--- measure, rule; another number is open's. By the call's number in the order of 01.
-abbrev pub draw_call : ℕ → ℤ → ℤ → ℤ → ℤ → Call
-draw_call op a b c d = cond (eqb op measure_op) (measure a) (cond (eqb op rule_op) (rule a b c d) open_plan)
-
--- the value behind those that count
-abbrev pub value_at : Head → List ℤ → ℤ
-value_at h values = get_or values (min h.measures last_measure) (pos 0)
-
-abbrev pub draw_decision : ℕ → ℤ → ℤ → ℤ → ℤ → Head → List ℕ → List ℤ → List ℕ → List ℤ → Drawing
-draw_decision op a b c d h lower gap upper values =
-    let old = value_at h values in
-    cond (eqb op measure_op) (measure_decision h a old) (cond (eqb op rule_op) (rule_decision h a b c d old) (open_decision h lower gap upper values old))
-
--- ---- stored
-
--- What a call that draws leaves of what it is lent: the decision's answer and head, its value behind those that count, and the rule, if one was drawn.
-pub record Drawn (op : ℕ) (a b c d : ℤ) (h : Head) (values table : List ℤ) (r : Answer) (h' : Head) (values' table' : List ℤ) : Type 0 where
-  pub told : r ≡ (draw_decision op a b c d h (lowers table) (gaps table) (uppers table) values).answer
-  pub headed : h' ≡ (draw_decision op a b c d h (lowers table) (gaps table) (uppers table) values).head
-  pub valued : values' ≡ set values (min h.measures last_measure) (draw_decision op a b c d h (lowers table) (gaps table) (uppers table) values).value
-  pub booked : table' ≡ cond (eqb op rule_op && is_accepted r) (with_rule table (min h.rules last_rule) a b c d) table
-
--- ---- in the state
-
--- a drawing carried out, with a rule of these numbers behind those that count, if one was drawn
-abbrev pub drawn_in : Spread → Drawing → Bool → ℤ → ℤ → ℤ → ℤ → Spread
-drawn_in p d drawn a c b f =
-    let n = min p.head.rules last_rule in
-    record {
-      head = d.head;
-      base = p.base;
-      draft = p.draft;
-      values = set p.values (min p.head.measures last_measure) d.value;
-      arrived = p.arrived;
-      confirmed = p.confirmed;
-      lower = cond drawn (set p.lower n (natural a)) p.lower;
-      gap = cond drawn (set p.gap n c) p.gap;
-      upper = cond drawn (set p.upper n (natural b)) p.upper;
-      firm = cond drawn (set p.firm n (eqb (natural f) 1)) p.firm;
-      edits = p.edits;
-    }
+-- Drawing changes the values, the rules, their counts, the mode and the next number; the rest stays as it was, also when it is refused.
+pub record LeavesRest (p q : State) : Type 0 where
+  pub added : q.head.added ≡ p.head.added
+  pub kept : q.head.kept ≡ p.head.kept
+  pub mark : q.head.mark ≡ p.head.mark
+  pub based : q.head.based ≡ p.head.based
+  pub drafted : q.head.drafted ≡ p.head.drafted
+  pub base : q.base ≡ p.base
+  pub draft : q.draft ≡ p.draft
+  pub arrived : q.arrived ≡ p.arrived
+  pub confirmed : q.confirmed ≡ p.confirmed
+  pub edits : q.edits ≡ p.edits

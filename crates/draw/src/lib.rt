@@ -1,285 +1,147 @@
-// What measure, rule and open decide (01, "The calls"): their checks, read only, and what they store, in place. On what is lent.
+// What measure, rule and open decide (01, "The calls"), each by a check that only reads, and what they store, in place. Nothing else of the state changes.
 #![tactic(auto)]
 
-ghost use Rattle.std.specs.Prelude.{eqb, not, cond, ◌&&◌, min, ◌≡◌};
-ghost use Rattle.draw.specs.Draw.{measure_checks, rule_checks, open_checks, measured, ruled, opened, refused_drawing, measure_decision, rule_decision, open_decision, draw_decision, Drawn};
-ghost use Rattle.protocol.specs.Calls.{first, no15};
-ghost use Rattle.protocol.specs.Numbering.{rule_op};
-ghost use Rattle.protocol.specs.Lists.{one_to};
+ghost use Rattle.std.specs.Prelude.{true, not, ltb, ◌&&◌, eqb, min, length, ◌≡◌, ◌<◌, OnOk};
+ghost use Rattle.draw.specs.Draw.{measure_checks, rule_checks, open_checks, measured, ruled, opened, LeavesRest};
+ghost use Rattle.protocol.specs.Asked.{verdict_of};
+ghost use Rattle.protocol.specs.Calls.{measure, rule, open_plan, first, no15};
+ghost use Rattle.protocol.specs.Lists.{natural, one_to};
 ghost use Rattle.rows.specs.Rows.{row};
 ghost use Rattle.rules.specs.Rules.{holds_in};
-ghost use Rattle.rules.specs.Table.{lowers, gaps, uppers, with_rule};
+ghost use Rattle.rules.specs.Table.{lowers, gaps, uppers};
 ghost use Rattle.heads.specs.Heads.{measures_in};
-ghost use Rattle.heads.specs.Numbers.{head_from};
-ghost use Rattle.state.specs.Meets.{refusal_of};
-ghost use Rattle.state.specs.Spread.{is_accepted};
+ghost use Rattle.state.specs.Meets.{Makes};
 
-use heads::{Head, Mode, Numbers};
-use protocol::{call, limit};
-use rules::Table;
-use state::Answer;
-
-// What a call that draws stores: the head, and the value at the place behind those that count; and its answer. A rule is stored from the call's own numbers.
-#[derive(Clone, Copy)]
-pub struct Drawing {
-    pub head: Head,
-    pub value: i32,
-    pub answer: Answer,
-}
-
-// All as it was: `old` is the value that stands behind those that count.
-fn refused(h: Head, old: i32, k: u32) -> Drawing
-    ensures { result ≡ refused_drawing h old k }
-{
-    let answer = Answer::Refused(k, 0);
-    Drawing {
-        head: h,
-        value: old,
-        answer,
-    }
-}
+use heads::{Head, Mode};
+use protocol::limit;
+use protocol::refusal::Refusal;
+use rules::{Rule, Table};
+use state::{Answer, Given, State};
 
 // ---- measure
 
-fn measure_refusal(h: Head, v: i32) -> u32
-    ensures { result ≡ refusal_of (first (measure_checks h v)) }
+fn check_measure(h: &Head, v: i32) -> Result<(), Refusal>
+    ensures verdict { verdict_of result ≡ first (measure_checks h.now v) }
+    ensures room { OnOk result (h.now.measures < 32) }
 {
-    let mode = h.mode;
-    if heads::mode_number(mode) != 0 {
-        return 31;
+    if h.mode != Mode::Blank {
+        return Err(Refusal::WrongMode);
     }
     if limit::MEASURE <= h.measures {
-        return 12;
+        return Err(Refusal::TooManyMeasures);
     }
-    if exact::in_range(v) {
-        return 0;
+    if !exact::in_range(v) {
+        return Err(Refusal::ValueOutOfRange);
     }
-    11
-}
-
-fn with_measures(h: Head, n: u32) -> Head
-    ensures { result ≡ measured h n }
-{
-    let mut r = h;
-    r.measures = n;
-    r
+    Ok(())
 }
 
 // A measure of value v.
-fn decide_measure(h: Head, v: i32, old: i32) -> Drawing
-    ensures { result ≡ measure_decision h v old }
+pub fn measure(p: &mut State, v: i32) -> Answer
+    ensures makes { Makes (measure v) p.old result p.new }
+    ensures stored { OnOk result (p.new ≡ measured p.old v) }
+    ensures rest { LeavesRest p.old p.new }
 {
-    let k = measure_refusal(h, v);
-    if k != 0 {
-        return refused(h, old, k);
-    }
-    let n = rows::capped(h.measures, limit::LAST_MEASURE) as u32 + 1;
-    let head = with_measures(h, n);
-    let answer = Answer::Given(1, n, 0, 0);
-    Drawing {
-        head,
-        value: v,
-        answer,
-    }
+    check_measure(&p.head, v)?;
+    let n = p.head.measures;
+    p.values[n as usize] = v;
+    p.head.measures = n + 1;
+    Ok(Given::One(n + 1))
 }
 
 // ---- rule
 
-// The rule's measures are two different ones of n.
-fn pair_in(n: usize, a: u32, b: u32) -> bool
-    ensures { result ≡ (one_to n a && one_to n b && not (eqb a b)) }
+// The table has room behind its first n rules.
+fn has_room(table: &Table, n: u32) -> bool
+    ensures { (result ≡ ltb n 64) × (result ≡ true → n < length table.now) }
 {
-    if rows::one_to(n, a) {
-        if rows::one_to(n, b) {
-            return a != b;
-        }
-        return false;
-    }
-    false
+    (n as usize) < table.len()
+}
+
+// The rule's measures are two different ones of n.
+fn pair_in(n: usize, lower: u32, upper: u32) -> bool
+    ensures { result ≡ (one_to n lower && one_to n upper && not (eqb lower upper)) }
+{
+    rows::one_to(n, lower) && rows::one_to(n, upper) && lower != upper
 }
 
 // The rule's gap and its firmness are in range.
 #[tactic(auto, unfolding(protocol::specs::Lists::within))]
-fn limits_ok(c: i32, f: i32) -> bool
-    ensures { result ≡ (no15 c f).passes }
+fn limits_ok(gap: i32, firm: i32) -> bool
+    ensures { result ≡ (no15 gap firm).passes }
 {
-    match c {
-        limit::LEAST_GAP..=limit::GAP => match f {
-            0..=1 => true,
-            _ => false,
-        },
-        _ => false,
-    }
+    (limit::LEAST_GAP..=limit::GAP).contains(&gap) && (0..=1).contains(&firm)
 }
 
-fn rule_refusal(h: Head, a: u32, c: i32, b: u32, f: i32) -> u32
-    ensures { result ≡ refusal_of (first (rule_checks h a c b f)) }
+fn check_rule(p: &State, lower: i32, gap: i32, upper: i32, firm: i32) -> Result<(), Refusal>
+    ensures verdict { verdict_of result ≡ first (rule_checks p.now.head (natural lower) gap (natural upper) firm) }
+    ensures room { OnOk result ((p.now.head.rules < 64) × (p.now.head.rules < length p.now.table)) }
 {
-    let mode = h.mode;
-    if heads::mode_number(mode) != 0 {
-        return 31;
+    if p.head.mode != Mode::Blank {
+        return Err(Refusal::WrongMode);
     }
-    if limit::RULE <= h.rules {
-        return 13;
+    if !has_room(&p.table, p.head.rules) {
+        return Err(Refusal::TooManyRules);
     }
-    if !pair_in(rows::capped(h.measures, limit::MEASURES), a, b) {
-        return 14;
+    let size = rows::capped(p.head.measures, limit::MEASURES);
+    if !pair_in(size, exact::number(lower), exact::number(upper)) {
+        return Err(Refusal::NoPairOfMeasures);
     }
-    if limits_ok(c, f) {
-        return 0;
+    if !limits_ok(gap, firm) {
+        return Err(Refusal::RuleOutOfRange);
     }
-    15
+    Ok(())
 }
 
-fn with_rules(h: Head, n: u32) -> Head
-    ensures { result ≡ ruled h n }
+// A rule that measure lower plus gap is less than measure upper, firm if firm is 1.
+pub fn rule(p: &mut State, lower: i32, gap: i32, upper: i32, firm: i32) -> Answer
+    ensures makes { Makes (rule lower gap upper firm) p.old result p.new }
+    ensures stored { OnOk result (p.new ≡ ruled p.old lower gap upper firm) }
+    ensures rest { LeavesRest p.old p.new }
 {
-    let mut r = h;
-    r.rules = n;
-    r
-}
-
-// A rule that measure a plus c is less than measure b, firm if f is 1.
-fn decide_rule(h: Head, a: i32, c: i32, b: i32, f: i32, old: i32) -> Drawing
-    ensures { result ≡ rule_decision h a c b f old }
-{
-    let lower = exact::number(a);
-    let upper = exact::number(b);
-    let k = rule_refusal(h, lower, c, upper, f);
-    if k != 0 {
-        return refused(h, old, k);
-    }
-    let n = rows::capped(h.rules, limit::LAST_RULE) as u32 + 1;
-    let head = with_rules(h, n);
-    let answer = Answer::Given(1, n, 0, 0);
-    Drawing {
-        head,
-        value: old,
-        answer,
-    }
+    check_rule(p, lower, gap, upper, firm)?;
+    let n = p.head.rules;
+    rules::put_rule(&mut p.table, n, Rule::of(lower, gap, upper, firm));
+    p.head.rules = n + 1;
+    Ok(Given::One(n + 1))
 }
 
 // ---- open
 
 // Every rule holds of the values drawn, or of a whole plan's.
-pub fn rules_hold<'a>(h: Head, table: &'a Table, values: &'a [i32; limit::VALUES]) -> bool
-    ensures { result ≡ holds_in (lowers table.now) (gaps table.now) (uppers table.now) (min h.rules 64)
-        (row values.now 0 (measures_in h)) }
+pub fn rules_hold(p: &State) -> bool
+    ensures { result ≡ holds_in (lowers p.now.table) (gaps p.now.table) (uppers p.now.table) (min p.now.head.rules 64)
+        (row p.now.values 0 (measures_in p.now.head)) }
 {
-    let size = rows::capped(h.measures, limit::MEASURES);
-    let vs = &values[..];
-    rules::broken_of_all(table, h.rules, &vs[0..size], 0, 0) == 0
+    let size = rows::capped(p.head.measures, limit::MEASURES);
+    rules::broken_of_all(&p.table, p.head.rules, &p.values[..size], 0, 0).is_none()
 }
 
-fn open_refusal<'a>(h: Head, table: &'a Table, values: &'a [i32; limit::VALUES]) -> u32
-    ensures { result ≡ refusal_of (first (open_checks h (lowers table.now) (gaps table.now) (uppers table.now) values.now)) }
+fn check_open(p: &State) -> Result<(), Refusal>
+    ensures { verdict_of result ≡ first (open_checks p.now.head (lowers p.now.table) (gaps p.now.table) (uppers p.now.table) p.now.values) }
 {
-    let mode = h.mode;
-    if heads::mode_number(mode) != 0 {
-        return 31;
+    if p.head.mode != Mode::Blank {
+        return Err(Refusal::WrongMode);
     }
-    if h.measures == 0 {
-        return 16;
+    if p.head.measures == 0 {
+        return Err(Refusal::NoMeasures);
     }
-    if rules_hold(h, table, values) {
-        return 0;
+    if !rules_hold(p) {
+        return Err(Refusal::RuleUnmet);
     }
-    17
+    Ok(())
 }
 
-fn with_open(h: Head) -> Head
-    ensures { result ≡ opened h }
+// The plan becomes whole, and its first edit will have number 1.
+pub fn open_plan(p: &mut State) -> Answer
+    ensures makes { Makes open_plan p.old result p.new }
+    ensures stored { OnOk result (p.new ≡ opened p.old) }
+    ensures rest { LeavesRest p.old p.new }
 {
-    let mut r = heads::in_mode(h, Mode::Whole);
-    r.next = 1;
-    r
-}
-
-fn decide_open<'a>(h: Head, table: &'a Table, values: &'a [i32; limit::VALUES], old: i32) -> Drawing
-    ensures { result ≡ open_decision h (lowers table.now) (gaps table.now) (uppers table.now) values.now old }
-{
-    let k = open_refusal(h, table, values);
-    if k != 0 {
-        return refused(h, old, k);
-    }
-    let head = with_open(h);
-    let answer = Answer::Given(0, 0, 0, 0);
-    Drawing {
-        head,
-        value: old,
-        answer,
-    }
-}
-
-// What a call that draws stores, by the call's number in the order of 01: measure, rule; another number is open's.
-pub fn decide_draw<'a>(
-    h: Head,
-    table: &'a Table,
-    values: &'a [i32; limit::VALUES],
-    op: u32,
-    a: i32,
-    b: i32,
-    c: i32,
-    d: i32,
-) -> Drawing
-    ensures { result ≡ draw_decision op a b c d h (lowers table.now) (gaps table.now) (uppers table.now) values.now }
-{
-    let i = rows::capped(h.measures, limit::LAST_MEASURE);
-    let old = values[i];
-    if op == call::MEASURE {
-        return decide_measure(h, a, old);
-    }
-    if op == call::RULE {
-        return decide_rule(h, a, b, c, d, old);
-    }
-    decide_open(h, table, values, old)
-}
-
-// ---- stored
-
-// A rule was drawn.
-fn draws_rule(op: u32, answer: Answer) -> bool
-    ensures { result ≡ (eqb op rule_op && is_accepted answer) }
-{
-    if op == call::RULE {
-        return state::accepted(answer);
-    }
-    false
-}
-
-// Writes the rule behind the first k, if one was drawn.
-fn note_rule(table: &mut Table, k: u32, drawn: bool, a: i32, c: i32, b: i32, f: i32)
-    ensures { table.new ≡ cond drawn (with_rule table.old (min k 63) a c b f) table.old }
-{
-    if drawn {
-        rules::put_rule(table, k, a, c, b, f);
-    }
-}
-
-// A call that draws, made: what it decides is stored in place.
-pub fn make(
-    op: u32,
-    a: i32,
-    b: i32,
-    c: i32,
-    d: i32,
-    head: &mut Numbers,
-    values: &mut [i32; limit::VALUES],
-    table: &mut Table,
-) -> Answer
-    ensures { Drawn op a b c d (head_from head.old) values.old table.old result (head_from head.new) values.new
-        table.new }
-{
-    let h = heads::from_numbers(head);
-    let spot = rows::capped(h.measures, limit::LAST_MEASURE);
-    let x = decide_draw(h, table, values, op, a, b, c, d);
-    let value = x.value;
-    values[spot] = value;
-    let answer = x.answer;
-    note_rule(table, h.rules, draws_rule(op, answer), a, b, c, d);
-    let next = heads::numbers(x.head);
-    *head = next;
-    answer
+    check_open(p)?;
+    p.head.mode = Mode::Whole;
+    p.head.next = 1;
+    Ok(Given::Nothing)
 }
 
 // The laws of the calls that draw stand in proofs/Draw.antt.

@@ -1,3 +1,4 @@
+pub mod Makes
 pub mod Parting
-pub mod Moves
 pub mod Sends
+pub mod Moves

@@ -1,16 +1,15 @@
--- Laws of send, stop, confirm and install: the checks from what is lent, and the plan after each call. Assumes nothing.
-use Prim.Native.Nat.{ℕ, ◌≤◌, min}
+-- Laws of send, stop, confirm and install: the checks from what the code looks at, and the plan after each call. Assumes nothing.
+use Prim.Native.Nat.{ℕ, min}
 use native.Mathlib.Omega.{arith}
 use mathlib.Core.Bool.{Bool, true, false, not, cond, ◌||◌}
-use mathlib.Core.Path.{◌≡◌, refl, sym, ap, ap₂, ◌∙◌, subst}
+use mathlib.Core.Path.{◌≡◌, refl, sym, ap, ap₂, ◌∙◌}
 use mathlib.Core.List.{List, [], ◌∷◌, map}
 use lib.Dec.{T, ltb, eqb→eq}
 use lib.IntN.{ℤ, pos}
 use lib.ListN.{length, get_or, set}
-use lib.Seq.{set-get_or}
 use Rattle.protocol.specs.Lists.{is_none, one_to, natural, count, modify}
 use Rattle.protocol.specs.Plan.{mode_number, closing, is, active, is_waiting, Side, side_at, sides_that, unsent_of}
-use Rattle.protocol.specs.Calls.{Call, Check, ◌unless◌, ◌when◌, Verdict, fine, first, refused, checks, further, after, gives, ok, stop, confirm, send, install, has_arrived, has_confirmed, mark_sent}
+use Rattle.protocol.specs.Calls.{Call, Check, ◌unless◌, ◌when◌, fine, first, refused, checks, further, after, gives, ok, stop, confirm, send, install, has_arrived, has_confirmed, mark_sent}
 use Rattle.protocol.proofs.Laws.{range, is_yes}
 use Rattle.rows.specs.Rows.{span, copied_in}
 use Rattle.rows.proofs.Copies.{row_copied}
@@ -19,17 +18,15 @@ use Rattle.records.specs.declared.EditRecord.{EditRecord}
 use Rattle.heads.specs.declared.Head.{Head}
 use Rattle.heads.specs.declared.Mode.TheVariants.{Closing}
 use Rattle.state.specs.Spread.{Spread}
-use Rattle.heads.specs.Heads.{mode_of, sides_in, kept_in, index_of, unset_in, in_mode}
+use Rattle.heads.specs.Heads.{mode_of, sides_in, index_of, unset_in}
 use Rattle.records.specs.Records.{kept_of}
 use Rattle.state.specs.Spread.{plan_of, side_of}
-use Rattle.state.specs.Meets.{refusal_of, done, number}
+use Rattle.state.specs.Meets.{done, number}
 use Rattle.state.specs.Spread.{MeetsSpread}
 use Rattle.state.proofs.View.{plan-same, sides_most, sides-length, side_at_lem, sides-modify, flags_unset}
-use Rattle.state.proofs.Meets.{verdict-fine}
-use Rattle.state.proofs.Steps.{Checked, refuses, accepts, stored, flag_set, flag_other}
-use Rattle.moves.specs.declared.Sending.{Sending}
-use Rattle.moves.specs.Moves.{send_checks, send_by, send_decision, Marked, turn_checks, stop_checks, confirm_checks, install_checks, install_head}
-use Rattle.moves.proofs.Sends.{marked-over}
+use Rattle.state.proofs.Steps.{accepts, stored, flag_set, flag_other}
+use Rattle.moves.specs.Moves.{send_checks, turn_checks, confirm_checks, install_head}
+use Rattle.moves.proofs.Makes.{Checked}
 
 -- ---- the checks of each call
 
@@ -40,27 +37,27 @@ waiting_in p = count is_waiting (plan_of p).content.kept
 module _ (c : Call) (p : Spread) (m j : ℕ) (flag : Side → Bool) (flags : List Bool) where
   turn_checked : ((s : ℕ) → flag (side_of p s) ≡ get_or flags (index_of s) false)
       → first (checks c (plan_of p)) ≡ first (turn_checks p.head m j (sides_that (λ s. not (flag (side_at (plan_of p).content s))) (plan_of p).content) (waiting_in p))
-      → {k missing waiting : ℕ} → waiting ≡ waiting_in p → missing ≡ unset_in flags (sides_in p.head) → k ≡ refusal_of (first (turn_checks p.head m j missing waiting))
-      → Checked c p (turn_checks p.head m j (unset_in flags (sides_in p.head)) (waiting_in p)) k
-  turn_checked h same w u e = record {
+      → {missing waiting : ℕ} → waiting ≡ waiting_in p → missing ≡ unset_in flags (sides_in p.head)
+      → Checked c p (turn_checks p.head m j (unset_in flags (sides_in p.head)) (waiting_in p)) (turn_checks p.head m j missing waiting)
+  turn_checked h same w u = record {
     same = same ∙ ap (λ n. first (turn_checks p.head m j n (waiting_in p))) (flags_unset p flag flags h);
-    found = e ∙ ap₂ (λ x y. refusal_of (first (turn_checks p.head m j x y))) u w;
+    finds = ap₂ (λ x y. first (turn_checks p.head m j x y)) u w;
   }
 
 abbrev pub stopping : Spread → List Check
-stopping p = stop_checks p.head (unset_in p.arrived (sides_in p.head)) (waiting_in p)
+stopping p = turn_checks p.head 3 34 (unset_in p.arrived (sides_in p.head)) (waiting_in p)
 
 abbrev pub installing : Spread → List Check
-installing p = install_checks p.head (unset_in p.confirmed (sides_in p.head)) (waiting_in p)
+installing p = turn_checks p.head 4 40 (unset_in p.confirmed (sides_in p.head)) (waiting_in p)
 
-module _ (p : Spread) {k missing waiting : ℕ} (w : waiting ≡ waiting_in p) where
-  pub stop_checked : missing ≡ unset_in p.arrived (sides_in p.head) → k ≡ refusal_of (first (stop_checks p.head missing waiting)) → Checked stop p (stopping p) k
+module _ (p : Spread) {missing waiting : ℕ} (w : waiting ≡ waiting_in p) where
+  pub stop_checked : missing ≡ unset_in p.arrived (sides_in p.head) → Checked stop p (stopping p) (turn_checks p.head 3 34 missing waiting)
   unfolding checks further
-  stop_checked u e = turn_checked stop p 3 34 (λ x. x.arrived) p.arrived (λ s. refl) refl w u e
+  stop_checked u = turn_checked stop p 3 34 (λ x. x.arrived) p.arrived (λ s. refl) refl w u
 
-  pub install_checked : missing ≡ unset_in p.confirmed (sides_in p.head) → k ≡ refusal_of (first (install_checks p.head missing waiting)) → Checked install p (installing p) k
+  pub install_checked : missing ≡ unset_in p.confirmed (sides_in p.head) → Checked install p (installing p) (turn_checks p.head 4 40 missing waiting)
   unfolding checks further
-  install_checked u e = turn_checked install p 4 40 (λ x. x.confirmed) p.confirmed (λ s. refl) refl w u e
+  install_checked u = turn_checked install p 4 40 (λ x. x.confirmed) p.confirmed (λ s. refl) refl w u
 
 abbrev unsent_by : Spread → ℤ → ℕ
 unsent_by p s = unsent_of (natural s) (plan_of p).content.kept
@@ -82,16 +79,16 @@ if_true false x y z h = refl
 module _ (c : Call) (p : Spread) (s : ℤ) (b : Bool) (flag : Side → Bool) (flags : List Bool) (f : Bool → ℕ → List Check) where
   named_checked : ((x : ℕ) → flag (side_of p x) ≡ get_or flags (index_of x) false)
       → first (checks c (plan_of p)) ≡ first (named b (length (plan_of p).content.sides) (natural s) (f (flag (side_at (plan_of p).content (natural s))) (unsent_by p s)))
-      → {side i n k : ℕ} → Named p s side i n → k ≡ refusal_of (first (named b (sides_in p.head) side (f (get_or flags i false) n)))
-      → Checked c p (named b (sides_in p.head) (natural s) (f (get_or flags (index_of (natural s)) false) (unsent_by p s))) k
-  named_checked h same {n = n} w e = record {
+      → {side i n : ℕ} → Named p s side i n
+      → Checked c p (named b (sides_in p.head) (natural s) (f (get_or flags (index_of (natural s)) false) (unsent_by p s))) (named b (sides_in p.head) side (f (get_or flags i false) n))
+  named_checked h same {n = n} w = record {
     same =
         same ∙ ap (λ n. first (named b n (natural s) (f (flag (side_at (plan_of p).content (natural s))) (unsent_by p s)))) (sides-length p)
         ∙ ap (λ v. cond b v (refused 31)) (if_true (one_to (sides_in p.head) (natural s)) _ _ (refused 21)
         (λ t. let r = range (sides_in p.head) (natural s) (is_yes t) in ap (λ x. first (f x (unsent_by p s))) (ap flag (side_at_lem p (natural s) r.0 r.1) ∙ h (natural s))));
-    found =
-        e ∙ ap₂ (λ x y. refusal_of (first (named b (sides_in p.head) x (f (get_or flags y false) n)))) w.number (w.place ∙ ap index_of w.number)
-        ∙ ap (λ v. refusal_of (cond b v (refused 31)))
+    finds =
+        ap₂ (λ x y. first (named b (sides_in p.head) x (f (get_or flags y false) n))) w.number (w.place ∙ ap index_of w.number)
+        ∙ ap (λ v. cond b v (refused 31))
         (if_true (one_to (sides_in p.head) (natural s)) _ _ (refused 21) (λ t. ap (λ y. first (f (get_or flags (index_of (natural s)) false) y)) (w.unsent (is_yes t))));
   }
 
@@ -101,34 +98,34 @@ confirming p s = confirm_checks p.head (natural s) (side_of p (natural s)).confi
 abbrev pub sending : Spread → ℤ → List Check
 sending p s = send_checks p.head (natural s) (side_of p (natural s)).arrived (unsent_by p s)
 
-module _ (p : Spread) (s : ℤ) {side i n k : ℕ} (w : Named p s side i n) where
-  pub confirm_checked : k ≡ refusal_of (first (confirm_checks p.head side (get_or p.confirmed i false) n)) → Checked (confirm s) p (confirming p s) k
+module _ (p : Spread) (s : ℤ) {side i n : ℕ} (w : Named p s side i n) where
+  pub confirm_checked : Checked (confirm s) p (confirming p s) (confirm_checks p.head side (get_or p.confirmed i false) n)
   unfolding checks further
-  confirm_checked e =
-      named_checked (confirm s) p s (is closing (plan_of p).mode) (λ x. x.confirmed) p.confirmed (λ x u. (39 when x) ∷ (38 unless is_none u) ∷ []) (λ x. refl) refl w e
+  confirm_checked =
+      named_checked (confirm s) p s (is closing (plan_of p).mode) (λ x. x.confirmed) p.confirmed (λ x u. (39 when x) ∷ (38 unless is_none u) ∷ []) (λ x. refl) refl w
 
-  pub send_checked : k ≡ refusal_of (first (send_checks p.head side (get_or p.arrived i false) n)) → Checked (send s) p (sending p s) k
+  pub send_checked : Checked (send s) p (sending p s) (send_checks p.head side (get_or p.arrived i false) n)
   unfolding checks further
-  send_checked e =
-      named_checked (send s) p s (active (plan_of p).mode) (λ x. x.arrived) p.arrived (λ x u. (33 unless (not x || ltb 0 u)) ∷ []) (λ x. refl) refl w e
+  send_checked =
+      named_checked (send s) p s (active (plan_of p).mode) (λ x. x.arrived) p.arrived (λ x u. (33 unless (not x || ltb 0 u)) ∷ []) (λ x. refl) refl w
 
 -- ---- the plan after each call
 
 abbrev pub stop_to : Spread → Spread
-stop_to p = stored p (in_mode p.head Closing) p.base p.draft p.values p.arrived p.confirmed p.edits
+stop_to p = stored p (record p.head { mode = Closing }) p.base p.draft p.values p.arrived p.confirmed p.edits
 
-pub stop-accepts : (p : Spread) {k : ℕ} → Checked stop p (stopping p) k → k ≡ 0 → MeetsSpread stop p (record { state = stop_to p; answer = done })
+pub stop-accepts : (p : Spread) {found : List Check} → Checked stop p (stopping p) found → fine ≡ first found → MeetsSpread stop p (record { state = stop_to p; answer = done })
 unfolding after gives
-stop-accepts p w z = accepts _ w tt z (λ t. refl) (λ t. rw (eqb→eq (mode_number (mode_of p.head.mode)) 3 t.0)) tt
+stop-accepts p k e = accepts (stopping p) _ k.same (sym (e ∙ k.finds)) (λ t. refl) (λ t. rw (eqb→eq (mode_number (mode_of p.head.mode)) 3 t.0)) tt
 
 abbrev pub install_to : Spread → Spread
 install_to p = stored p (install_head p.head) p.base p.draft (copied_in p.values p.draft 0 0 32) (set p.arrived 0 false) (set p.confirmed 0 false) p.edits
 
-pub install-accepts : (p : Spread) {k : ℕ} → Checked install p (installing p) k → length p.draft ≡ 32 → length p.values ≡ 256 → length p.arrived ≡ 8 → length p.confirmed ≡ 8 → k ≡ 0
-    → MeetsSpread install p (record { state = install_to p; answer = done })
+pub install-accepts : (p : Spread) {found : List Check} → Checked install p (installing p) found → length p.draft ≡ 32 → length p.values ≡ 256 → length p.arrived ≡ 8 → length p.confirmed ≡ 8
+    → fine ≡ first found → MeetsSpread install p (record { state = install_to p; answer = done })
 unfolding after gives
-install-accepts p w d v a c z =
-    accepts _ w tt z (λ t. refl)
+install-accepts p k d v a c e =
+    accepts (installing p) _ k.same (sym (e ∙ k.finds)) (λ t. refl)
     (λ t. rw (eqb→eq (mode_number (mode_of p.head.mode)) 4 t.0)
     (plan-same refl refl refl refl refl
     (λ i. record {
@@ -152,48 +149,24 @@ flag_sides h s flags made g t l e =
 at_place : {p : Spread} {s : ℤ} {side i n : ℕ} → Named p s side i n → i ≡ index_of (natural s)
 at_place w = w.place ∙ ap index_of w.number
 
-pub confirm-accepts : (p : Spread) (s : ℤ) {side i n k : ℕ} → Named p s side i n → Checked (confirm s) p (confirming p s) k → length p.confirmed ≡ 8 → k ≡ 0
+pub confirm-accepts : (p : Spread) (s : ℤ) {side i n : ℕ} {found : List Check} → Named p s side i n → Checked (confirm s) p (confirming p s) found → length p.confirmed ≡ 8 → fine ≡ first found
     → MeetsSpread (confirm s) p (record { state = stored p p.head p.base p.draft p.values p.arrived (set p.confirmed i true) p.edits; answer = done })
 unfolding after gives
-confirm-accepts p s w e l z =
-    rw (at_place w) (accepts _ e tt z (λ t. refl)
+confirm-accepts p s w k l e =
+    rw (at_place w) (accepts (confirming p s) _ k.same (sym (e ∙ k.finds)) (λ t. refl)
     (λ t. plan-same refl refl refl refl refl
     (flag_sides p.head (natural s) p.confirmed (λ x b. record { values = (side_of p x).values; arrived = (side_of p x).arrived; confirmed = b }) has_confirmed t.1.0 l (λ x b. refl))
     refl)
     tt)
 
-pub send-accepts : (p : Spread) (s : ℤ) {side i n k : ℕ} → Named p s side i n → Checked (send s) p (sending p s) k → (es : List EditRecord) → kept_of p.head es ≡ map (mark_sent side)
-    (kept_of p.head p.edits) → length p.arrived ≡ 8 → k ≡ 0
+pub send-accepts : (p : Spread) (s : ℤ) {side i n : ℕ} {found : List Check} → Named p s side i n → Checked (send s) p (sending p s) found → (es : List EditRecord) → kept_of p.head es ≡ map
+    (mark_sent side) (kept_of p.head p.edits) → length p.arrived ≡ 8 → fine ≡ first found
     → MeetsSpread (send s) p (record { state = stored p p.head p.base p.draft p.values (set p.arrived i true) p.confirmed es; answer = number n })
 unfolding after gives
-send-accepts p s w e es f l z =
-    rw (at_place w) (accepts _ e tt z
+send-accepts p s w k es m l e =
+    rw (at_place w) (accepts (sending p s) _ k.same (sym (e ∙ k.finds))
     (λ t. ap (λ x. ok (pos x ∷ [])) (w.unsent t.1.0))
     (λ t. plan-same refl refl refl refl refl
     (flag_sides p.head (natural s) p.arrived (λ x b. record { values = (side_of p x).values; arrived = b; confirmed = (side_of p x).confirmed }) has_arrived t.1.0 l (λ x b. refl))
-    (f ∙ ap (λ x. map (mark_sent x) (kept_of p.head p.edits)) w.number))
+    (m ∙ ap (λ x. map (mark_sent x) (kept_of p.head p.edits)) w.number))
     tt)
-
--- from what was decided, and the edits that were marked
-pub send_decided : (p : Spread) (z : ℤ) {side i n j : ℕ} (d : Sending) (es : List EditRecord) → Named p z side i n → length p.arrived ≡ 8 → d ≡ send_decision p.head side
-    (get_or p.arrived i false) n → Marked side p.edits es j → j ≡ d.marked
-    → MeetsSpread (send z) p (record { state = stored p p.head p.base p.draft p.values (set p.arrived i d.arrived) p.confirmed es; answer = d.answer })
-send_decided p z {side = side} {i = i} {n = n} {j = j} d es w long e m f = by (first (send_checks p.head side (get_or p.arrived i false) n)) refl e
-  where
-    refused-fine : (r : ℕ) → refused r ≡ fine → ⊥
-    refused-fine r e = subst (λ v. T (told v)) e tt
-      where
-        told : Verdict → Bool
-        told fine = false
-        told (refused k) = true
-
-    by : (v : Verdict) → first (send_checks p.head side (get_or p.arrived i false) n) ≡ v → d ≡ send_by v p.head (get_or p.arrived i false) n
-        → MeetsSpread (send z) p (record { state = stored p p.head p.base p.draft p.values (set p.arrived i d.arrived) p.confirmed es; answer = d.answer })
-    by fine g e =
-        let all : kept_in p.head ≤ j = (let k : d.marked ≡ kept_in p.head = ap (λ x. x.marked) e in omega (arith, k, f)) in
-        rw (ap (λ x. x.arrived) e, ap (λ x. x.answer) e) (send-accepts p z w (send_checked p z {k = 0} w (ap refusal_of (sym g))) es (marked-over side p.head p.edits es j all m) long refl)
-    by (refused r) g e =
-        let checks = send_checks p.head side (get_or p.arrived i false) n in
-        let some_number : r ≡ 0 → ⊥ = λ y. refused-fine r (sym g ∙ verdict-fine checks r tt (ap refusal_of (sym g)) y) in
-        let flags : set p.arrived i (get_or p.arrived i false) ≡ p.arrived = set-get_or p.arrived i false in
-        rw (ap (λ x. x.arrived) e, ap (λ x. x.answer) e, flags, m.none (f ∙ ap (λ x. x.marked) e)) (refuses (send_checked p z {k = r} w (ap refusal_of (sym g))) some_number)

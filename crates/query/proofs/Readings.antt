@@ -1,35 +1,36 @@
 -- Laws of the reading calls: what each gives, from the arrays of the state. Assumes nothing.
 use Prim.Native.Nat.{ℕ, zero, suc, ◌+◌, ◌-◌, ◌<◌, ◌≤◌, min}
 use native.Mathlib.Omega.{arith}
-use mathlib.Core.Bool.{Bool, true, false, not, ◌||◌}
+use mathlib.Core.Bool.{true, not, cond, ◌||◌}
 use mathlib.Core.Path.{◌≡◌, refl, sym, ap, ap₂, ◌∙◌}
 use mathlib.Core.Logic.{inl, inr, ◌≢◌}
 use mathlib.Core.List.{List, [], ◌∷◌, ◌++◌}
-use borrow.Author.Tests.{eqb-true, eqb-false, eq-eqb, ne_eqb, lt-ltb, le-leb}
-use lib.Dec.{eqb, ltb, eqb-suc-zero}
+use borrow.Author.Tests.{eqb-true, eqb-false, eq-eqb, ne_eqb, lt-ltb, le-leb, ltb-true, leb-true}
+use lib.Dec.{eqb, leb, ltb, eqb-suc-zero}
 use lib.IntN.{ℤ, pos}
 use lib.ListN.{length, get_or, set, take, drop, length-set, length-append}
+use Rattle.std.proofs.lemmas.Option.{slice_get-get_or}
 use Rattle.protocol.specs.Lists.{natural, one_to, count_to, count}
-use Rattle.protocol.specs.Plan.{Kept, fate_number, is_open, side_at, lookup, unsent_of, pending}
-use Rattle.protocol.specs.Calls.{show, fine, refused, first, checks, further, gives, step, fate_in, left_in, shown, shown_by, no, ok}
+use Rattle.protocol.specs.Plan.{Kept, Plan, fate_number, is_open, is_waiting, is_settled, active, side_at, lookup, unsent_of, pending}
+use Rattle.protocol.specs.Calls.{show, left, fine, refused, first, checks, further, gives, step, fate_in, left_in, shown, shown_by, no, ok}
 use Rattle.protocol.specs.Calls as model
-use Rattle.protocol.specs.Plan as model-plan
 use Rattle.protocol.proofs.Laws.{cases, range, yes_is, is_yes, count_to-same}
+use Rattle.guarantee.proofs.Kept.{settled-count}
 use Rattle.rows.specs.Rows.{span, row, copied, copied_in}
-use Rattle.rows.proofs.Spans.{get_d_set, get_or-other, below}
+use Rattle.rows.proofs.Spans.{get_d_set, get_or-other, below, length-span}
 use Rattle.records.specs.declared.EditRecord.{EditRecord}
 use Rattle.heads.specs.declared.Head.{Head}
-use Rattle.state.specs.Spread.{Spread}
-use Rattle.heads.specs.Heads.{sides_in, index_of, offset_of, measures_in, end_in, kept_in, position_of, slot_at, unset_in}
-use Rattle.records.specs.Records.{fate_of, kept_at, log_of, kept_of, no_record}
-use Rattle.state.specs.Spread.{plan_of}
+use Rattle.heads.specs.Heads.{mode_of, sides_in, index_of, offset_of, measures_in, end_in, kept_in, position_of, named_at, seat, slot_at, unset_in}
 use Rattle.heads.proofs.Flags.{index_suc}
-use Rattle.state.proofs.View.{sides_most, sides-length, side_at_lem, row-length}
-use Rattle.state.proofs.Meets.{fine_pass}
+use Rattle.heads.proofs.Positions.{slot_suc}
+use Rattle.records.specs.Records.{fate_of, kept_at, log_of, kept_of, no_record, found_at}
 use Rattle.records.proofs.Records.{Placed, placed}
-use Rattle.state.specs.declared.Answer.{Answer}
-use Rattle.state.specs.Meets.{answer_of}
-use Rattle.state.specs.Spread.{SameIfRefused}
+use Rattle.state.specs.Spread.{Spread, plan_of}
+use Rattle.state.proofs.View.{sides_most, sides-length, side_at_lem, row-length, flags_unset}
+use Rattle.state.proofs.Meets.{fine_pass}
+use Rattle.state.specs.Meets.{answer_of, number}
+use Rattle.counts.specs.declared.Tallies.{Tallies}
+use Rattle.counts.specs.Tallies.{Tallied}
 use Rattle.query.specs.Reads.{fate_answer, show_checks, pending_in, unsent_counts, left_number}
 
 -- ---- fate
@@ -76,23 +77,36 @@ fate-some e k n es most h = by (placed e k n es)
         fate-listed n 0 k q.0 (λ i. kept_at (e - (k - i)) (get_or es i no_record)) q.1 (ap (λ i. e - (k - i)) z ∙ q.3)
         ∙ ap fate_and_place (q.4 ∙ ap (λ i. kept_at n (get_or es i no_record)) (sym p ∙ ap slot_at (sym q.2)))
 
--- the answer from the record that is found
-pub fate_is_lem : (p : Spread) (n : ℤ) → let i = position_of (end_in p.head) (kept_in p.head) (natural n) in answer_of (fate_answer i (get_or p.edits (slot_at i) no_record)) ≡ ok
-    (fate_in (natural n) (plan_of p).content.kept)
-fate_is_lem p n =
-    let e = end_in p.head in
-    let k = kept_in p.head in
-    cases (eqb (position_of e k (natural n)) 0)
-    (λ t. rw t (ap ok (sym (fate-none e k (natural n) p.edits (eqb-true (position_of e k (natural n)) 0 t)))))
-    (λ t. rw t (ap ok (sym (fate-some e k (natural n) p.edits (omega arith) (eqb-false (position_of e k (natural n)) 0 t)))))
+-- a position is one of the kept edits', or 0
+position-most : (e k n : ℕ) → position_of e k n ≤ k
+unfolding position_of
+position-most e k n =
+    cases (eqb n 0)
+    (λ z. rw z (cases (ltb 0 k) (λ t. rw t (cases (leb e k) (λ u. rw u (let h = ltb-true 0 k t in omega arith)) (λ u. rw u (omega arith)))) (λ t. rw t (omega arith))))
+    (λ z. rw z (cases (ltb n e) (λ t. rw t (cases (leb (e - n) k) (λ u. rw u (let h = ltb-true n e t in let l = leb-true (e - n) k u in omega arith)) (λ u. rw u (omega arith)))) (λ t. rw t (omega arith))))
 
--- and it is no refusal
-pub fate_unrefused : (p : Spread) (i : ℕ) (e : EditRecord) {a : Answer} → a ≡ fate_answer i e → SameIfRefused a p p
-fate_unrefused p i e h = rw h (cases (eqb i 0) (λ t. rw t tt) (λ t. rw t tt))
+-- the answer from the record that is found
+pub fate_is : (h : Head) (es : List EditRecord) (n : ℤ) → length es ≡ 256 → answer_of (fate_answer (found_at es (seat (named_at h n)))) ≡ ok (fate_in (natural n) (kept_of h es))
+fate_is h es n long = by (named_at h n) refl
+  where
+    e : ℕ
+    e = end_in h
+
+    k : ℕ
+    k = kept_in h
+
+    by : (i : ℕ) → position_of e k (natural n) ≡ i → answer_of (fate_answer (found_at es (seat i))) ≡ ok (fate_in (natural n) (log_of e k es))
+    by zero z = ap ok (sym (fate-none e k (natural n) es z))
+    by (suc j) z =
+        let ne : position_of e k (natural n) ≢ 0 = λ w. omega (arith, w, z) in
+        let most = position-most e k (natural n) in
+        let s : slot_at (suc j) ≡ j = slot_suc j (omega (arith, z, most)) in
+        ap (λ o. answer_of (fate_answer o)) (slice_get-get_or es j no_record (omega (arith, z, most, long)))
+        ∙ ap ok (sym (fate-some e k (natural n) es (omega arith) ne ∙ ap (λ i. pos (fate_number (fate_of (get_or es i no_record).fate)) ∷ pos (get_or es i no_record).place ∷ []) (ap slot_at z ∙ s)))
 
 -- ---- left
 
-pub counts_length : (h : Head) (es : List EditRecord) (n : ℕ) → length (unsent_counts h es n) ≡ 12
+counts_length : (h : Head) (es : List EditRecord) (n : ℕ) → length (unsent_counts h es n) ≡ 8
 unfolding unsent_counts
 counts_length h es zero = refl
 counts_length h es (suc n) = length-set (unsent_counts h es n) n (unsent_of (suc n) (kept_of h es)) ∙ counts_length h es n
@@ -106,7 +120,7 @@ counts_at h es (suc n) i most l =
     (λ t. rw (eqb-true i n t) (get_d_set (unsent_counts h es n) n (unsent_of (suc n) (kept_of h es)) 0 (let c = counts_length h es n in omega arith)))
     (λ t. let ne = eqb-false i n t in get_or-other (unsent_counts h es n) n i (unsent_of (suc n) (kept_of h es)) 0 ne ∙ ih (below n i ne (omega arith)))
 
--- the counts that the code lends are those of the protocol
+-- the counts are those of the protocol
 pub counts_side : (h : Head) (es : List EditRecord) (s : ℕ) → 0 < s → s ≤ 8 → get_or (unsent_counts h es 8) (index_of s) 0 ≡ unsent_of s (kept_of h es)
 counts_side h es zero l m = absurd (omega arith)
 counts_side h es (suc s) l m = ap (λ i. get_or (unsent_counts h es 8) i 0) (index_suc s (omega arith)) ∙ counts_at h es 8 s (omega arith) (omega arith)
@@ -122,42 +136,26 @@ left_by p unsent h = rw (sides-length p, waiting, unconfirmed)
     unconfirmed : unset_in p.confirmed (sides_in p.head) ≡ count_to (λ s. not (side_at (plan_of p).content s).confirmed) (sides_in p.head)
     unconfirmed = count_to-same _ _ (sides_in p.head) (λ s a b. ap (λ x. not x.confirmed) (sym (side_at_lem p s a b)))
 
-pub left_is : (p : Spread) → left_number p.head p.arrived p.confirmed (unsent_counts p.head p.edits 8) (count is_open (kept_of p.head p.edits)) ≡ left_in (plan_of p)
-left_is p = left_by p (unsent_counts p.head p.edits 8) (counts_side p.head p.edits)
+-- counts made from the records, and the number left from them, are the plan's
+pub tallies_right : (p : Spread) (t : Tallies) → t.unsent ≡ unsent_counts p.head p.edits 8 → t.waiting ≡ count is_waiting (kept_of p.head p.edits)
+    → t.settled ≡ count is_settled (kept_of p.head p.edits) → t.left ≡ left_number p.head p.arrived p.confirmed t.unsent (min (kept_in p.head - t.settled) 256)
+    → t.missing ≡ unset_in p.arrived (sides_in p.head) → Tallied t (plan_of p)
+tallies_right p t u w s e m =
+    let ks = kept_of p.head p.edits in
+    let c = settled-count ks in
+    let n = length-span 0 (kept_in p.head) (λ i. kept_at (end_in p.head - (kept_in p.head - i)) (get_or p.edits i no_record)) in
+    let rest : min (kept_in p.head - t.settled) 256 ≡ count is_open ks = omega arith in
+    let sides : (x : ℕ) → 0 < x → x ≤ 8 → get_or t.unsent (index_of x) 0 ≡ unsent_of x ks = λ x a b. ap (λ xs. get_or xs (index_of x) 0) u ∙ counts_side p.head p.edits x a b in
+    record {
+      counted = record { unsent = sides; waiting = w; settled = s };
+      left = λ a. e ∙ ap (left_number p.head p.arrived p.confirmed t.unsent) rest ∙ left_by p t.unsent sides ∙ rw (yes_is (active (mode_of p.head.mode)) a);
+      missing = λ a. m ∙ sym (flags_unset p (λ x. x.arrived) p.arrived (λ s. refl));
+    }
 
--- the number left from counts that agree on the sides
-pub left-same : (h : Head) (arrived confirmed : List Bool) (t u : List ℕ) (k : ℕ) → ((s : ℕ) → get_or t (index_of s) 0 ≡ get_or u (index_of s) 0)
-    → left_number h arrived confirmed t k ≡ left_number h arrived confirmed u k
-left-same h arrived confirmed t u k e =
-    let same : pending_in arrived t (sides_in h) ≡ pending_in arrived u (sides_in h) = count_to-same _ _ (sides_in h) (λ s a b. ap (λ n. not (get_or arrived (index_of s) false) || ltb 0 n) (e s)) in
-    rw same
-
--- the four counts stored behind those of the sides
-module _ (t : List ℕ) (w s l m : ℕ) where
-  abbrev pub behind : List ℕ
-  behind = set (set (set (set t 8 w) 9 s) 10 l) 11 m
-
-  -- those of the sides stay
-  pub behind-side : (x : ℕ) → get_or behind (index_of x) 0 ≡ get_or t (index_of x) 0
-  behind-side x =
-      get_or-other (set (set (set t 8 w) 9 s) 10 l) 11 (index_of x) m 0 (λ e. omega arith) ∙ get_or-other (set (set t 8 w) 9 s) 10 (index_of x) l 0 (λ e. omega arith)
-      ∙ get_or-other (set t 8 w) 9 (index_of x) s 0 (λ e. omega arith) ∙ get_or-other t 8 (index_of x) w 0 (λ e. omega arith)
-
-  pub behind-length : length t ≡ 12 → length behind ≡ 12
-  behind-length n = length-set (set (set (set t 8 w) 9 s) 10 l) 11 m ∙ length-set (set (set t 8 w) 9 s) 10 l ∙ length-set (set t 8 w) 9 s ∙ length-set t 8 w ∙ n
-
-  -- and each is what was stored
-  pub behind-stored : length t ≡ 12 → (get_or behind 8 0 ≡ w) × (get_or behind 9 0 ≡ s) × (get_or behind 10 0 ≡ l) × (get_or behind 11 0 ≡ m)
-  behind-stored n =
-      let a = length-set t 8 w ∙ n in
-      let b = length-set (set t 8 w) 9 s ∙ a in
-      let c = length-set (set (set t 8 w) 9 s) 10 l ∙ b in (
-        get_or-other (set (set (set t 8 w) 9 s) 10 l) 11 8 m 0 (λ e. omega arith) ∙ get_or-other (set (set t 8 w) 9 s) 10 8 l 0 (λ e. omega arith) ∙ get_or-other (set t 8 w) 9 8 s 0 (λ e. omega arith)
-            ∙ get_d_set t 8 w 0 (omega arith),
-        get_or-other (set (set (set t 8 w) 9 s) 10 l) 11 9 m 0 (λ e. omega arith) ∙ get_or-other (set (set t 8 w) 9 s) 10 9 l 0 (λ e. omega arith) ∙ get_d_set (set t 8 w) 9 s 0 (omega arith),
-        get_or-other (set (set (set t 8 w) 9 s) 10 l) 11 10 m 0 (λ e. omega arith) ∙ get_d_set (set (set t 8 w) 9 s) 10 l 0 (omega arith),
-        get_d_set (set (set (set t 8 w) 9 s) 10 l) 11 m 0 (omega arith),
-      )
+-- the number left that is kept beside a plan is the call's answer
+pub left_given : (p : Plan) (t : Tallies) → Tallied t p → answer_of (number (cond (active p.mode) t.left 0)) ≡ (step left p).answer
+unfolding step checks further gives
+left_given p t h = cases (active p.mode) (λ e. rw (e, h.left (is_yes e)) refl) (λ e. rw e refl)
 
 -- ---- show
 
@@ -222,10 +220,10 @@ told-room : (a : model.Answer) (buffer : List ℤ) → length (shown_by a buffer
 told-room (no k) buffer = omega arith
 told-room (ok vs) buffer = let e = length-append vs (drop (length vs) buffer) in omega (arith, e)
 
-pub shown-front : (s : ℤ) (p : model-plan.Plan) (buffer : List ℤ) → take (length (shown s p buffer).front) (shown s p buffer).buffer ≡ (shown s p buffer).front
+pub shown-front : (s : ℤ) (p : Plan) (buffer : List ℤ) → take (length (shown s p buffer).front) (shown s p buffer).buffer ≡ (shown s p buffer).front
 unfolding shown
 shown-front s p buffer = told-front (step (show s (length buffer)) p).answer buffer
 
-pub shown-room : (s : ℤ) (p : model-plan.Plan) (buffer : List ℤ) → length (shown s p buffer).front ≤ length (shown s p buffer).buffer
+pub shown-room : (s : ℤ) (p : Plan) (buffer : List ℤ) → length (shown s p buffer).front ≤ length (shown s p buffer).buffer
 unfolding shown
 shown-room s p buffer = told-room (step (show s (length buffer)) p).answer buffer

@@ -1,126 +1,139 @@
 // The calls that only read (01, "The calls"): show, fate, left; and the counts of the kept edits.
 #![tactic(auto)]
 
-ghost use Rattle.std.specs.Prelude.{◌≤◌, min, ◌+◌, ◌-◌, ltb, length, drop, not, ◌||◌, ◌++◌, ◌≡◌};
-ghost use Rattle.counts.specs.Tallies.{settled_in, left_noted, missing_in, Counted, tally_count};
-ghost use Rattle.heads.specs.Heads.{mode_of, sides_in, kept_in, unset_in};
-ghost use Rattle.protocol.specs.Calls.{first, shown};
-ghost use Rattle.protocol.specs.Lists.{bit};
-ghost use Rattle.protocol.specs.Plan.{is, joining};
-ghost use Rattle.query.specs.Readings.{show_reading, left_answer, reading_of};
+ghost use Rattle.std.specs.Prelude.{cond, ◌≤◌, min, ◌+◌, length, drop, ◌++◌, ◌≡◌, IfOk, IsOk};
+ghost use Rattle.counts.specs.Tallies.{Tallied};
+ghost use Rattle.heads.specs.Heads.{mode_of};
+ghost use Rattle.protocol.specs.Asked.{verdict_of};
+ghost use Rattle.protocol.specs.Calls.{first, shown, step, fate_of_edit, fate_in, left, ok};
+ghost use Rattle.protocol.specs.Lists.{natural};
+ghost use Rattle.protocol.specs.Plan.{active, measure_limit};
 ghost use Rattle.query.specs.Reads.{fate_answer, show_checks, pending_in, unsent_counts, left_number};
 ghost use Rattle.records.specs.Records.{kept_of};
 ghost use Rattle.rows.specs.Rows.{row};
-ghost use Rattle.state.specs.Meets.{refusal_of};
+ghost use Rattle.state.specs.Meets.{answer_of};
 ghost use Rattle.state.specs.View.{view};
 
 use counts::Tallies;
 use heads::{Head, Mode};
-use protocol::{call, limit};
+use protocol::limit;
+use protocol::refusal::Refusal;
 use records::{EditRecord, Test};
-use state::{Answer, State};
+use state::{Answer, Given, State};
 
 // ---- fate
 
-// The fate and place of the edit found at a position from 1; position 0 is none.
-fn fate_answer(i: usize, e: EditRecord) -> Answer
-    ensures { result ≡ fate_answer i e }
+// The fate and place of an edit; 0 0 if it is not kept.
+fn fate_answer(seen: Option<EditRecord>) -> Answer
+    ensures { (result ≡ fate_answer seen) × IsOk result }
 {
-    if i == 0 {
-        return Answer::Given(2, 0, 0, 0);
-    }
-    let f = e.fate;
-    Answer::Given(2, records::fate_number(f), e.place, 0)
+    Ok(match seen {
+        Some(e) => Given::Two(e.fate.number(), e.place),
+        None => Given::Two(0, 0),
+    })
+}
+
+// Of the edit that a call's number names.
+fn fate_of(edits: &[EditRecord; limit::EDITS], h: &Head, n: i32) -> Answer
+    ensures { (answer_of result ≡ ok (fate_in (natural n) (kept_of h.now edits.now))) × IsOk result }
+{
+    fate_answer(records::find(edits, h.named(n)))
+}
+
+#[tactic(auto, unfolding(protocol::specs::Calls::step, protocol::specs::Calls::checks, protocol::specs::Calls::further, protocol::specs::Calls::gives))]
+pub fn fate(p: &State, n: i32) -> Answer
+    ensures { (answer_of result ≡ (step (fate_of_edit n) (view p.now)).answer) × IsOk result }
+{
+    fate_of(&p.edits, &p.head, n)
 }
 
 // ---- left
 
-fn pending_bit(arrived: bool, unsent: u32) -> u32
-    ensures { result ≡ bit (not arrived || ltb 0 unsent) }
-{
-    if arrived {
-        if unsent == 0 {
-            return 0;
-        }
-        return 1;
-    }
-    1
-}
-
 // How many sides have no first log yet or unsent edits.
-fn pending_sides<'a>(arrived: &'a [bool; limit::SIDES], t: &'a Tallies, h: Head) -> u32
-    ensures { (result ≡ pending_in arrived.now t.now (sides_in h)) × (result ≤ 8) }
+fn pending_sides(arrived: &[bool; limit::SIDES], unsent: &[u32; limit::SIDES], n: usize) -> u32
+    ensures { n ≤ 8 → (result ≡ pending_in arrived.now unsent.now n) × (result ≤ 8) }
 {
-    let n = heads::side_count(h);
-    let mut k: u32 = 0;
-    let mut i: usize = 0;
-    while i < n {
-        let f = arrived[i];
-        let u = t[i];
-        k += pending_bit(f, u);
-        i += 1;
+    let mut pending = 0;
+    for i in 0..n.min(limit::SIDES) {
+        if !arrived[i] || unsent[i] != 0 {
+            pending += 1;
+        }
     }
-    k
-}
-
-fn joining_bit(mode: Mode) -> u32
-    ensures { result ≡ bit (is joining (mode_of mode)) }
-{
-    if heads::mode_number(mode) == 3 { 1 } else { 0 }
+    pending
 }
 
 // The number left, from the counts of the kept edits: how many are unsent or waiting, and how many each side has unsent.
-fn left_number<'a>(
-    h: Head,
-    arrived: &'a [bool; limit::SIDES],
-    confirmed: &'a [bool; limit::SIDES],
-    t: &'a Tallies,
-    unsettled: u32,
-) -> u32
-    ensures { result ≡ left_number h arrived.now confirmed.now t.now (min unsettled 256) }
+fn left_number(p: &State, unsent: &[u32; limit::SIDES], unsettled: u32) -> u32
+    ensures { result ≡ left_number p.now.head p.now.arrived p.now.confirmed unsent.now (min unsettled 256) }
 {
-    let mode = h.mode;
-    if !heads::is_active(mode) {
+    if !p.head.mode.is_active() {
         return 0;
     }
-    let a = pending_sides(arrived, t, h);
-    let b = rows::capped(unsettled, limit::EDITS) as u32;
-    let c = heads::unset(confirmed, h);
-    let j = joining_bit(mode);
-    a + b + c + j + 1
+    pending_sides(&p.arrived, unsent, p.head.side_count())
+        + unsettled.min(limit::KEPT)
+        + p.head.unset(&p.confirmed)
+        + u32::from(p.head.mode == Mode::Joining)
+        + 1
 }
 
-// How many edits each side has unsent, and no other count.
-fn unsent_counts(edits: [EditRecord; limit::EDITS], h: Head) -> Tallies
-    ensures { result ≡ unsent_counts h edits 8 }
+// There are steps left only while a join is under way.
+fn steps_left(mode: Mode, left: u32) -> u32
+    ensures { result ≡ cond (active (mode_of mode)) left 0 }
 {
-    let mut counts = [0u32; counts::TALLIES];
-    let mut i: usize = 0;
-    while i < limit::SIDES {
-        let n = records::count(edits, h, Test::UnsentOf(i as u32 + 1));
-        counts[i] = n;
-        i += 1;
+    if mode.is_active() { left } else { 0 }
+}
+
+// From the number left that is kept beside the state.
+pub fn left(p: &State, counts: &Tallies) -> Answer
+    ensures { (Tallied counts.now (view p.now) → answer_of result ≡ (step left (view p.now)).answer) × IsOk result }
+{
+    Ok(Given::One(steps_left(p.head.mode, counts.left)))
+}
+
+// How many edits each side has unsent.
+fn unsent_counts(edits: &[EditRecord; limit::EDITS], h: &Head) -> [u32; limit::SIDES]
+    ensures { result ≡ unsent_counts h.now edits.now 8 }
+{
+    let mut unsent = [0; limit::SIDES];
+    for i in 0..limit::SIDES {
+        unsent[i] = records::count(edits, h, Test::UnsentOf(i as u32 + 1));
     }
-    counts
+    unsent
+}
+
+// The counts of kept edits, from the records, the number left and how many first logs are missing.
+pub fn tallies(p: &State) -> Tallies
+    ensures { Tallied result (view p.now) }
+{
+    let unsent = unsent_counts(&p.edits, &p.head);
+    let waiting = records::count(&p.edits, &p.head, Test::Waiting);
+    let settled = records::count(&p.edits, &p.head, Test::Settled);
+    let unsettled = counts::unsettled(&p.head, settled);
+    Tallies {
+        unsent,
+        waiting,
+        settled,
+        left: left_number(p, &unsent, unsettled),
+        missing: p.head.unset(&p.arrived),
+    }
 }
 
 // ---- show
 
 // From the length of the lent buffer.
-fn show_refusal(h: Head, s: u32, room: usize) -> u32
-    ensures { result ≡ refusal_of (first (show_checks h s room)) }
+fn check_show(h: &Head, s: u32, room: usize) -> Result<(), Refusal>
+    ensures { verdict_of result ≡ first (show_checks h.now s room) }
 {
-    let mode = h.mode;
-    if heads::mode_number(mode) == 0 {
-        return 31;
+    if h.mode == Mode::Blank {
+        return Err(Refusal::WrongMode);
     }
-    if !rows::one_to(heads::side_count(h), s) {
-        return 21;
+    if !rows::one_to(h.side_count(), s) {
+        return Err(Refusal::NoSuchSide);
     }
-    if rows::capped(h.measures, limit::MEASURES) <= room {
-        return 0;
+    if room < rows::capped(h.measures, limit::MEASURES) {
+        return Err(Refusal::NoRoom);
     }
-    41
+    Ok(())
 }
 
 // The n values from a place on, copied to the front of a buffer that has room for them; the rest is untouched.
@@ -134,20 +147,19 @@ fn fill(values: &[i32; limit::VALUES], at: usize, n: usize, buffer: &mut [i32])
 // The side's values in the front of the lent buffer, the rest untouched; gives how many there are. The refusal number, 0 if accepted, goes into the
 // number lent beside it; a refusal gives 0 and leaves the buffer as it was. All of show's work is done here, where a contract can speak of the whole
 // buffer: of a slice that went into the result, as in show, none can.
+// The refusal is a number lent beside the buffer, as 01 says of show ("Which form to use where"), and no Result.
 pub fn show_in(p: State, s: i32, buffer: &mut [i32], refusal: &mut u32) -> usize
     ensures { (result ≡ length (shown s (view p) buffer.old).front) × (refusal.new ≡ (shown s (view p) buffer.old).refusal) ×
         (buffer.new ≡ (shown s (view p) buffer.old).buffer) }
 {
-    let h = p.head;
     let side = exact::number(s);
-    let k = show_refusal(h, side, buffer.len());
-    *refusal = k;
-    if k != 0 {
+    if let Err(refused) = check_show(&p.head, side, buffer.len()) {
+        *refusal = refused.number();
         return 0;
     }
-    let n = rows::capped(h.measures, limit::MEASURES);
-    let at = heads::offset(side);
-    fill(&p.values, at, n, buffer);
+    *refusal = 0;
+    let n = rows::capped(p.head.measures, limit::MEASURES);
+    fill(&p.values, heads::offset(side), n, buffer);
     n
 }
 
@@ -159,97 +171,11 @@ pub fn show<'a>(p: State, s: i32, buffer: &'a mut [i32], refusal: &mut u32) -> &
     &mut buffer[..n]
 }
 
-// An answer, and where the values stand that it gives besides: none but for a show that is accepted.
-#[derive(Clone, Copy)]
-pub struct Reading {
-    pub answer: Answer,
-    pub from: usize,
-    pub width: usize,
-}
-
-// The side's values, where they stand. A sheet's show has room for 32.
-fn show_reading(h: Head, s: u32) -> Reading
-    ensures { result ≡ show_reading h s }
+// The side whose values a sheet's show gives, which has room for 32.
+pub fn shown_side(h: &Head, s: i32) -> Result<u32, Refusal>
+    ensures { (verdict_of result ≡ first (show_checks h.now (natural s) measure_limit)) × IfOk result (λ side. side ≡ natural s) }
 {
-    let refusal = show_refusal(h, s, limit::MEASURES);
-    if refusal != 0 {
-        let answer = Answer::Refused(refusal, 0);
-        return Reading {
-            answer,
-            from: 0,
-            width: 0,
-        };
-    }
-    let answer = Answer::Given(0, 0, 0, 0);
-    Reading {
-        answer,
-        from: heads::offset(s),
-        width: rows::capped(h.measures, limit::MEASURES),
-    }
-}
-
-// From the number left that is kept beside the state.
-fn left_answer(h: Head, left: u32) -> Answer
-    ensures { result ≡ left_answer h left }
-{
-    let mode = h.mode;
-    if heads::is_active(mode) {
-        return Answer::Given(1, left, 0, 0);
-    }
-    Answer::Given(1, 0, 0, 0)
-}
-
-// The call numbered op, with its number a: from the edit that it names, seen at place i from 1, and the number left.
-pub fn read(op: u32, a: i32, h: Head, i: usize, seen: EditRecord, left: u32) -> Reading
-    ensures { result ≡ reading_of op a h i seen left }
-{
-    if op == call::SHOW {
-        return show_reading(h, exact::number(a));
-    }
-    if op == call::FATE {
-        let answer = fate_answer(i, seen);
-        return Reading {
-            answer,
-            from: 0,
-            width: 0,
-        };
-    }
-    if op == call::LEFT {
-        let answer = left_answer(h, left);
-        return Reading {
-            answer,
-            from: 0,
-            width: 0,
-        };
-    }
-    let answer = Answer::Refused(51, 0);
-    Reading {
-        answer,
-        from: 0,
-        width: 0,
-    }
-}
-
-// The counts of kept edits, from the records, the number left and how many first logs are missing.
-pub fn tallies<'a>(
-    edits: [EditRecord; limit::EDITS],
-    h: Head,
-    arrived: &'a [bool; limit::SIDES],
-    confirmed: &'a [bool; limit::SIDES],
-) -> Tallies
-    ensures { Counted result (kept_of h edits) × (length result ≡ tally_count) ×
-        (left_noted result ≡ left_number h arrived.now confirmed.now result (min (kept_in h - settled_in result) 256)) ×
-        (missing_in result ≡ unset_in arrived.now (sides_in h)) }
-{
-    let mut t = unsent_counts(edits, h);
-    let waiting = records::count(edits, h, Test::Waiting);
-    let settled = records::count(edits, h, Test::Settled);
-    let unsettled = counts::unsettled(h, settled);
-    let left = left_number(h, arrived, confirmed, &t, unsettled);
-    let missing = heads::unset(arrived, h);
-    t[counts::WAITING] = waiting;
-    t[counts::SETTLED] = settled;
-    t[counts::LEFT] = left;
-    t[counts::MISSING] = missing;
-    t
+    let side = exact::number(s);
+    check_show(h, side, limit::MEASURES)?;
+    Ok(side)
 }

@@ -1,14 +1,18 @@
 -- Laws of cutting: the bytes up to a mark, the lines of a sheet and the words of a line. Assumes nothing.
-use Prim.Native.Nat.{ℕ, zero, suc, ◌+◌, ◌<◌, ◌≤◌, min}
+use Prim.Native.Nat.{ℕ, zero, suc, ◌+◌, ◌-◌, ◌<◌, ◌≤◌, min}
 use native.Mathlib.Omega.{arith}
-use native.Mathlib.Numerals.{add-one}
-use mathlib.Core.Path.{◌≡◌, refl, ap, sym, ◌∙◌}
+use native.Mathlib.Numerals.{add-one, one-add}
+use mathlib.Core.Path.{◌≡◌, refl, ap, ap₂, sym, ◌∙◌}
 use mathlib.Core.Bool.{Bool, true, false}
 use mathlib.Core.List.{List, [], ◌∷◌}
-use borrow.Author.Tests.{eq-eqb, ne_eqb, eqb-true, eqb-false}
-use lib.Dec.{eqb}
-use lib.ListN.{length, get_or, drop, length-drop, drop_of_length-le}
+use borrow.Author.Tests.{eq-eqb, ne_eqb, eqb-true, eqb-false, leb-true, leb-false, ltb-false}
+use lib.Dec.{eqb, leb, ltb}
+use lib.ListN.{length, get_or, take, drop, length-drop, drop_of_length-le}
 use lib.Seq.{drop-cons, drop-drop}
+use Rattle.std.proofs.lemmas.List.{take_all}
+use Rattle.std.specs.List.{position, position_or_len}
+use Rattle.std.specs.Option.{unwrap_or}
+use Rattle.std.proofs.lemmas.List.Recursion.{is_position_or_len}
 use Rattle.protocol.proofs.Laws.{cases}
 use Rattle.format.specs.Lines.{line_feed, space, grow, lines, words}
 use Rattle.reader.specs.Cut.{up_to, first_line}
@@ -95,6 +99,30 @@ module _ (bs : List ℕ) (at : ℕ) (h : at ≤ length (first_line bs)) where
       (λ s. cases (eqb b line_feed)
       (λ l. absurd (let z : ◌≡◌ {A = Bool} true false = rw (s, l) at t in let o : ◌≡◌ {A = ℕ} 0 1 = cc in omega arith))
       (λ l. goes s l))
+
+-- how a look for the first line feed from a place on finds the line's end
+before_is : (xs : List ℕ) → unwrap_or (position (λ b. eqb b line_feed) xs) (length xs) ≡ length (up_to line_feed xs)
+before_is xs =
+    let p : ℕ → Bool = λ b. eqb b line_feed in
+    let e = is_position_or_len (λ ys. length (up_to line_feed ys)) p refl (λ y ys. cases (eqb y line_feed) (λ t. rw t) (λ t. rw t (sym (one-add (length (up_to line_feed ys)))))) xs in
+    let l = up_to-length line_feed xs in
+    cases (ltb (position_or_len p xs) (length xs))
+    (λ t. rw t (sym e))
+    (λ t. let n = ltb-false (position_or_len p xs) (length xs) t in rw t (omega (arith, e)))
+
+pub feed_from : (bs : List ℕ) (at from n : ℕ) → from ≡ min at (length bs)
+    → n ≡ unwrap_or (position (λ b. eqb b line_feed) (take (length bs - from) (drop from bs))) (length (take (length bs - from) (drop from bs)))
+    → from + n ≡ min at (length bs) + length (up_to line_feed (drop at bs))
+feed_from bs at from n e f =
+    let a : take (length bs - from) (drop from bs) ≡ drop from bs = take_all (length bs - from) (drop from bs) (omega (arith, length-drop from bs)) in
+    let d : drop from bs ≡ drop at bs = same in
+    let g : n ≡ length (up_to line_feed (drop at bs)) = f ∙ before_is (take (length bs - from) (drop from bs)) ∙ ap (λ xs. length (up_to line_feed xs)) (a ∙ d) in
+    ap₂ (λ x y. x + y) e g
+  where
+    same : drop from bs ≡ drop at bs
+    same = cases (leb at (length bs))
+        (λ t. let h = leb-true at (length bs) t in let q : from ≡ at = omega (arith, e) in ap (λ k. drop k bs) q)
+        (λ t. let h = leb-false at (length bs) t in drop_of_length-le bs {i = from} (omega (arith, e)) ∙ sym (drop_of_length-le bs {i = at} (omega arith)))
 
 -- ---- the line at a place of a sheet
 

@@ -11,12 +11,12 @@ use lib.Dec.{eqb}
 use lib.IntN.{ℤ, pos}
 use lib.ListN.{length, get_or, set, take, drop, length-set}
 use lib.Seq.{paste}
-use Rattle.std.proofs.lemmas.List.{append-nil, take-append-drop, length-drop, length-take, take-take, get_or-drop}
+use Rattle.std.proofs.lemmas.List.{append-nil, take-append-drop, length-drop, length-take, take-take, get_or-drop, get_or-set_same, get_or-set_other}
 use Rattle.std.proofs.lemmas.List.Edits.{paste_more}
 use Rattle.std.proofs.lemmas.Slice.{put_mid-paste}
 use Rattle.protocol.proofs.Laws.{cases}
 use Rattle.rows.specs.Rows.{row, copied, copied_in}
-use Rattle.rows.proofs.Spans.{span_same, span_moved, get_d_set, get_or-other}
+use Rattle.rows.proofs.Spans.{span_same, span_moved}
 
 -- a part of one array pasted into another, value by value
 copied_paste : (into values : List ℤ) (from to n : ℕ) → to + n ≤ length into → from + n ≤ length values → paste into to (drop from values) n ≡ copied into values from to n
@@ -46,7 +46,7 @@ pub copied-outside : (into values : List ℤ) (from to n k : ℕ) → ((i : ℕ)
 unfolding copied
 copied-outside into values from to zero k h = refl
 copied-outside into values from to (suc n) k h =
-    get_or-other (copied into values from to n) (to + n) k _ (pos 0) (h n (omega arith)) ∙ copied-outside into values from to n k (λ i a. h i (omega arith))
+    get_or-set_other (copied into values from to n) (to + n) k _ (pos 0) (h n (omega arith)) ∙ copied-outside into values from to n k (λ i a. h i (omega arith))
 
 pub copied_inside : (into values : List ℤ) (from to n i : ℕ) → i < n → to + n ≤ length into → get_or (copied into values from to n) (to + i) (pos 0) ≡ get_or values (from + i) (pos 0)
 unfolding copied
@@ -54,8 +54,8 @@ copied_inside into values from to zero i h k = absurd (omega arith)
 copied_inside into values from to (suc n) i h k =
     let ih = copied_inside into values from to n i in
     cases (eqb i n)
-    (λ e. let l = length-copied into values from to n in rw (eqb-true i n e) (get_d_set (copied into values from to n) (to + n) _ (pos 0) (omega arith)))
-    (λ e. let ne = eqb-false i n e in get_or-other (copied into values from to n) (to + n) (to + i) _ (pos 0) (λ z. ne (omega arith)) ∙ ih (omega arith) (omega arith))
+    (λ e. let l = length-copied into values from to n in rw (eqb-true i n e) (get_or-set_same (copied into values from to n) (to + n) _ (pos 0) (omega arith)))
+    (λ e. let ne = eqb-false i n e in get_or-set_other (copied into values from to n) (to + n) (to + i) _ (pos 0) (λ z. ne (omega arith)) ∙ ih (omega arith) (omega arith))
 
 pub row_copied : (into values : List ℤ) (from to n : ℕ) → n ≤ 32 → to + 32 ≤ length into → from + 32 ≤ length values → row (copied_in into values from to 32) to n ≡ row values from n
 row_copied into values from to n h k l = span_moved to from n _ _ (λ i a. copied_inside into values from to (min 32 (min (length into - to) (length values - from))) i (omega arith) (omega arith))

@@ -8,8 +8,11 @@ use mathlib.Core.List.{List, [], ◌∷◌, map, reverse, reverse-append}
 use borrow.Author.Tests.{ltb-true, ltb-false}
 use lib.Dec.{ltb}
 use lib.IntN.{ℤ, pos}
-use lib.ListN.{length, get_or, set, replicate, take, drop}
-use lib.Seq.{drop-cons, take_all, take-length}
+use lib.ListN.{length, get_or, replicate, take, drop}
+use lib.Seq.{drop-cons}
+use Rattle.std.proofs.lemmas.List.{take_min}
+-- the library's laws of a place written, under the names that proofs here cite
+pub use Rattle.std.proofs.lemmas.List.{get_or-set_same as get_d_set, get_or-set_other as get_or-other}
 use Rattle.protocol.specs.Lists.{bit, count, all, any, snoc, nth, modify}
 use Rattle.protocol.proofs.Laws.{cases, bit_most}
 use Rattle.rows.specs.Rows.{span, row}
@@ -153,18 +156,6 @@ module _ {A : Type 0} (p : A → Bool) (f : ℕ → A) (n : ℕ) where
 -- ---- arrays
 
 module _ {A : Type 0} where
-  pub get_d_set : (xs : List A) (i : ℕ) (x d : A) → i < length xs → get_or (set xs i x) i d ≡ x
-  get_d_set [] i x d h = absurd (omega arith)
-  get_d_set (y ∷ xs) zero x d h = refl
-  get_d_set (y ∷ xs) (suc i) x d h = get_d_set xs i x d (omega arith)
-
-  pub get_or-other : (xs : List A) (i k : ℕ) (x d : A) → k ≢ i → get_or (set xs i x) k d ≡ get_or xs k d
-  get_or-other [] i k x d h = refl
-  get_or-other (y ∷ xs) zero zero x d h = absurd (h refl)
-  get_or-other (y ∷ xs) zero (suc k) x d h = refl
-  get_or-other (y ∷ xs) (suc i) zero x d h = refl
-  get_or-other (y ∷ xs) (suc i) (suc k) x d h = get_or-other xs i k x d (λ e. h (ap suc e))
-
   -- an array of nothing but its default
   pub get_or-blank : (n i : ℕ) (d : A) → get_or (replicate n d) i d ≡ d
   get_or-blank zero i d = refl
@@ -196,9 +187,7 @@ row_most vs at n most = let l = length-span at (min n most) (λ i. get_or vs i (
 
 -- as much of a list as it has
 pub take-least : {A : Type 0} (n : ℕ) (xs : List A) → take (min (length xs) n) xs ≡ take n xs
-take-least n xs = cases (ltb (length xs) n)
-    (λ t. let h = ltb-true (length xs) n t in let e : min (length xs) n ≡ length xs = omega arith in ap (λ k. take k xs) e ∙ take-length xs ∙ sym (take_all n xs (omega arith)))
-    (λ t. let h = ltb-false (length xs) n t in let e : min (length xs) n ≡ n = omega arith in ap (λ k. take k xs) e)
+take-least n xs = let e : min (length xs) n ≡ min n (length xs) = omega arith in ap (λ k. take k xs) e ∙ take_min n xs
 
 -- a row, cut out of its array
 part_row : (vs : List ℤ) (f w : ℕ) → f + w ≤ length vs → take w (drop f vs) ≡ row vs f w

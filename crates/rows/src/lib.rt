@@ -33,6 +33,7 @@ pub fn copy(into: &mut [i32], values: &[i32], from: usize, to: usize, n: usize)
 {
     let room = into.len().saturating_sub(to);
     let size = n.min(room).min(values.len().saturating_sub(from));
+    // Where there is none to copy, the place may lie past the end.
     if 0 < size {
         into[to..to + size].copy_from_slice(&values[from..from + size]);
     }

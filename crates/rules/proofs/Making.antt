@@ -3,83 +3,52 @@ use Prim.Native.Nat.{ℕ, zero, suc, ◌+◌, ◌-◌, ◌*◌, ◌<◌, ◌≤�
 use native.Mathlib.Omega.{arith}
 use mathlib.Core.Bool.{Bool, true, false, ◌&&◌, ◌||◌, and-false}
 use mathlib.Core.Path.{◌≡◌, refl, sym, ap, ap₂, ◌∙◌, subst}
-use mathlib.Core.Logic.{◌≢◌}
-use mathlib.Core.List.{List, [], ◌∷◌, map}
+use mathlib.Core.List.{List, [], map}
 use borrow.Author.Tests.{eqb-true, ne_eqb, ltb-true, ltb-false}
 use lib.Dec.{eqb, ltb}
 use native.Mathlib.Numerals.{add-one}
-use lib.IntN.{ℤ, pos}
-use lib.ListN.{length, get_or, set, length-set}
-use Rattle.protocol.specs.Lists.{bit, natural, one_to, count_to, count, any, snoc, passing}
+use lib.IntN.{ℤ}
+use lib.ListN.{length, get_or, set, replicate, length-set}
+use Rattle.protocol.specs.Lists.{bit, one_to, count_to, count, any, snoc, passing}
 use Rattle.protocol.proofs.Laws.{cases, in_range_lem, yes_is, is-no, count-snoc, count_to-none}
 use Rattle.rows.specs.Rows.{span}
 use Rattle.rows.proofs.Spans.{Counted, count_begin, count_next, count-over, span_same, span-snoc, get_d_set, get_or-other}
 use Rattle.rules.specs.Rules.{names_pair, names_at, due_at, firm_at, firm_in}
-use Rattle.rules.specs.Index.{Naming, naming_of, namings_of, naming_at, with_naming, first_at, last_at, namings_in, flag_in, is_made, Indexed, NoneAbove, Added, other_of}
-use Rattle.rules.proofs.Index.{passing-same, passing_yes, passing-no, none-passing, map_snoc}
-
--- ---- a naming written anew
-
-module _ (index : List ℤ) (n : ℕ) (i o g : ℤ) where
-  abbrev first : List ℤ
-  first = set index (128 + 3 * n) i
-
-  abbrev second : List ℤ
-  second = set first (129 + 3 * n) o
-
-  naming_apart : (j : ℕ) → j < 128 + 3 * n → get_or (with_naming index n i o g) j (pos 0) ≡ get_or index j (pos 0)
-  naming_apart j h =
-      get_or-other second (130 + 3 * n) j g (pos 0) (λ e. omega arith)
-      ∙ get_or-other first (129 + 3 * n) j o (pos 0) (λ e. omega arith)
-      ∙ get_or-other index (128 + 3 * n) j i (pos 0) (λ e. omega arith)
-
-  naming_other : (k : ℕ) → k < n → naming_at (with_naming index n i o g) k ≡ naming_at index k
-  naming_other k h =
-      let a = naming_apart (128 + 3 * k) (omega arith) in
-      let b = naming_apart (129 + 3 * k) (omega arith) in
-      let c = naming_apart (130 + 3 * k) (omega arith) in
-      λ j. record { rule = a j; other = b j; gap = c j }
-
-  naming_own : n < 128 → length index ≡ 512 → naming_at (with_naming index n i o g) n ≡ record { rule = i; other = o; gap = g }
-  naming_own h l =
-      let f = length-set index (128 + 3 * n) i in
-      let s = length-set first (129 + 3 * n) o in
-      let a = get_or-other second (130 + 3 * n) (128 + 3 * n) g (pos 0) (λ e. omega arith) ∙ get_or-other first (129 + 3 * n) (128 + 3 * n) o (pos 0) (λ e. omega arith) ∙ get_d_set index (128 + 3 * n) i
-      (pos 0) (omega arith) in
-      let b = get_or-other second (130 + 3 * n) (129 + 3 * n) g (pos 0) (λ e. omega arith) ∙ get_d_set first (129 + 3 * n) o (pos 0) (omega arith) in
-      let c = get_d_set second (130 + 3 * n) g (pos 0) (omega arith) in
-      λ j. record { rule = a j; other = b j; gap = c j }
+use Rattle.rules.specs.declared.Naming.{Naming}
+use Rattle.rules.specs.declared.Index.{Index}
+use Rattle.rules.specs.Index.{no_naming, naming_of, namings_of, naming_at, first_at, last_at, namings_in, flag_in, Indexed, NoneAbove, Added}
+use Rattle.rules.proofs.Namings.{passing-same, passing_yes, passing-no, none-passing, map_snoc}
 
 -- ---- the namings of one measure, put behind those that there are
 
-pub record Adding (lower : List ℕ) (gap : List ℤ) (upper : List ℕ) (end m n : ℕ) (before index : List ℤ) (next i : ℕ) : Type 0 where
-  pub long : length index ≡ 512
+pub record Adding (lower : List ℕ) (gap : List ℤ) (upper : List ℕ) (end m n : ℕ) (before namings : List Naming) (next i : ℕ) : Type 0 where
+  pub long : length namings ≡ 128
   pub since : n ≤ next
   pub counted : Counted (names_at lower upper m) (λ i. i) end i (next - n)
-  pub namings : span n (next - n) (naming_at index) ≡ map (naming_of lower gap upper m) (passing (names_at lower upper m) (span 0 i (λ i. i)))
-  pub others : (j : ℕ) → j < 128 + 3 * n → get_or index j (pos 0) ≡ get_or before j (pos 0)
+  pub named : span n (next - n) (naming_at namings) ≡ map (naming_of lower gap upper m) (passing (names_at lower upper m) (span 0 i (λ i. i)))
+  pub others : (j : ℕ) → j < n → naming_at namings j ≡ naming_at before j
 
-module _ (lower : List ℕ) (gap : List ℤ) (upper : List ℕ) (end m n : ℕ) (before : List ℤ) where
-  pub adding_begin : length before ≡ 512 → Adding lower gap upper end m n before before n 0
+module _ (lower : List ℕ) (gap : List ℤ) (upper : List ℕ) (end m n : ℕ) (before : List Naming) where
+  pub adding_begin : length before ≡ 128 → Adding lower gap upper end m n before before n 0
   adding_begin l =
       let z : n - n ≡ 0 = omega arith in
       record {
         long = l;
         since = omega arith;
         counted = subst (Counted (names_at lower upper m) (λ i. i) end 0) (sym z) (count_begin (names_at lower upper m) (λ i. i) end);
-        namings = ap (λ k. span n k (naming_at before)) z;
+        named = ap (λ k. span n k (naming_at before)) z;
         others = λ j h. refl;
       }
 
-  module _ (index : List ℤ) (next i : ℕ) (w : Adding lower gap upper end m n before index next i) where
-    pub adding_over : end ≤ i → i ≤ end → Added lower gap upper end m n next before index
+  module _ (namings : List Naming) (next i : ℕ) (w : Adding lower gap upper end m n before namings next i) where
+    pub adding_over : end ≤ i → i ≤ end → Added lower gap upper end m n next before namings
     adding_over h k =
         let c = count-over (names_at lower upper m) (λ i. i) end i (next - n) w.counted h in
         let e : i ≡ end = omega arith in
         record {
           long = w.long;
           counted = omega (arith, w.since);
-          namings = w.namings ∙ ap (λ k. map (naming_of lower gap upper m) (passing (names_at lower upper m) (span 0 k (λ i. i)))) e;
+          namings = w.named ∙ ap (λ k. map (naming_of lower gap upper m) (passing (names_at lower upper m) (span 0 k (λ i. i)))) e;
           others = w.others;
         }
 
@@ -93,14 +62,14 @@ module _ (lower : List ℕ) (gap : List ℤ) (upper : List ℕ) (end m n : ℕ) 
     more : (t : Bool) → i < end → names_at lower upper m i ≡ t → Counted (names_at lower upper m) (λ i. i) end (i + 1) (next - n + bit t)
     more t h e = count_next (names_at lower upper m) (λ i. i) end i (next - n) (bit t) w.counted h (ap bit (sym e))
 
-    pub adding_skip : i < end → names_at lower upper m i ≡ false → Adding lower gap upper end m n before index next (i + 1)
+    pub adding_skip : i < end → names_at lower upper m i ≡ false → Adding lower gap upper end m n before namings next (i + 1)
     adding_skip h e =
         let z : next - n + 0 ≡ next - n = omega arith in
         record {
           long = w.long;
           since = w.since;
           counted = subst (Counted (names_at lower upper m) (λ i. i) end (i + 1)) z (more false h e);
-          namings = w.namings ∙ ap (map (naming_of lower gap upper m)) (sym (ap (passing (names_at lower upper m)) upto ∙ passing-no (names_at lower upper m) (span 0 i (λ i. i)) i e));
+          named = w.named ∙ ap (map (naming_of lower gap upper m)) (sym (ap (passing (names_at lower upper m)) upto ∙ passing-no (names_at lower upper m) (span 0 i (λ i. i)) i e));
           others = w.others;
         }
 
@@ -108,26 +77,26 @@ module _ (lower : List ℕ) (gap : List ℤ) (upper : List ℕ) (end m n : ℕ) 
     pub adding_room : i < end → names_at lower upper m i ≡ true → n + count (names_at lower upper m) (span 0 end (λ i. i)) ≤ 128 → next < 128
     adding_room h e r = let c = (more true h e).rest in omega (arith, w.since)
 
-    pub adding_put : i < end → names_at lower upper m i ≡ true → next < 128 → {z o g : ℤ} → z ≡ pos i → o ≡ other_of m (get_or lower i 0) (get_or upper i 0) → g ≡ get_or gap i (pos 0)
-        → Adding lower gap upper end m n before (with_naming index next z o g) (next + 1) (i + 1)
-    adding_put h e r {z = z} {o = o} {g = g} z-is o_is g-is =
+    pub adding_put : i < end → names_at lower upper m i ≡ true → next < 128 → {naming : Naming} → naming ≡ naming_of lower gap upper m i
+        → Adding lower gap upper end m n before (set namings next naming) (next + 1) (i + 1)
+    adding_put h e r {naming = naming} naming-is =
         let s = w.since in
         let x : next - n + 1 ≡ next + 1 - n = omega arith in
         let y : next + 1 - n ≡ suc (next - n) = omega arith in
         let u : n + (next - n) ≡ next = omega arith in
-        let own : naming_at (with_naming index next z o g) next ≡ naming_of lower gap upper m i = naming_own index next z o g r w.long ∙ (λ j. record { rule = z-is j; other = o_is j; gap = g-is j })
-        in
+        let after = set namings next naming in
+        let own : naming_at after next ≡ naming_of lower gap upper m i = get_d_set namings next naming no_naming (omega (arith, w.long)) ∙ naming-is in
         record {
           long = simp length-set w.long;
           since = omega arith;
           counted = subst (Counted (names_at lower upper m) (λ i. i) end (i + 1)) x (more true h e);
-          namings = ap (λ k. span n k (naming_at (with_naming index next z o g))) y
-              ∙ span-snoc n (next - n) (naming_at (with_naming index next z o g))
-              ∙ ap₂ {C = List Naming} snoc (span_same n (next - n) (naming_at (with_naming index next z o g)) (naming_at index) (λ k p q. naming_other index next z o g k (omega arith)) ∙ w.namings)
-              (ap (naming_at (with_naming index next z o g)) u ∙ own)
+          named = ap (λ k. span n k (naming_at after)) y
+              ∙ span-snoc n (next - n) (naming_at after)
+              ∙ ap₂ {C = List Naming} snoc (span_same n (next - n) (naming_at after) (naming_at namings) (λ k p q. get_or-other namings next k naming no_naming (λ e. omega arith)) ∙ w.named)
+              (ap (naming_at after) u ∙ own)
               ∙ sym (map_snoc (naming_of lower gap upper m) (passing (names_at lower upper m) (span 0 i (λ i. i))) i)
               ∙ ap (map (naming_of lower gap upper m)) (sym (ap (passing (names_at lower upper m)) upto ∙ passing_yes (names_at lower upper m) (span 0 i (λ i. i)) i e));
-          others = λ j k. naming_apart index next z o g j (omega arith) ∙ w.others j k;
+          others = λ j k. get_or-other namings next j naming no_naming (λ e. omega arith) ∙ w.others j k;
         }
 
 -- ---- how many there are: two a rule at most
@@ -181,167 +150,113 @@ module _ (lower upper : List ℕ) where
 -- ---- measure by measure
 
 -- a measure whose namings stand among the first n
-pub record Done (lower : List ℕ) (gap : List ℤ) (upper : List ℕ) (firm : List Bool) (end : ℕ) (index : List ℤ) (n j : ℕ) : Type 0 where
-  pub ends : natural (get_or index (j + 1) (pos 0)) ≤ n
+pub record Done (lower : List ℕ) (gap : List ℤ) (upper : List ℕ) (firm : List Bool) (end : ℕ) (index : Index) (n j : ℕ) : Type 0 where
+  pub ends : get_or index.ends (j + 1) 0 ≤ n
   pub named : namings_in index j ≡ namings_of lower gap upper end j
   pub firmly : 0 < j → flag_in index j ≡ firm_in lower upper firm end j
 
-pub record Indexing (lower : List ℕ) (gap : List ℤ) (upper : List ℕ) (firm : List Bool) (end : ℕ) (index : List ℤ) (n m : ℕ) : Type 0 where
-  pub long : length index ≡ 512
+pub record Indexing (lower : List ℕ) (gap : List ℤ) (upper : List ℕ) (firm : List Bool) (end : ℕ) (index : Index) (n m : ℕ) : Type 0 where
+  pub long : (length index.namings ≡ 128) × (length index.ends ≡ 34) × (length index.firm ≡ 33)
   pub least : 0 < m
   pub most : m ≤ 33
-  pub begins : get_or index m (pos 0) ≡ pos n
+  pub begins : get_or index.ends m 0 ≡ n
   pub counted : n ≡ named_to lower upper end (m - 1)
   pub done : (j : ℕ) → j < m → Done lower gap upper firm end index n j
+
+-- the one that was not made
+abbrev pub no_index : Index
+no_index = record { made = false; ends = replicate 34 0; firm = replicate 33 false; namings = replicate 128 no_naming }
 
 module _ (lower : List ℕ) (gap : List ℤ) (upper : List ℕ) (firm : List Bool) (end : ℕ) where
   none_at : namings_of lower gap upper end 0 ≡ []
   unfolding namings_of
   none_at = ap (map (naming_of lower gap upper 0)) (none-passing (span 0 end (λ i. i)))
 
-  pub indexing_begin : (index : List ℤ) → length index ≡ 512 → ((j : ℕ) → get_or index j (pos 0) ≡ pos 0) → Indexing lower gap upper firm end index 0 1
+  pub indexing_begin : Indexing lower gap upper firm end no_index 0 1
   unfolding namings_in
-  indexing_begin index l z = record {
-    long = l;
+  indexing_begin = record {
+    long = (refl, refl, refl);
     least = omega arith;
     most = omega arith;
-    begins = z 1;
+    begins = refl;
     counted = refl;
-    done = λ j h. let e : j ≡ 0 = omega arith in subst (Done lower gap upper firm end index 0) (sym e) (record {
-      ends = rw (z 1) (omega arith);
-      named = (λ i. span (natural (z 0 i)) (min (natural (z 1 i)) 128 - natural (z 0 i)) (naming_at index)) ∙ sym none_at;
+    done = λ j h. let e : j ≡ 0 = omega arith in subst (Done lower gap upper firm end no_index 0) (sym e) (record {
+      ends = omega arith;
+      named = sym none_at;
       firmly = λ h. absurd (omega arith);
     });
   }
 
-  pub indexing_over : (index : List ℤ) (n m : ℕ) → Indexing lower gap upper firm end index n m → 33 ≤ m → Indexed index lower gap upper firm end
+  pub indexing_over : (index : Index) (n m : ℕ) → Indexing lower gap upper firm end index n m → 33 ≤ m → Indexed index lower gap upper firm end
   indexing_over index n m w h = record { named = λ j k. (w.done j (omega arith)).named; firmly = λ j p k. (w.done j (omega arith)).firmly p }
 
-  module _ (index : List ℤ) (n m : ℕ) (w : Indexing lower gap upper firm end index n m) (size : end ≤ 64) (h : m < 33) where
+  module _ (index : Index) (n m : ℕ) (w : Indexing lower gap upper firm end index n m) (size : end ≤ 64) (h : m < 33) where
     pub indexing_room : n + count (names_at lower upper m) (span 0 end (λ i. i)) ≤ 128
     indexing_room = let a = named-next lower upper end m w.least in let b = named_few lower upper end m in omega (arith, w.counted)
 
-    pub indexing_few : (after : List ℤ) (next : ℕ) → Added lower gap upper end m n next index after → next ≤ 128
-    indexing_few after next a = let r = indexing_room in let c = a.counted in omega arith
+    module _ (after : List Naming) (next : ℕ) (a : Added lower gap upper end m n next index.namings after) where
+      pub indexing_few : next ≤ 128
+      indexing_few = let r = indexing_room in let c = a.counted in omega arith
 
-    module _ (after : List ℤ) (next : ℕ) (a : Added lower gap upper end m n next index after) (f : Bool) (f-is : f ≡ firm_in lower upper firm end m) where
-      abbrev ended : List ℤ
-      ended = set after (m + 1) (pos next)
+      module _ (f : Bool) (f-is : f ≡ firm_in lower upper firm end m) where
+        abbrev last : Index
+        last = record index { ends = set index.ends (m + 1) next; firm = set index.firm m f; namings = after }
 
-      abbrev last : List ℤ
-      last = set ended (64 + m) (pos (bit f))
+        end_is : get_or last.ends (m + 1) 0 ≡ next
+        end_is = get_d_set index.ends (m + 1) next 0 (omega (arith, w.long.1))
 
-      -- what is not written
-      apart : (j : ℕ) → j < 128 + 3 * n → j ≢ m + 1 → j ≢ 64 + m → get_or last j (pos 0) ≡ get_or index j (pos 0)
-      apart j k p q = get_or-other ended (64 + m) j (pos (bit f)) (pos 0) q ∙ get_or-other after (m + 1) j (pos next) (pos 0) p ∙ a.others j k
+        -- where the measures before and the one at hand begin
+        begin_is : (j : ℕ) → j ≤ m → get_or last.ends j 0 ≡ get_or index.ends j 0
+        begin_is j h = get_or-other index.ends (m + 1) j next 0 (λ e. omega arith)
 
-      entries : (j : ℕ) → 128 ≤ j → get_or last j (pos 0) ≡ get_or after j (pos 0)
-      entries j k = get_or-other ended (64 + m) j (pos (bit f)) (pos 0) (λ e. omega arith) ∙ get_or-other after (m + 1) j (pos next) (pos 0) (λ e. omega arith)
+        -- the measures before
+        still : (j : ℕ) → j < m → Done lower gap upper firm end index n j → Done lower gap upper firm end last next j
+        unfolding namings_in flag_in
+        still j k d =
+            let x = begin_is j (omega arith) in
+            let y = begin_is (j + 1) (omega arith) in
+            record {
+              ends = rw y (let e = d.ends in let c = a.counted in omega arith);
+              named = (λ i. span (x i) (min (y i) 128 - x i) (naming_at after)) ∙ span_same (first_at index j) (last_at index j - first_at index j) (naming_at after) (naming_at index.namings)
+                  (λ i p q. a.others i (let e = d.ends in omega arith)) ∙ d.named;
+              firmly = λ p. get_or-other index.firm m j f false (λ e. omega arith) ∙ d.firmly p;
+            }
 
-      as_after : (k : ℕ) → naming_at last k ≡ naming_at after k
-      as_after k =
-          let x = entries (128 + 3 * k) (omega arith) in
-          let y = entries (129 + 3 * k) (omega arith) in
-          let z = entries (130 + 3 * k) (omega arith) in
-          λ j. record { rule = x j; other = y j; gap = z j }
+        -- the one at hand
+        here : Done lower gap upper firm end last next m
+        unfolding namings_in namings_of flag_in
+        here =
+            let x = begin_is m (omega arith) ∙ w.begins in
+            let c : min next 128 ≡ next = omega (arith, indexing_few) in
+            record {
+              ends = rw end_is (omega arith);
+              named = (λ i. span (x i) (min (end_is i) 128 - x i) (naming_at after))
+                  ∙ ap (λ k. span n (k - n) (naming_at after)) c
+                  ∙ a.namings
+                  ∙ ap (map (naming_of lower gap upper m))
+                  (passing-same (names_at lower upper m) (due_at lower upper m) (span 0 end (λ i. i))
+                  (λ i. sym (ap (λ b. b && names_at lower upper m i) (yes_is (one_to 32 m) (in_range_lem 32 m w.least (omega arith))))));
+              firmly = λ p. get_d_set index.firm m f false (omega (arith, w.long.2)) ∙ f-is;
+            }
 
-      as_before : (k : ℕ) → k < n → naming_at last k ≡ naming_at index k
-      as_before k h =
-          let x = apart (128 + 3 * k) (omega arith) (λ e. omega arith) (λ e. omega arith) in
-          let y = apart (129 + 3 * k) (omega arith) (λ e. omega arith) (λ e. omega arith) in
-          let z = apart (130 + 3 * k) (omega arith) (λ e. omega arith) (λ e. omega arith) in
-          λ j. record { rule = x j; other = y j; gap = z j }
-
-      end_is : get_or last (m + 1) (pos 0) ≡ pos next
-      end_is = get_or-other ended (64 + m) (m + 1) (pos (bit f)) (pos 0) (λ e. omega arith) ∙ get_d_set after (m + 1) (pos next) (pos 0) (omega (arith, a.long))
-
-      -- the measures before
-      still : (j : ℕ) → j < m → Done lower gap upper firm end index n j → Done lower gap upper firm end last next j
-      unfolding namings_in flag_in
-      still j k d =
-          let x = apart j (omega arith) (λ e. omega arith) (λ e. omega arith) in
-          let y = apart (j + 1) (omega arith) (λ e. omega arith) (λ e. omega arith) in
-          record {
-            ends = rw y (let e = d.ends in let c = a.counted in omega arith);
-            named = (λ i. span (natural (x i)) (min (natural (y i)) 128 - natural (x i)) (naming_at last)) ∙ span_same (first_at index j) (last_at index j - first_at index j) (naming_at last)
-                (naming_at index) (λ i p q. as_before i (let e = d.ends in omega arith)) ∙ d.named;
-            firmly = λ p. ap (λ z. eqb (natural z) 1) (apart (64 + j) (omega arith) (λ e. omega arith) (λ e. omega arith)) ∙ d.firmly p;
-          }
-
-      -- the one at hand
-      here : Done lower gap upper firm end last next m
-      unfolding namings_in namings_of flag_in
-      here =
-          let x = apart m (omega (arith, w.most)) (λ e. omega arith) (λ e. omega arith) ∙ w.begins in
-          let c : min next 128 ≡ next = omega (arith, indexing_few after next a) in
-          let l = length-set after (m + 1) (pos next) in
-          record {
-            ends = rw end_is (omega arith);
-            named = (λ i. span (natural (x i)) (min (natural (end_is i)) 128 - natural (x i)) (naming_at last))
-                ∙ ap (λ k. span n (k - n) (naming_at last)) c
-                ∙ span_same n (next - n) (naming_at last) (naming_at after) (λ k p q. as_after k)
-                ∙ a.namings
-                ∙ ap (map (naming_of lower gap upper m))
-                (passing-same (names_at lower upper m) (due_at lower upper m) (span 0 end (λ i. i))
-                (λ i. sym (ap (λ b. b && names_at lower upper m i) (yes_is (one_to 32 m) (in_range_lem 32 m w.least (omega arith))))));
-            firmly = λ p. ap (λ z. eqb (natural z) 1) (get_d_set ended (64 + m) (pos (bit f)) (pos 0) (omega (arith, a.long))) ∙ flag f ∙ f-is;
-          }
-        where
-          flag : (b : Bool) → eqb (bit b) 1 ≡ b
-          flag true = refl
-          flag false = refl
-
-      pub indexing_next : Indexing lower gap upper firm end last next (m + 1)
-      indexing_next = record {
-        long = simp length-set a.long;
-        least = omega arith;
-        most = omega arith;
-        begins = end_is;
-        counted = (let x = named-next lower upper end m w.least in let e : m + 1 - 1 ≡ m = omega arith in let y = ap (named_to lower upper end) e in let z = w.counted in let v = a.counted in
-            omega arith);
-        done = λ j k. cases (ltb j m) (λ t. still j (ltb-true j m t) (w.done j (ltb-true j m t)))
-            (λ t. let e : m ≡ j = (let u = ltb-false j m t in omega arith) in subst (Done lower gap upper firm end last next) e here);
-      }
+        pub indexing_next : Indexing lower gap upper firm end last next (m + 1)
+        indexing_next = record {
+          long = (a.long, simp length-set w.long.1, simp length-set w.long.2);
+          least = omega arith;
+          most = omega arith;
+          begins = end_is;
+          counted = (let x = named-next lower upper end m w.least in let e : m + 1 - 1 ≡ m = omega arith in let y = ap (named_to lower upper end) e in let z = w.counted in let v = a.counted in
+              omega arith);
+          done = λ j k. cases (ltb j m) (λ t. still j (ltb-true j m t) (w.done j (ltb-true j m t)))
+              (λ t. let e : m ≡ j = (let u = ltb-false j m t in omega arith) in subst (Done lower gap upper firm end last next) e here);
+        }
 
 -- ---- the mark of an index that was made
 
--- a default is read, however short the list is
-default_set : (xs : List ℤ) (i : ℕ) (d : ℤ) → get_or (set xs i d) i d ≡ d
-default_set [] i d = refl
-default_set (x ∷ xs) zero d = refl
-default_set (x ∷ xs) (suc i) d = default_set xs i d
-
--- what is written there says whether it was made
-pub unmarked : (index : List ℤ) → is_made (set index 127 (pos 0)) ≡ false
-unfolding is_made
-unmarked index = ap (λ z. eqb (natural z) 1) (default_set index 127 (pos 0))
-
-pub marked : (index : List ℤ) → length index ≡ 512 → is_made (set index 127 (pos 1)) ≡ true
-unfolding is_made
-marked index l = ap (λ z. eqb (natural z) 1) (get_d_set index 127 (pos 1) (pos 0) (omega arith))
-
-module _ (index : List ℤ) (x : ℤ) where
-  mark-apart : (j : ℕ) → j ≢ 127 → get_or (set index 127 x) j (pos 0) ≡ get_or index j (pos 0)
-  mark-apart j h = get_or-other index 127 j x (pos 0) h
-
-  -- the mark stands apart from all that the index says
-  pub indexed-marked : {lower : List ℕ} {gap : List ℤ} {upper : List ℕ} {firm : List Bool} {n : ℕ} → Indexed index lower gap upper firm n → Indexed (set index 127 x) lower gap upper firm n
-  unfolding namings_in flag_in
-  indexed-marked w = record {
-    named = λ m h.
-        let b = mark-apart m (λ e. omega arith) in
-        let e = mark-apart (m + 1) (λ e. omega arith) in
-        (λ i. span (natural (b i)) (min (natural (e i)) 128 - natural (b i)) (naming_at (set index 127 x)))
-        ∙ span_same (first_at index m) (last_at index m - first_at index m) (naming_at (set index 127 x)) (naming_at index) (λ k p q. same k) ∙ w.named m h;
-    firmly = λ m p h. ap (λ z. eqb (natural z) 1) (mark-apart (64 + m) (λ e. omega arith)) ∙ w.firmly m p h;
-  }
-    where
-      same : (k : ℕ) → naming_at (set index 127 x) k ≡ naming_at index k
-      same k =
-          let a = mark-apart (128 + 3 * k) (λ e. omega arith) in
-          let b = mark-apart (129 + 3 * k) (λ e. omega arith) in
-          let c = mark-apart (130 + 3 * k) (λ e. omega arith) in
-          λ j. record { rule = a j; other = b j; gap = c j }
+-- it stands apart from all that the index says
+pub indexed-marked : (index : Index) (t : Bool) {lower : List ℕ} {gap : List ℤ} {upper : List ℕ} {firm : List Bool} {n : ℕ} → Indexed index lower gap upper firm n → Indexed (record index { made = t }) lower gap upper firm n
+unfolding namings_in flag_in
+indexed-marked index t w = record { named = w.named; firmly = w.firmly }
 
 -- ---- a measure above all that the rules name
 
@@ -352,7 +267,7 @@ module _ (lower upper : List ℕ) (end top m : ℕ) (h : NoneAbove lower upper e
       let b = h i l in
       rw (ne_eqb (get_or lower i 0) m (λ e. omega (arith, b.0)), ne_eqb (get_or upper i 0) m (λ e. omega (arith, b.1)))
 
-  pub none_added : (gap : List ℤ) (n : ℕ) (before : List ℤ) → length before ≡ 512 → Added lower gap upper end m n n before before
+  pub none_added : (gap : List ℤ) (n : ℕ) (before : List Naming) → length before ≡ 128 → Added lower gap upper end m n n before before
   none_added gap n before l = adding_over lower gap upper end m n before before n end (walked end (omega arith)) (omega arith) (omega arith)
     where
       walked : (k : ℕ) → k ≤ end → Adding lower gap upper end m n before before n k

@@ -1,30 +1,28 @@
--- Scaffolding: the index: from a measure to the rules that name it, as an array of numbers; and the tests that use it. Assumes nothing.
-use Rattle.std.specs.Prelude.{ℕ, suc, ◌+◌, ◌-◌, ◌*◌, ◌<◌, ◌≤◌, min, Bool, true, false, cond, List, map, reverse, ◌≡◌, eqb, leb, ℤ, pos, negsuc, ◌+ℤ◌, length, get_or, set}
+-- Scaffolding: the index: from a measure to the rules that name it, as namings put one behind another; and the tests that use it. Assumes nothing.
+use Rattle.std.specs.Prelude.{ℕ, suc, ◌+◌, ◌-◌, ◌<◌, ◌≤◌, min, Bool, true, false, cond, List, map, reverse, ◌≡◌, eqb, leb, ℤ, pos, ◌+ℤ◌, length, get_or}
 use Rattle.std.specs.Int.Signed.{lt_z}
-use Rattle.protocol.specs.Lists.{natural, one_to, count, passing, first_not}
+use Rattle.protocol.specs.Lists.{one_to, count, passing, first_not}
 use Rattle.protocol.specs.Plan as model
 use Rattle.protocol.specs.Plan.{measure_limit}
 use Rattle.rows.specs.Rows.{span}
+use Rattle.rules.specs.declared.Other.{Other}
+use Rattle.rules.specs.declared.Other.TheVariants.{Above, Below}
+use Rattle.rules.specs.declared.Naming.{Naming}
+use Rattle.rules.specs.declared.Index.{Index}
 use Rattle.rules.specs.Rules.{with_value, names_at, due_at, RuleTest, tested_in, firm_in}
 
 -- ---- a rule as it stands at a measure that it names
-
--- its number from 0, its other measure, and its gap
-pub record Naming : Type 0 where
-  pub rule : ℤ
-  pub other : ℤ
-  pub gap : ℤ
 
 -- where a measure's value stands in a row, from 0; 32 if it is none of 32, and 33 for measure m, whose value is not the row's
 abbrev pub place_of : ℕ → ℕ → ℕ
 place_of m k = cond (eqb k m) 33 (cond (one_to measure_limit k) (k - 1) 32)
 
--- the place of the upper measure as it is, where m is the lower one; else that of the lower one below 0
-abbrev pub other_of : ℕ → ℕ → ℕ → ℤ
-other_of m a b = cond (eqb a m) (pos (place_of m b)) (negsuc (place_of m a))
+-- the place of the upper measure, above m, where m is the lower one; else that of the lower one, below m
+abbrev pub other_of : ℕ → ℕ → ℕ → Other
+other_of m a b = cond (eqb a m) (Above (place_of m b)) (Below (place_of m a))
 
 abbrev pub naming_of : List ℕ → List ℤ → List ℕ → ℕ → ℕ → Naming
-naming_of lower gap upper m i = record { rule = pos i; other = other_of m (get_or lower i 0) (get_or upper i 0); gap = get_or gap i (pos 0) }
+naming_of lower gap upper m i = record { rule = i; other = other_of m (get_or lower i 0) (get_or upper i 0); gap = get_or gap i (pos 0) }
 
 -- the rules of three arrays, the first n, that are due for a test when measure m changes
 unfoldable pub namings_of : List ℕ → List ℤ → List ℕ → ℕ → ℕ → List Naming
@@ -35,51 +33,50 @@ abbrev pub other_at : (ℕ → ℤ) → ℤ → ℕ → ℤ
 other_at f y p = cond (eqb p 33) y (f (p + 1))
 
 -- it holds
-abbrev pub side_holds : (ℕ → ℤ) → ℤ → ℤ → ℤ → Bool
-side_holds f y (pos p) g = lt_z (y +ℤ g) (other_at f y p)
-side_holds f y (negsuc p) g = lt_z (other_at f y p +ℤ g) y
+abbrev pub side_holds : (ℕ → ℤ) → ℤ → Other → ℤ → Bool
+side_holds f y (Above p) g = lt_z (y +ℤ g) (other_at f y p)
+side_holds f y (Below p) g = lt_z (other_at f y p +ℤ g) y
 
 abbrev pub naming_holds : (ℕ → ℤ) → ℤ → Naming → Bool
 naming_holds f y k = side_holds f y k.other k.gap
 
 -- the rule's number, from 1
 abbrev pub number_of : Naming → ℕ
-number_of k = suc (natural k.rule)
+number_of k = suc k.rule
 
--- ---- the array
+-- ---- the index as it stands
 
-abbrev pub naming_at : List ℤ → ℕ → Naming
-naming_at index k = record { rule = get_or index (128 + 3 * k) (pos 0); other = get_or index (129 + 3 * k) (pos 0); gap = get_or index (130 + 3 * k) (pos 0) }
+abbrev pub no_naming : Naming
+no_naming = record { rule = 0; other = Above 0; gap = pos 0 }
 
--- naming k written anew
-abbrev pub with_naming : List ℤ → ℕ → ℤ → ℤ → ℤ → List ℤ
-with_naming index k i o g = set (set (set index (128 + 3 * k) i) (129 + 3 * k) o) (130 + 3 * k) g
+abbrev pub naming_at : List Naming → ℕ → Naming
+naming_at namings k = get_or namings k no_naming
 
 -- where the namings of a measure begin and end
-abbrev pub first_at : List ℤ → ℕ → ℕ
-first_at index m = natural (get_or index m (pos 0))
+abbrev pub first_at : Index → ℕ → ℕ
+first_at index m = get_or index.ends m 0
 
-abbrev pub last_at : List ℤ → ℕ → ℕ
-last_at index m = min (natural (get_or index (m + 1) (pos 0))) 128
+abbrev pub last_at : Index → ℕ → ℕ
+last_at index m = min (get_or index.ends (m + 1) 0) 128
 
-unfoldable pub namings_in : List ℤ → ℕ → List Naming
-namings_in index m = span (first_at index m) (last_at index m - first_at index m) (naming_at index)
+unfoldable pub namings_in : Index → ℕ → List Naming
+namings_in index m = span (first_at index m) (last_at index m - first_at index m) (naming_at index.namings)
 
 -- whether a firm rule names it
-unfoldable pub flag_in : List ℤ → ℕ → Bool
-flag_in index m = eqb (natural (get_or index (64 + m) (pos 0))) 1
+unfoldable pub flag_in : Index → ℕ → Bool
+flag_in index m = get_or index.firm m false
 
 -- whether it was made; until then nothing is known of it
-unfoldable pub is_made : List ℤ → Bool
-is_made index = eqb (natural (get_or index 127 (pos 0))) 1
+unfoldable pub is_made : Index → Bool
+is_made index = index.made
 
 -- the index of the first n rules
-pub record Indexed (index : List ℤ) (lower : List ℕ) (gap : List ℤ) (upper : List ℕ) (firm : List Bool) (n : ℕ) : Type 0 where
+pub record Indexed (index : Index) (lower : List ℕ) (gap : List ℤ) (upper : List ℕ) (firm : List Bool) (n : ℕ) : Type 0 where
   pub named : (m : ℕ) → m ≤ measure_limit → namings_in index m ≡ namings_of lower gap upper n m
   pub firmly : (m : ℕ) → 0 < m → m ≤ measure_limit → flag_in index m ≡ firm_in lower upper firm n m
 
 -- it is theirs where a flag says so: that all rules are known to hold (`sound`), or that it was made
-abbrev pub IndexedIf : Bool → List ℤ → List ℕ → List ℤ → List ℕ → List Bool → ℕ → Type 0
+abbrev pub IndexedIf : Bool → Index → List ℕ → List ℤ → List ℕ → List Bool → ℕ → Type 0
 IndexedIf b index lower gap upper firm n = b ≡ true → Indexed index lower gap upper firm n
 
 -- ---- namings put one behind another
@@ -88,12 +85,12 @@ IndexedIf b index lower gap upper firm n = b ≡ true → Indexed index lower ga
 abbrev pub NoneAbove : List ℕ → List ℕ → ℕ → ℕ → Type 0
 NoneAbove lower upper end top = (i : ℕ) → i < end → (get_or lower i 0 ≤ top) × (get_or upper i 0 ≤ top)
 
--- those of measure m, from place n to the next, in an array that had others before
-pub record Added (lower : List ℕ) (gap : List ℤ) (upper : List ℕ) (end m n next : ℕ) (before after : List ℤ) : Type 0 where
-  pub long : length after ≡ 512
+-- those of measure m, from place n to the next, in an array that had others below
+pub record Added (lower : List ℕ) (gap : List ℤ) (upper : List ℕ) (end m n next : ℕ) (before after : List Naming) : Type 0 where
+  pub long : length after ≡ 128
   pub counted : next ≡ n + count (names_at lower upper m) (span 0 end (λ i. i))
   pub namings : span n (next - n) (naming_at after) ≡ map (naming_of lower gap upper m) (passing (names_at lower upper m) (span 0 end (λ i. i)))
-  pub others : (j : ℕ) → j < 128 + 3 * n → get_or after j (pos 0) ≡ get_or before j (pos 0)
+  pub others : (j : ℕ) → j < n → naming_at after j ≡ naming_at before j
 
 -- ---- the tests
 
@@ -102,17 +99,17 @@ abbrev pub listed_as : ℕ → ℕ
 listed_as m = cond (leb m measure_limit) m 0
 
 -- the rules that the index has for measure m, tested in the protocol's order: last drawn first
-unfoldable pub indexed_in : List ℤ → ℕ → ℤ → List ℤ → ℕ
+unfoldable pub indexed_in : Index → ℕ → ℤ → List ℤ → ℕ
 unfolding model.value
 indexed_in index m x vs = first_not (naming_holds (model.value vs) (model.value (with_value m x vs) m)) number_of (reverse (namings_in index (listed_as m)))
 
 -- What is tested with an index at hand, be it the rules' own or not: what it has for the measure, where all rules held before (`sound`), else all rules.
-unfoldable pub tested_by : Bool → List ℤ → RuleTest
+unfoldable pub tested_by : Bool → Index → RuleTest
 tested_by sound index m lower gap upper n x vs = cond sound (indexed_in index m x vs) (tested_in false m lower gap upper n x vs)
 
 -- whether a firm rule of three arrays, among the first n, names measure m; and what is found with an index at hand
 abbrev pub FirmTest : Type 0
 FirmTest = List ℕ → List ℕ → List Bool → ℕ → ℕ → Bool
 
-unfoldable pub firm_by : Bool → List ℤ → FirmTest
+unfoldable pub firm_by : Bool → Index → FirmTest
 firm_by sound index lower upper firm n m = cond sound (flag_in index (listed_as m)) (firm_in lower upper firm n m)

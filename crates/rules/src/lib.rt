@@ -1,16 +1,16 @@
-// The rules of a plan as one table of numbers, an index from each measure to the rules that name it, and their test on a row of values.
+// The rules of a plan in a table, an index from each measure to the rules that name it, and their test on a row of values.
 // Everything is lent.
 #![tactic(auto)]
 
 ghost use Rattle.std.specs.Prelude.{◌≡◌, true, false, cond, ◌&&◌, ◌+◌, ◌-◌, ◌<◌, ◌≤◌, min, pos, ◌+ℤ◌, eqb, length, get_or, take};
 ghost use Rattle.std.specs.Int.Signed.{lt_z};
 ghost use Rattle.std.specs.List.{list_any};
-ghost use Rattle.protocol.specs.Lists.{natural, count, bit as bit_of};
+ghost use Rattle.protocol.specs.Lists.{natural, count};
 ghost use Rattle.protocol.specs.Plan.{value};
-ghost use Rattle.rows.specs.Rows.{span};
+ghost use Rattle.rows.specs.Rows.{span, row};
 ghost use Rattle.rules.specs.Table.{lowers, gaps, uppers, firms, with_rule, top_of};
 ghost use Rattle.rules.specs.Rules.{numbered, with_value, pair_holds, names_pair, names_firmly, names_at, tested_in, firm_in};
-ghost use Rattle.rules.specs.Index.{place_of, other_of, with_naming, is_made, NoneAbove, Added, Indexed, listed_as, side_holds, indexed_in, firm_by};
+ghost use Rattle.rules.specs.Index.{place_of, other_of, naming_holds, is_made, NoneAbove, Added, Indexed, listed_as, indexed_in, tested_by, firm_by};
 
 use protocol::limit;
 
@@ -67,6 +67,16 @@ impl Rule {
         self.lower == m || self.upper == m
     }
 
+    // Its other measure, where it names measure m.
+    fn other_of(&self, m: u32) -> Other
+        ensures { result ≡ other_of m self.now.lower self.now.upper }
+    {
+        if self.lower == m {
+            return Other::Above(place_of(self.upper, m));
+        }
+        Other::Below(place_of(self.lower, m))
+    }
+
     // It holds on a row where measure m counts as x.
     #[tactic(auto, unfolding(crate::specs::Rules::pair_holds))]
     fn holds(&self, row: &[i32], m: u32, x: i32) -> bool
@@ -103,67 +113,119 @@ fn value_with(row: &[i32], m: u32, x: i32, k: u32) -> i32
 fn less_by(low: i32, g: i32, high: i32) -> bool
     ensures { result ≡ lt_z (low +ℤ g) high }
 {
-    exact::sum(low, g) < high as i64
+    exact::sum(low, g) < i64::from(high)
 }
 
 // ---- the index: which rules name a measure
 
-// At m where the namings of measure m begin, at m + 1 where they end, from 1 to 32; at 64 + m 1 if a firm rule names m; at MADE 1 if it was made. From 128 on
-// three numbers for each naming, those of a measure in the order of the rules: the rule's number from 0, the place of its other measure, its gap. The place is
-// from 0, 32 for none of 32 measures and 33 for m itself; it is put below 0, as -1 minus it, where m is the rule's upper measure. A rule has two namings at most.
-pub type Index = [i32; 512];
-
-const MADE: usize = 127;
-
-// Whether it was made, and not forgotten since.
-pub fn is_made(index: &Index) -> bool
-    ensures { result ≡ is_made index.now }
-{
-    exact::number(index[MADE]) == 1
+// Where the other measure of a rule stands that names measure m: above it, where m is the rule's lower measure, or below it. The place is from 0, 32 for none of 32
+// measures and 33 for m itself: numbers, so that one test, of the row's length, tells both from the row's places.
+#[derive(Clone, Copy)]
+pub enum Other {
+    Above(u8),
+    Below(u8),
 }
 
-// The rules may change: the index is no longer theirs.
-pub fn forget(index: &mut Index)
-    ensures { is_made index.new ≡ false }
-{
-    index[MADE] = 0;
+// A rule at a measure that it names: its number from 0, its other measure, its gap.
+#[derive(Clone, Copy)]
+pub struct Naming {
+    rule: u8,
+    other: Other,
+    gap: i32,
+}
+
+const NOWHERE: u8 = 32;
+
+const OWN: u8 = 33;
+
+const NO_NAMING: Naming = Naming {
+    rule: 0,
+    other: Other::Above(0),
+    gap: 0,
+};
+
+const FLAGS: usize = limit::MEASURES + 1;
+
+const ENDS: usize = FLAGS + 1;
+
+const NAMINGS: usize = 2 * limit::RULES;
+
+// For measures from 1 to 32: at m where its namings begin, at m + 1 where they end; whether a firm rule names it; and the namings, those of a measure in the order
+// of the rules. A rule has two namings at most.
+#[derive(Clone, Copy)]
+pub struct Index {
+    made: bool,
+    ends: [u8; ENDS],
+    firm: [bool; FLAGS],
+    namings: [Naming; NAMINGS],
+}
+
+// The index that says nothing: it was not made. A constant, so that it is set up at once.
+pub const NO_INDEX: Index = Index {
+    made: false,
+    ends: [0; ENDS],
+    firm: [false; FLAGS],
+    namings: [NO_NAMING; NAMINGS],
+};
+
+impl Index {
+    #[tactic(auto, unfolding(crate::specs::Index::is_made))]
+    pub fn new() -> Index
+        ensures { is_made result ≡ false }
+    {
+        NO_INDEX
+    }
+
+    // Whether it was made, and not forgotten since.
+    #[tactic(auto, unfolding(crate::specs::Index::is_made))]
+    pub fn is_made(&self) -> bool
+        ensures { result ≡ is_made self.now }
+    {
+        self.made
+    }
+
+    // The rules may change: the index is no longer theirs.
+    #[tactic(auto, unfolding(crate::specs::Index::is_made))]
+    pub fn forget(&mut self)
+        ensures { is_made self.new ≡ false }
+    {
+        self.made = false;
+    }
+
+    // The index of the first k rules: measure by measure, rule by rule, each naming behind the last.
+    pub fn of(table: &Table, k: u32) -> Index
+        ensures { Indexed result (lowers table.now) (gaps table.now) (uppers table.now) (firms table.now) (min k 64) ×
+            (is_made result ≡ true) }
+    {
+        let rules = rows::capped(k, limit::RULES);
+        let top = highest(table, rules);
+        let mut index = NO_INDEX;
+        let mut n: usize = 0;
+        for m in 1..FLAGS {
+            let measure = m as u32;
+            n = add_namings(&mut index.namings, table, rules, top, measure, n);
+            index.ends[m + 1] = n as u8;
+            index.firm[m] = firm_below(table, k, top, measure);
+        }
+        index.made = true;
+        index
+    }
 }
 
 // Where the other measure k of a rule that names measure m stands.
-fn place_of(k: u32, m: u32) -> i32
-    ensures { result ≡ pos (place_of m k) }
+fn place_of(k: u32, m: u32) -> u8
+    ensures { result ≡ place_of m k }
 {
     if k == m {
-        return 33;
+        return OWN;
     }
     if rows::one_to(limit::MEASURES, k) {
-        return (k - 1) as i32;
+        return (k - 1) as u8;
     }
-    32
+    NOWHERE
 }
 
-// The other measure of rule i, which names measure m.
-fn other_of(table: &Table, i: usize, m: u32) -> i32
-    requires { i < 64 }
-    ensures { result ≡ other_of m (get_or (lowers table.now) i 0) (get_or (uppers table.now) i 0) }
-{
-    let rule = &table[i];
-    if rule.lower == m {
-        return place_of(rule.upper, m);
-    }
-    exact::below(place_of(rule.lower, m))
-}
-
-fn put_naming(index: &mut Index, k: usize, i: i32, o: i32, g: i32)
-    requires { k < 128 }
-    ensures { index.new ≡ with_naming index.old k i o g }
-{
-    index[128 + 3 * k] = i;
-    index[129 + 3 * k] = o;
-    index[130 + 3 * k] = g;
-}
-
-// A number that no measure of the first rules is above.
+// The highest measure that the first rules name; 0 if there are none.
 fn highest(table: &Table, end: usize) -> u32
     requires { end ≤ 64 }
     ensures { result ≡ top_of (take end table.now) }
@@ -174,49 +236,33 @@ fn highest(table: &Table, end: usize) -> u32
 }
 
 // Puts the namings of measure m among the first rules, none of which names one above `top`, behind the n that there are, and gives how many there are then.
-fn add_namings(index: &mut Index, table: &Table, end: usize, top: u32, m: u32, n: usize) -> usize
-    requires { (length index.old ≡ 512) × (end ≤ 64) × NoneAbove (lowers table.now) (uppers table.now) end top ×
+fn add_namings(
+    namings: &mut [Naming; NAMINGS],
+    table: &Table,
+    end: usize,
+    top: u32,
+    m: u32,
+    n: usize,
+) -> usize
+    requires { (length namings.old ≡ 128) × (end ≤ 64) × NoneAbove (lowers table.now) (uppers table.now) end top ×
         (n + count (names_at (lowers table.now) (uppers table.now) m) (span 0 end (λ i. i)) ≤ 128) }
-    ensures { Added (lowers table.now) (gaps table.now) (uppers table.now) end m n result index.old index.new }
+    ensures { Added (lowers table.now) (gaps table.now) (uppers table.now) end m n result namings.old namings.new }
 {
     if top < m {
         return n;
     }
     let mut next = n;
-    for i in 0..end {
-        if table[i].names(m) {
-            put_naming(index, next, i as i32, other_of(table, i, m), table[i].gap);
+    for (i, rule) in table[..end].iter().enumerate() {
+        if rule.names(m) {
+            namings[next] = Naming {
+                rule: i as u8,
+                other: rule.other_of(m),
+                gap: rule.gap,
+            };
             next += 1;
         }
     }
     next
-}
-
-fn bit(t: bool) -> i32
-    ensures { result ≡ pos (bit_of t) }
-{
-    if t { 1 } else { 0 }
-}
-
-// The index of the first k rules: measure by measure, rule by rule, each naming behind the last.
-pub fn indexed(table: &Table, k: u32) -> Index
-    ensures { Indexed result (lowers table.now) (gaps table.now) (uppers table.now) (firms table.now) (min k 64) ×
-        (is_made result ≡ true) }
-{
-    let rules = rows::capped(k, limit::RULES);
-    let top = highest(table, rules);
-    let mut index = [0i32; 512];
-    let mut n: usize = 0;
-    let mut m: usize = 1;
-    while m < 33 {
-        let measure = m as u32;
-        n = add_namings(&mut index, table, rules, top, measure, n);
-        index[m + 1] = n as i32;
-        index[64 + m] = bit(firm_below(table, k, top, measure));
-        m += 1;
-    }
-    index[MADE] = 1;
-    index
 }
 
 // ---- the rules on a row
@@ -225,76 +271,57 @@ pub fn indexed(table: &Table, k: u32) -> Index
 fn listed(m: u32) -> usize
     ensures { (result ≡ listed_as m) × (result ≤ 32) }
 {
-    if m <= limit::MEASURE {
-        return m as usize;
-    }
-    0
-}
-
-// The size of a row of 32 measures at most.
-fn size_of(len: usize) -> usize
-    ensures { result ≡ min len 32 }
-{
-    if len < limit::MEASURES {
-        return len;
-    }
-    limit::MEASURES
+    if m <= limit::MEASURE { m as usize } else { 0 }
 }
 
 // What the gap of a rule is to be less than if its other measure is none of the row: z, where that counts as 0; or 0 at place 33, for the measure itself.
-fn far_limit(p: usize, z: i64) -> i64
+fn far_limit(p: u8, z: i64) -> i64
     ensures { result ≡ cond (eqb p 33) (pos 0) z }
 {
-    if p == 33 {
-        return 0;
-    }
-    z
+    if p == OWN { 0 } else { z }
 }
 
 // Whether a rule holds that names a measure, which counts as y: from its other measure and its gap, as the index has them, on a row. Nearly all tests are made
 // here. That each side has its own way to the end, and the far ones another test, is for speed: 14 or 17 instructions a rule (docs/DECISIONS.md).
-fn naming_holds(row: &[i32], y: i32, o: i32, g: i32) -> bool
+fn naming_holds(row: &[i32], y: i32, naming: &Naming) -> bool
     requires { length row.now ≤ 32 }
-    ensures { result ≡ side_holds (value row.now) y o g }
+    ensures { result ≡ naming_holds (value row.now) y naming.now }
 {
-    if o < 0 {
-        let p = exact::behind(o) as usize;
-        if p < row.len() {
-            return less_by(row[p], g, y);
-        }
-        return (g as i64) < far_limit(p, y as i64);
+    let g = naming.gap;
+    match naming.other {
+        Other::Below(p) => match row.get(usize::from(p)) {
+            Some(v) => less_by(*v, g, y),
+            None => i64::from(g) < far_limit(p, i64::from(y)),
+        },
+        Other::Above(p) => match row.get(usize::from(p)) {
+            Some(v) => less_by(y, g, *v),
+            None => i64::from(g) < far_limit(p, -i64::from(y)),
+        },
     }
-    let p = exact::number(o) as usize;
-    if p < row.len() {
-        return less_by(y, g, row[p]);
-    }
-    (g as i64) < far_limit(p, -(y as i64))
 }
 
 // The number of a broken rule among those that the index has for measure m, which counts as x, on a row of which the first 32 count: the first, last drawn first
-// (02, S-3); 0 if none is broken. Any numbers may stand there; with the rules' own index (`Indexed`) these are the rules that name m, so that where all held
-// before the number is that of `broken_of_all`. It stays so short that a compiler puts it into both its callers, which choose by what they know of the rules.
-pub fn broken_by_index<'a>(index: &'a Index, lent: &'a [i32], m: u32, x: i32) -> u32
-    ensures { result ≡ indexed_in index.now m x (take 32 lent.now) }
+// (02, S-3). Any namings may stand there; with the rules' own index (`Indexed`) these are the rules that name m, so that where all held before the number is that of
+// `broken_of_all`. It stays so short that a compiler puts it into each instance of `broken`.
+pub fn broken_by_index(index: &Index, lent: &[i32], m: u32, x: i32) -> Option<u32>
+    ensures { result ≡ numbered (indexed_in index.now m x (take 32 lent.now)) }
 {
-    let row = &lent[0..size_of(lent.len())];
+    let row = &lent[..lent.len().min(limit::MEASURES)];
     let y = value_with(row, m, x, m);
     let p = listed(m);
-    let first = exact::number(index[p]) as usize;
-    let last = rows::capped(exact::number(index[p + 1]), 128);
-    let mut left = rows::rest(last, first);
-    while 0 < left {
-        left -= 1;
-        let k = first + left;
-        if !naming_holds(row, y, index[129 + 3 * k], index[130 + 3 * k]) {
-            return exact::number(index[128 + 3 * k]) + 1;
+    let first = usize::from(index.ends[p]);
+    let last = usize::from(index.ends[p + 1]).min(NAMINGS);
+    for k in (first..last).rev() {
+        let naming = &index.namings[k];
+        if !naming_holds(row, y, naming) {
+            return Some(u32::from(naming.rule) + 1);
         }
     }
-    0
+    None
 }
 
 // The number of a broken rule among the first k, on a row where measure m counts as x: the first, last drawn first (02, S-3).
-pub fn broken_of_all<'a>(table: &'a Table, k: u32, row: &'a [i32], m: u32, x: i32) -> Option<u32>
+pub fn broken_of_all(table: &Table, k: u32, row: &[i32], m: u32, x: i32) -> Option<u32>
     ensures { result ≡ numbered (tested_in false m (lowers table.now) (gaps table.now) (uppers table.now) (min k 64) x row.now) }
 {
     for i in (0..rows::capped(k, limit::RULES)).rev() {
@@ -303,6 +330,33 @@ pub fn broken_of_all<'a>(table: &'a Table, k: u32, row: &'a [i32], m: u32, x: i3
         }
     }
     None
+}
+
+// The number of a broken rule, where measure m counts as x, on the row of n measures, 32 at most, that begins at a place of an array; beyond the array's end there is
+// no row. A caller that knows that all rules hold on the row says so (`sound`): then the index that is lent is asked, which, if it is the rules', has those that
+// name the measure, and the number is the same.
+pub fn broken<const N: usize>(
+    table: &Table,
+    k: u32,
+    index: &Index,
+    values: &[i32; N],
+    at: usize,
+    n: u32,
+    m: u32,
+    x: i32,
+    sound: bool,
+) -> Option<u32>
+    ensures { at + min n 32 ≤ N → result ≡ numbered (tested_by sound index.now m (lowers table.now) (gaps table.now) (uppers table.now)
+        (min k 64) x (row values.now at (min n 32))) }
+{
+    let vs = &values[..];
+    let end = at.saturating_add(rows::capped(n, limit::MEASURES)).min(N);
+    let row = &vs[at.min(end)..end];
+    if sound {
+        broken_by_index(index, row, m, x)
+    } else {
+        broken_of_all(table, k, row, m, x)
+    }
 }
 
 // ---- firm rules
@@ -325,11 +379,12 @@ fn firm_below(table: &Table, k: u32, top: u32, m: u32) -> bool
 }
 
 // The same from an index that a caller lends, where it knows that all rules hold (`sound`): the rules' own (`Indexed`) says the same.
-pub fn firm_in<'a>(table: &'a Table, k: u32, index: &'a Index, m: u32, sound: bool) -> bool
+pub fn firm_in(table: &Table, k: u32, index: &Index, m: u32, sound: bool) -> bool
     ensures { result ≡ firm_by sound index.now (lowers table.now) (uppers table.now) (firms table.now) (min k 64) m }
 {
     if sound {
-        return exact::number(index[64 + listed(m)]) == 1;
+        index.firm[listed(m)]
+    } else {
+        firm_named(table, k, m)
     }
-    firm_named(table, k, m)
 }

@@ -1,3 +1,4 @@
 pub mod Writes
 pub mod Widths
 pub mod Parts
+pub mod Counts

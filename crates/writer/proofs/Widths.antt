@@ -1,22 +1,12 @@
--- Laws of a number's sign, size and width. Assumes nothing.
-use Prim.Native.Nat.{ℕ, suc, ◌+◌, ◌*◌, ◌-◌, ◌<◌, ◌≤◌}
-use native.Mathlib.Omega.{arith}
-use mathlib.Core.Bool.{true, false}
-use mathlib.Core.Path.{◌≡◌, sym, ap, ◌∙◌, subst}
-use mathlib.Core.List.{List, [], ◌∷◌, ◌++◌}
+-- Laws of a number's sign and width, and of a row's. Assumes nothing.
+use Rattle.std.proofs.Common.{◌≡◌, ℕ, suc, ◌+◌, ◌*◌, ◌-◌, ◌<◌, ◌≤◌, true, false, List, [], ◌∷◌, ◌++◌, ℤ, pos, negsuc, nat_abs, leb, length, get_or, drop, sym, ap, ◌∙◌, subst, T, add-one, zero-add, arith, length-append, drop-cons}
+use Rattle.std.proofs.Math.ListN.{drop_of_length-le}
+use Rattle.std.specs.Int.Signed.{lt_z, mag}
 use borrow.Author.Tests.{ltb-true, leb-true, leb-false, le-leb, lt-leb}
-use lib.Dec.{T, leb}
-use lib.IntN.{ℤ, pos, negsuc, nat_abs, ◌-ℤ◌}
-use lib.ListN.{length, get_or, drop, length-append, drop_of_length-le}
-use lib.Seq.{drop-cons}
-use lib.Signed.{mag, lt_z}
-use native.Mathlib.Numerals.{add-one}
+use mir.Syntax.{w32}
+use mir.Val.{SFits, bool_byte, to_z, of_z}
+use Rattle.std.proofs.Math.Facts.{to_z-of_z}
 use Rattle.protocol.proofs.Laws.{cases}
-use native.Mathlib.Nat.{zero-add}
-use mir.Syntax.{w32, w64}
-use mir.Val.{SFits, to_z, of_z}
-use mir.Facts.{to_z-of_z}
-use Rattle.exact.proofs.Ints.{wide, fits64}
 use Rattle.format.specs.Sheets.{spaced}
 use Rattle.format.specs.Numbers.{minus, digits, written}
 use Rattle.format.specs.Lines.{space}
@@ -31,14 +21,38 @@ pub written-minus : (x : ℤ) → lt_z x (pos 0) ≡ true → written x ≡ minu
 written-minus (pos n) e = let l = ltb-true n 0 e in absurd (omega arith)
 written-minus (negsuc n) e = written_below n
 
+-- its length, with the bit of the test for a sign
+pub written_length : (x : ℤ) → length (written x) ≡ bool_byte (lt_z x (pos 0)) + length (digits (nat_abs x))
+written_length x = cases (lt_z x (pos 0))
+    (λ t. rw t (ap length (written-minus x t) ∙ one-add (length (digits (nat_abs x)))))
+    (λ t. rw t (ap length (written-plain x t) ∙ sym (zero-add (length (digits (nat_abs x))))))
+  where
+    one-add : (n : ℕ) → suc n ≡ 1 + n
+    one-add n = omega arith
+
+-- the same of a number as the code holds it
+module _ (x : ℤ) (size : ℕ) (h : SFits w32 x) (e : size ≡ nat_abs (to_z w32 (of_z w32 x))) where
+  pub length_read : length (written x) ≡ bool_byte (lt_z (to_z w32 (of_z w32 x)) (pos 0)) + length (digits size)
+  length_read = let r = to_z-of_z h in rw e (rw r (written_length x))
+
+  pub minus_read : lt_z (to_z w32 (of_z w32 x)) (pos 0) ≡ true → written x ≡ minus ∷ digits size
+  minus_read t = let r = to_z-of_z h in rw e (rw r (written-minus x (rw r at t)))
+
+  pub plain_read : lt_z (to_z w32 (of_z w32 x)) (pos 0) ≡ false → written x ≡ digits size
+  plain_read t = let r = to_z-of_z h in rw e (rw r (written-plain x (rw r at t)))
+
 -- ---- a row from one of its values on
 
-module _ (row : List ℤ) (i : ℕ) (h : i < length row) where
-  pub rest : spaced (drop i row) ≡ space ∷ written (get_or row i (pos 0)) ++ spaced (drop (i + 1) row)
-  rest = rw (add-one i, drop-cons row i (pos 0) h) (spaced_more (get_or row i (pos 0)) (drop (suc i) row))
+-- a value that was read is the row's
+pub value_read : (x : ℤ) → mag x < 2147483648 → to_z w32 (of_z w32 x) ≡ x
+value_read x h = to_z-of_z {w = w32} (record { sfits = h })
 
-  pub rest-length : length (spaced (drop i row)) ≡ suc (length (written (get_or row i (pos 0))) + length (spaced (drop (i + 1) row)))
-  rest-length = ap length rest ∙ ap suc (length-append (written (get_or row i (pos 0))) (spaced (drop (i + 1) row)))
+module _ (row : List ℤ) (i : ℕ) (x : ℤ) (h : i < length row) (is : x ≡ get_or row i (pos 0)) where
+  pub rest : spaced (drop i row) ≡ space ∷ written x ++ spaced (drop (i + 1) row)
+  rest = rw (add-one i, drop-cons row i (pos 0) h, is) (spaced_more (get_or row i (pos 0)) (drop (suc i) row))
+
+  pub rest-length : length (spaced (drop i row)) ≡ suc (length (written x) + length (spaced (drop (i + 1) row)))
+  rest-length = ap length rest ∙ ap suc (length-append (written x) (spaced (drop (i + 1) row)))
 
 pub rest-none : (row : List ℤ) (i : ℕ) → length row ≤ i → spaced (drop i row) ≡ []
 rest-none row i h = ap spaced (drop_of_length-le row {i = i} h) ∙ spaced-none
@@ -51,13 +65,13 @@ written_most (negsuc n) h = let e = ap length (written_below n) in let m = lengt
 
 -- the values before i are read
 abbrev pub Read : List ℤ → ℕ → Type 0
-Read row i = (i ≤ length row) × (length (spaced row) ≤ 12 * i + length (spaced (drop i row)))
+Read row i = length (spaced row) ≤ 12 * i + length (spaced (drop i row))
 
-pub read_next : (row : List ℤ) (i : ℕ) → Read row i → i < length row → mag (get_or row i (pos 0)) < 2147483648 → Read row (i + 1)
-read_next row i r h f = let l = rest-length row i h in let m = written_most (get_or row i (pos 0)) f in (omega arith, omega (arith, r.1))
+pub read_next : (row : List ℤ) (i : ℕ) (x : ℤ) → Read row i → i < length row → x ≡ get_or row i (pos 0) → mag x < 2147483648 → Read row (i + 1)
+read_next row i x r h is f = let l = rest-length row i x h is in let m = written_most x f in omega arith
 
-pub read_over : (row : List ℤ) (i : ℕ) → Read row i → length row ≤ i → length (spaced row) ≤ 12 * length row
-read_over row i r h = let e = ap length (rest-none row i h) in omega (arith, r.0, r.1)
+pub read_over : (row : List ℤ) (i : ℕ) → Read row i → i ≡ length row → length (spaced row) ≤ 12 * length row
+read_over row i r h = let e = ap length (rest-none row i (omega arith)) in omega arith
 
 -- ---- how much room is left
 
@@ -68,37 +82,19 @@ leb-same a b c d f g = cases (leb a b)
 
 -- whether the whole row has room is whether its rest has what is left
 abbrev pub Fitting : List ℤ → ℕ → ℕ → ℕ → Type 0
-Fitting row room left i = (i ≤ length row) × (leb (length (spaced row)) room ≡ leb (length (spaced (drop i row))) left)
+Fitting row room left i = leb (length (spaced row)) room ≡ leb (length (spaced (drop i row))) left
 
-module _ (row : List ℤ) (room left i : ℕ) (r : Fitting row room left i) (w : ℕ) where
-  here : i < length row → w ≡ length (written (get_or row i (pos 0))) → length (spaced (drop i row)) ≡ suc (w + length (spaced (drop (i + 1) row)))
-  here h e = rw e (rest-length row i h)
+module _ (row : List ℤ) (room left i : ℕ) (r : Fitting row room left i) where
+  module _ (x : ℤ) (w : ℕ) (h : i < length row) (is : x ≡ get_or row i (pos 0)) (e : w ≡ length (written x)) where
+    pub fitting_stop : left ≤ w → false ≡ leb (length (spaced row)) room
+    fitting_stop l = let k = rest-length row i x h is in sym (r ∙ lt-leb (length (spaced (drop i row))) left (omega arith))
 
-  pub fitting_stop : i < length row → w ≡ length (written (get_or row i (pos 0))) → left ≤ w → false ≡ leb (length (spaced row)) room
-  fitting_stop h e l = let k = here h e in sym (r.1 ∙ lt-leb (length (spaced (drop i row))) left (omega arith))
+    pub fitting_next : w < left → Fitting row room (left - (w + 1)) (i + 1)
+    fitting_next l =
+        let k = rest-length row i x h is in
+        r ∙ leb-same (length (spaced (drop i row))) left (length (spaced (drop (i + 1) row))) (left - (w + 1)) (λ p. omega arith) (λ p. omega arith)
 
-  pub fitting_next : i < length row → w ≡ length (written (get_or row i (pos 0))) → w < left → Fitting row room (left - (w + 1)) (i + 1)
-  fitting_next h e l =
-      let k = here h e in
-      (omega arith, r.1 ∙ leb-same (length (spaced (drop i row))) left (length (spaced (drop (i + 1) row))) (left - (w + 1)) (λ p. omega arith) (λ p. omega arith))
-
-pub fitting_over : (row : List ℤ) (room left i : ℕ) → Fitting row room left i → length row ≤ i → true ≡ leb (length (spaced row)) room
-fitting_over row room left i r h =
-    let e : length (spaced (drop i row)) ≡ 0 = ap length (rest-none row i h) in
-    sym (r.1 ∙ le-leb (length (spaced (drop i row))) left (omega arith))
-
--- ---- a number without its sign
-
-pub without_sign : (x : ℤ) → lt_z x (pos 0) ≡ true → pos 0 -ℤ x ≡ pos (nat_abs x)
-without_sign (pos n) e = let l = ltb-true n 0 e in absurd (omega arith)
-without_sign (negsuc n) e = ap pos (zero-add (suc n))
-
-pub size_most : (x : ℤ) → mag x < 2147483648 → nat_abs x ≤ 2147483648
-size_most (pos n) h = omega arith
-size_most (negsuc n) h = omega arith
-
--- what a number that is below 0 comes to, as an i64
-pub size_bits : (x : ℤ) → SFits w32 x → lt_z x (pos 0) ≡ true → to_z w64 (of_z w64 (pos 0 -ℤ to_z w64 (of_z w64 (to_z w32 (of_z w32 x))))) ≡ pos (nat_abs x)
-size_bits x p e =
-    let m = size_most x p.sfits in
-    rw (wide p, without_sign x e) (to_z-of_z (fits64 (pos (nat_abs x)) (omega arith)))
+  pub fitting_over : length row ≤ i → true ≡ leb (length (spaced row)) room
+  fitting_over h =
+      let e : length (spaced (drop i row)) ≡ 0 = ap length (rest-none row i h) in
+      sym (r ∙ le-leb (length (spaced (drop i row))) left (omega arith))

@@ -1,15 +1,14 @@
 // Writes one answer line (01, "The sheet program"): `ok` and the numbers given, `ok 0` where there are none, or `no` and the refusal.
 #![tactic(auto)]
 
-ghost use Rattle.std.specs.Prelude.{◌≡◌, [], ◌∷◌, ◌+◌, ◌-◌, ◌*◌, ◌≤◌, leb, nat_abs, length};
+ghost use Rattle.std.specs.Prelude.{◌≡◌, [], ◌+◌, ◌-◌, ◌*◌, ◌<◌, ◌≤◌, leb, length};
 ghost use Rattle.std.proofs.lemmas.List.Edits.{sets};
 ghost use Rattle.format.specs.Numbers.{digits, written};
-ghost use Rattle.format.specs.Lines.{space};
 ghost use Rattle.format.specs.Sheets.{spaced};
-ghost use Rattle.state.specs.declared.Answer.TheVariants as Answer;
-ghost use Rattle.writer.specs.Writes.{line_of, put_in, put_length, told_of, numbers_of, head_of, ended, parts_of};
+ghost use Rattle.writer.specs.Writes.{line_of, put_in, put_count, two_digits, told, numbers_told, head_of, ended, parts_of, unreadable};
 
-use state::Answer;
+use protocol::refusal::Refusal;
+use state::{Answer, Given};
 
 // ---- a number
 
@@ -17,71 +16,58 @@ use state::Answer;
 fn width(n: u32) -> usize
     ensures { (result ≡ length (digits n)) × (result ≤ 10) }
 {
-    if n < 10 {
-        return 1;
+    match n {
+        0..=9 => 1,
+        10..=99 => 2,
+        100..=999 => 3,
+        1_000..=9_999 => 4,
+        10_000..=99_999 => 5,
+        100_000..=999_999 => 6,
+        1_000_000..=9_999_999 => 7,
+        10_000_000..=99_999_999 => 8,
+        100_000_000..=999_999_999 => 9,
+        _ => 10,
     }
-    if n < 100 {
-        return 2;
-    }
-    if n < 1000 {
-        return 3;
-    }
-    if n < 10000 {
-        return 4;
-    }
-    if n < 100000 {
-        return 5;
-    }
-    if n < 1000000 {
-        return 6;
-    }
-    if n < 10000000 {
-        return 7;
-    }
-    if n < 100000000 {
-        return 8;
-    }
-    if n < 1000000000 {
-        return 9;
-    }
-    10
+}
+
+// Two digits up to a place. The second is what the quotient leaves, which compiles to less than `n % 10`.
+fn put_two(n: u32, end: usize, area: &mut [u8])
+    requires { (n < 100) × (2 ≤ end) × (end ≤ length area.old) }
+    ensures { area.new ≡ sets area.old (end - 2) (two_digits n) }
+{
+    let ten = n / 10;
+    area[end - 2] = b'0' + ten as u8;
+    area[end - 1] = b'0' + (n - ten * 10) as u8;
 }
 
 // The digits of n up to a place, written from the last to the first, two at a time; the place where they begin.
-// `m % 100` tells a compiler that the two are below 100; a digit is what the quotient leaves, which compiles to less than `m % 10`.
 fn put_back(n: u32, end: usize, area: &mut [u8]) -> usize
     requires { (length (digits n) ≤ end) × (end ≤ length area.old) }
-    ensures { (area.new ≡ sets area.old result (digits n)) × (result ≡ end - length (digits n)) }
+    ensures { (area.new ≡ sets area.old result (digits n)) × (result + length (digits n) ≡ end) }
 {
     let mut m = n;
     let mut i = end;
     while 100 <= m {
-        let q = m / 100;
-        let r = m % 100;
-        let t = r / 10;
-        area[i - 1] = (48 + (r - t * 10)) as u8;
-        area[i - 2] = (48 + t) as u8;
+        put_two(m % 100, i, area);
         i -= 2;
-        m = q;
+        m /= 100;
     }
     if 10 <= m {
-        let q = m / 10;
-        area[i - 1] = (48 + (m - q * 10)) as u8;
-        area[i - 2] = (48 + q) as u8;
+        put_two(m, i, area);
         return i - 2;
     }
-    i -= 1;
-    area[i] = (48 + m) as u8;
-    i
+    area[i - 1] = b'0' + m as u8;
+    i - 1
 }
 
 // A space and the digits of n up to a place; the place where they begin.
+#[tactic(auto, using(crate::proofs::Writes::sets_before))]
 fn put_spaced(n: u32, end: usize, area: &mut [u8]) -> usize
-    requires { (length (space ∷ digits n) ≤ end) × (end ≤ length area.old) }
-    ensures { (area.new ≡ sets area.old result (space ∷ digits n)) × (result ≡ end - length (space ∷ digits n)) }
+    requires { (length (told n) ≤ end) × (end ≤ length area.old) }
+    ensures { (area.new ≡ sets area.old result (told n)) × (result + length (told n) ≡ end) }
 {
     let at = put_back(n, end, area) - 1;
-    area[at] = 32;
+    area[at] = b' ';
     at
 }
 
@@ -95,46 +81,35 @@ fn put_digits(n: u32, at: usize, area: &mut [u8]) -> usize
     end
 }
 
-// A number without its sign.
-fn size(x: i32) -> u32
-    ensures { result ≡ nat_abs x }
-{
-    if x < 0 {
-        return (-(x as i64)) as u32;
-    }
-    x as u32
-}
-
+#[tactic(auto, using(crate::proofs::Widths::length_read))]
 fn signed_width(x: i32) -> usize
     ensures { (result ≡ length (written x)) × (result ≤ 11) }
 {
-    if x < 0 {
-        return 1 + width(size(x));
-    }
-    width(size(x))
+    usize::from(x < 0) + width(x.unsigned_abs())
 }
 
+#[tactic(auto, using(crate::proofs::Widths::minus_read, crate::proofs::Widths::plain_read, crate::proofs::Writes::sets_more))]
 fn put_signed(x: i32, at: usize, area: &mut [u8]) -> usize
     requires { at + length (written x) ≤ length area.old }
     ensures { (area.new ≡ sets area.old at (written x)) × (result ≡ at + length (written x)) }
 {
+    let size = x.unsigned_abs();
     if x < 0 {
-        area[at] = 45;
-        return put_digits(size(x), at + 1, area);
+        area[at] = b'-';
+        return put_digits(size, at + 1, area);
     }
-    put_digits(size(x), at, area)
+    put_digits(size, at, area)
 }
 
 // ---- a row
 
-// A value has at most 11 bytes and a space. The loop only lets the proof see that each value is an i32: it changes nothing, and a compiler drops it.
+// A value has at most 11 bytes and a space. The loop changes nothing, and a compiler drops it: that a value of a slice is an i32 the proof knows only once it is read.
+#[tactic(auto, using(crate::proofs::Widths::read_next, crate::proofs::Widths::read_over))]
 fn row_most(row: &[i32])
     ensures { length (spaced row.now) ≤ 12 * length row.now }
 {
-    let mut i: usize = 0;
-    while i < row.len() {
-        let _x = row[i];
-        i += 1;
+    for &x in row {
+        let _x = x;
     }
 }
 
@@ -143,184 +118,142 @@ fn row_most(row: &[i32])
 fn row_fits(row: &[i32], room: usize) -> bool
     ensures { result ≡ leb (length (spaced row.now)) room }
 {
-    if row.len() <= 32 {
-        if 384 <= room {
-            row_most(row);
-            return true;
-        }
+    if row.len() <= 32 && 384 <= room {
+        row_most(row);
+        return true;
     }
     let mut left = room;
-    let mut i: usize = 0;
-    while i < row.len() {
-        let x = row[i];
+    for &x in row {
         let w = signed_width(x);
         if left <= w {
             return false;
         }
         left -= w + 1;
-        i += 1;
     }
     true
 }
 
-fn put_row<'a>(row: &'a [i32], at: usize, area: &mut [u8]) -> usize
+fn put_row(row: &[i32], at: usize, area: &mut [u8]) -> usize
     requires { at + length (spaced row.now) ≤ length area.old }
     ensures { (area.new ≡ sets area.old at (spaced row.now)) × (result ≡ at + length (spaced row.now)) }
 {
     let mut end = at;
-    let mut i: usize = 0;
-    while i < row.len() {
-        let x = row[i];
-        area[end] = 32;
+    for &x in row {
+        area[end] = b' ';
         end = put_signed(x, end + 1, area);
-        i += 1;
     }
     end
 }
 
-// ---- two letters, and the numbers given: the first `count` of three, each behind a space
+// ---- two letters, and the numbers given, each behind a space
 
-// How many bytes the number at place i has with its space: none, if it is not given.
-fn told_width(i: u32, count: u32, n: u32) -> usize
-    ensures { (result ≡ length (told_of i count n)) × (result ≤ 11) }
+fn numbers_width(given: Given) -> usize
+    ensures { (result ≡ length (numbers_told given)) × (result ≤ 33) }
 {
-    if i < count {
-        return 1 + width(n);
+    match given {
+        Given::Nothing => 0,
+        Given::One(a) => 1 + width(a),
+        Given::Two(a, b) => 2 + width(a) + width(b),
+        Given::Three(a, b, c) => 3 + width(a) + width(b) + width(c),
     }
-    0
-}
-
-// The number at place i up to a place, if it is given; the place where it begins.
-fn put_told(i: u32, count: u32, n: u32, end: usize, area: &mut [u8]) -> usize
-    requires { (length (told_of i count n) ≤ end) × (end ≤ length area.old) }
-    ensures { (area.new ≡ sets area.old result (told_of i count n)) × (result ≡ end - length (told_of i count n)) }
-{
-    if i < count {
-        return put_spaced(n, end, area);
-    }
-    end
-}
-
-fn numbers_width(count: u32, a: u32, b: u32, c: u32) -> usize
-    ensures { (result ≡ length (numbers_of count a b c)) × (result ≤ 33) }
-{
-    told_width(0, count, a) + told_width(1, count, b) + told_width(2, count, c)
 }
 
 // The numbers up to a place, the last first; the place where they begin.
-fn put_numbers(count: u32, a: u32, b: u32, c: u32, end: usize, area: &mut [u8]) -> usize
-    requires { (length (numbers_of count a b c) ≤ end) × (end ≤ length area.old) }
-    ensures { (area.new ≡ sets area.old result (numbers_of count a b c)) × (result ≡ end - length (numbers_of count a b c)) }
+fn put_numbers(given: Given, end: usize, area: &mut [u8]) -> usize
+    requires { (length (numbers_told given) ≤ end) × (end ≤ length area.old) }
+    ensures { (area.new ≡ sets area.old result (numbers_told given)) × (result + length (numbers_told given) ≡ end) }
 {
-    let third = put_told(2, count, c, end, area);
-    let second = put_told(1, count, b, third, area);
-    put_told(0, count, a, second, area)
+    match given {
+        Given::Nothing => end,
+        Given::One(first) => put_spaced(first, end, area),
+        Given::Two(first, second) => {
+            let middle = put_spaced(second, end, area);
+            put_spaced(first, middle, area)
+        }
+        Given::Three(first, second, third) => {
+            let last = put_spaced(third, end, area);
+            let middle = put_spaced(second, last, area);
+            put_spaced(first, middle, area)
+        }
+    }
 }
 
 // Two letters and the numbers up to an end, which is known.
-fn put_head(first: u8, second: u8, count: u32, a: u32, b: u32, c: u32, end: usize, area: &mut [u8])
-    requires { (end ≡ length (head_of first second count a b c)) × (end ≤ length area.old) }
-    ensures { area.new ≡ sets area.old 0 (head_of first second count a b c) }
+fn put_head(letters: [u8; 2], given: Given, end: usize, area: &mut [u8])
+    requires { (end ≡ length (head_of letters given)) × (end ≤ length area.old) }
+    ensures { area.new ≡ sets area.old 0 (head_of letters given) }
 {
-    area[0] = first;
-    area[1] = second;
-    put_numbers(count, a, b, c, end, area);
+    area[0] = letters[0];
+    area[1] = letters[1];
+    put_numbers(given, end, area);
 }
 
 // ---- a line
 
 // With a row behind. The parts of the line are measured before the first byte is written.
-fn put_parts(count: u32, a: u32, b: u32, c: u32, row: &[i32], area: &mut [u8]) -> usize
-    ensures { (area.new ≡ put_in (parts_of count a b c row.now) area.old) × (result ≡ put_length (parts_of count a b c row.now) area.old) }
+fn put_parts(given: Given, row: &[i32], area: &mut [u8]) -> Option<usize>
+    ensures { (area.new ≡ put_in (parts_of given row.now) area.old) × (result ≡ put_count (parts_of given row.now) area.old) }
 {
-    let w = 2 + numbers_width(count, a, b, c);
-    let room = area.len();
-    if room <= w {
-        return 0;
+    let letters = *b"ok";
+    let w = letters.len() + numbers_width(given);
+    let room = area.len().checked_sub(w + 1)?;
+    if !row_fits(row, room) {
+        return None;
     }
-    if !row_fits(row, room - w - 1) {
-        return 0;
-    }
-    put_head(111, 107, count, a, b, c, w, area);
+    put_head(letters, given, w, area);
     let end = put_row(row, w, area);
-    area[end] = 10;
-    end + 1
+    area[end] = b'\n';
+    Some(end + 1)
 }
 
 // With no row behind, as nearly all are.
-fn put_line(first: u8, second: u8, count: u32, a: u32, b: u32, c: u32, area: &mut [u8]) -> usize
-    ensures { (area.new ≡ put_in (ended (head_of first second count a b c)) area.old) × (result ≡ put_length (ended (head_of first second count a b c)) area.old) }
+fn put_line(letters: [u8; 2], given: Given, area: &mut [u8]) -> Option<usize>
+    ensures { (area.new ≡ put_in (ended (head_of letters given)) area.old) × (result ≡ put_count (ended (head_of letters given)) area.old) }
 {
-    let w = 2 + numbers_width(count, a, b, c);
+    let w = letters.len() + numbers_width(given);
     if area.len() <= w {
-        return 0;
+        return None;
     }
-    put_head(first, second, count, a, b, c, w, area);
-    area[w] = 10;
-    w + 1
+    put_head(letters, given, w, area);
+    area[w] = b'\n';
+    Some(w + 1)
 }
 
-// ---- a refusal
-
-// `no 51`, the answer to every line that cannot be read, as it stands.
-fn put_unreadable(area: &mut [u8]) -> usize
-    ensures { (area.new ≡ put_in (ended (head_of 110 111 1 51 0 0)) area.old) × (result ≡ put_length (ended (head_of 110 111 1 51 0 0)) area.old) }
+// The answer to every line that cannot be read, as it stands.
+fn put_unreadable(area: &mut [u8]) -> Option<usize>
+    ensures { (area.new ≡ put_in unreadable area.old) × (result ≡ put_count unreadable area.old) }
 {
-    if area.len() < 6 {
-        return 0;
+    let line = b"no 51\n";
+    if area.len() < line.len() {
+        return None;
     }
-    area[0] = 110;
-    area[1] = 111;
-    area[2] = 32;
-    area[3] = 53;
-    area[4] = 49;
-    area[5] = 10;
-    6
+    area[..line.len()].copy_from_slice(line);
+    Some(line.len())
 }
 
-fn put_refusal(k: u32, area: &mut [u8]) -> usize
-    ensures { (area.new ≡ put_in (ended (head_of 110 111 1 k 0 0)) area.old) × (result ≡ put_length (ended (head_of 110 111 1 k 0 0)) area.old) }
+// Numbers alone. No number is told as 0. One number, as nearly all answers have, has a call of its own for speed alone: in it their count is known when
+// the code is compiled.
+#[tactic(auto, using(crate::proofs::Parts::line_nothing, crate::proofs::Parts::line_alone))]
+fn put_alone(given: Given, area: &mut [u8]) -> Option<usize>
+    ensures { (area.new ≡ put_in (line_of (Ok given) []) area.old) × (result ≡ put_count (line_of (Ok given) []) area.old) }
 {
-    if k == 51 {
-        return put_unreadable(area);
+    match given {
+        Given::Nothing => put_line(*b"ok", Given::One(0), area),
+        Given::One(n) => put_line(*b"ok", Given::One(n), area),
+        _ => put_line(*b"ok", given, area),
     }
-    put_line(110, 111, 1, k, 0, 0, area)
 }
-
-// ---- numbers given
-
-// No number is told as 0. One number, as nearly all have, has a call of its own for speed alone: in it the count is known when the code is compiled.
-fn put_alone(count: u32, a: u32, b: u32, c: u32, area: &mut [u8]) -> usize
-    ensures { (area.new ≡ put_in (line_of (Answer.Given count a b c) []) area.old) × (result ≡ put_length (line_of (Answer.Given count a b c) []) area.old) }
-{
-    if 1 < count {
-        return put_line(111, 107, count, a, b, c, area);
-    }
-    if count == 0 {
-        return put_line(111, 107, 1, 0, 0, 0, area);
-    }
-    put_line(111, 107, 1, a, 0, 0, area)
-}
-
-fn put_given(count: u32, a: u32, b: u32, c: u32, row: &[i32], area: &mut [u8]) -> usize
-    ensures { (area.new ≡ put_in (line_of (Answer.Given count a b c) row.now) area.old)
-        × (result ≡ put_length (line_of (Answer.Given count a b c) row.now) area.old) }
-{
-    if row.len() == 0 {
-        return put_alone(count, a, b, c, area);
-    }
-    put_parts(count, a, b, c, row, area)
-}
-
-// ---- any line
 
 // The line of an answer whose numbers are its own and those of a row behind them, put into the front of an area that has room for it.
-// Gives the line's length, or 0 where it does not fit and the area is left as it was. A refusal has one number, and no row behind.
-pub fn put(answer: Answer, row: &[i32], area: &mut [u8]) -> usize
-    ensures { (area.new ≡ put_in (line_of answer row.now) area.old) × (result ≡ put_length (line_of answer row.now) area.old) }
+// Gives the line's length; where it does not fit there is none, and the area is left as it was. A refusal has one number, and no row behind.
+#[tactic(auto, using(crate::proofs::Parts::line_refused, crate::proofs::Parts::line_unreadable, crate::proofs::Parts::line_behind))]
+pub fn put(answer: Answer, row: &[i32], area: &mut [u8]) -> Option<usize>
+    ensures { (area.new ≡ put_in (line_of answer row.now) area.old) × (result ≡ put_count (line_of answer row.now) area.old) }
 {
     match answer {
-        Answer::Refused(k, _) => put_refusal(k, area),
-        Answer::Given(count, a, b, c) => put_given(count, a, b, c, row, area),
+        Err(Refusal::Unreadable) => put_unreadable(area),
+        Err(refusal) => put_line(*b"no", Given::One(refusal.number()), area),
+        Ok(given) if row.is_empty() => put_alone(given, area),
+        Ok(given) => put_parts(given, row, area),
     }
 }

@@ -1,4 +1,3 @@
-use native.Mathlib.Omega.{arith}
 use mathlib.Core.Path.{refl, sym, ap, ap₂, ◌∙◌}
 use native.Mathlib.Numerals.{add-one}
 use lib.ListN.{set}
@@ -9,12 +8,12 @@ use Rattle.query.proofs.unsent_counts.Goals as goal
 
 pub loop-i-init : goal.loop-i-init
 unfolding unsent_counts
-loop-i-init c = (omega arith, refl)
+loop-i-init c = refl
 
 pub loop-i-preserved : goal.loop-i-preserved
 unfolding unsent_counts
 loop-i-preserved c =
     let i = c.loop-i.i in
-    let h = c.args.h in
-    let es = c.args.edits in
-    (omega arith, ap₂ (λ cs n. set cs i n) c.loop-i.invariant.1 (c.count-n.ensures.0 ∙ ap (λ s. unsent_of s (kept_of h es)) (add-one i)) ∙ sym (ap (unsent_counts h es) (add-one i)))
+    let h = c.args.h.now in
+    let es = c.args.edits.now in
+    ap₂ (λ cs n. set cs i n) c.loop-i.invariant (c.count.ensures.0 ∙ ap (λ s. unsent_of s (kept_of h es)) (add-one i)) ∙ sym (ap (unsent_counts h es) (add-one i))

@@ -1,9 +1,5 @@
-use Prim.Native.Nat.{◌-◌}
-use Rattle.reader.proofs.Names.{Packing}
+use Rattle.reader.proofs.Names.{Reaching}
 use Rattle.reader.proofs.read_name.Given as goal
 
-abbrev pub invariant-loop-i : goal.invariant-loop-i
-invariant-loop-i l = Packing l.sheet l.code l.i
-
-abbrev pub decreases-loop-i : goal.decreases-loop-i
-decreases-loop-i l = 7 - l.i
+abbrev pub invariant-loop-next : goal.invariant-loop-next
+invariant-loop-next l = Reaching l.sheet l.next

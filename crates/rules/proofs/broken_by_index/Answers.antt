@@ -1,114 +1,64 @@
-use Prim.Native.Nat.{ℕ, suc, ◌+◌, ◌-◌, ◌*◌, min}
+use Prim.Native.Nat.{ℕ, suc, ◌+◌, ◌-◌, ◌<◌, min}
 use native.Mathlib.Omega.{arith}
 use native.Mathlib.Numerals.{add-one}
-use mathlib.Core.List.{List}
-use mathlib.Core.Path.{◌≡◌, sym, ap, ◌∙◌}
-use lib.IntN.{ℤ, pos}
-use lib.ListN.{get_or, take}
+use mathlib.Core.List.{List, ◌∷◌, reverse}
+use mathlib.Core.Path.{◌≡◌, refl, sym, ap, ◌∙◌}
+use lib.IntN.{ℤ}
+use lib.ListN.{length, take}
+use lib.Signed.{mag}
+use mathlib.Core.Bool.{Bool}
 use mir.Syntax.{w32}
-use mir.Val.{to_z, of_z}
+use mir.Val.{to_z, of_z, SFits}
 use mir.Facts.{to_z-of_z}
+use Rattle.std.proofs.Common.{Some}
 use Rattle.exact.proofs.Ints.{fits32}
-use Rattle.protocol.specs.Lists.{natural, first_not}
+use Rattle.protocol.specs.Lists.{first_not}
 use Rattle.protocol.specs.Plan.{value}
 use Rattle.protocol.proofs.Broken.{walk-next, walk-stop}
+use Rattle.rows.specs.Rows.{span}
 use Rattle.rows.proofs.Spans.{take-least, back_next, back_over}
-use Rattle.rules.specs.Rules.{with_value}
-use Rattle.rules.specs.Index.{naming_holds, number_of, naming_at, side_holds, indexed_in}
-use Rattle.rules.proofs.Index.{reading_begin}
+use Rattle.rules.specs.declared.Naming.{Naming}
+use Rattle.rules.specs.declared.Index.{Index}
+use Rattle.rules.specs.Rules.{numbered, with_value}
+use Rattle.rules.specs.Index.{naming_holds, number_of, naming_at, indexed_in}
+use Rattle.rules.proofs.Namings.{reading_begin}
 use Rattle.rules.proofs.broken_by_index.Goals as goal
-use Rattle.rules.proofs.broken_by_index.Lts as lts
-use Rattle.rules.proofs.broken_by_index.Tie as tie
-use Rattle.rules.proofs.broken_by_index.Reads as reads
 
-abbrev At-Start : Type 0
-At-Start = lts.Start tie.the-claims reads.Pre reads.Post goal.the-invariant-loop-left goal.the-decreases-loop-left
+-- what is left of the walk back
+back : (first k : ℕ) (f : ℕ → Naming) → first < k → reverse (span first (k - first) f) ≡ f (k - 1) ∷ reverse (span first (k - 1 - first) f)
+back first k f h =
+    let a : first + (k - first - 1) ≡ k - 1 = omega arith in
+    let b : k - first - 1 ≡ k - 1 - first = omega arith in
+    back_next first (k - first) f (omega arith) ∙ (λ j. f (a j) ∷ reverse (span first (b j) f))
 
-abbrev At-After-size_of : Type 0
-At-After-size_of = lts.After-size_of tie.the-claims reads.Pre reads.Post goal.the-invariant-loop-left goal.the-decreases-loop-left
+-- The row is that of the first 32 values, and it is tested as it was given.
+exactly : (index : Index) (m : ℕ) (x : ℤ) (lent : List ℤ) (n : ℕ) → SFits w32 x → n ≡ min (length lent) 32
+    → indexed_in index m (to_z w32 (of_z w32 x)) (take n lent) ≡ indexed_in index m x (take 32 lent)
+exactly index m x lent n f e = let vs = ap (λ k. take k lent) e ∙ take-least 32 lent in λ j. indexed_in index m (to_z-of_z f j) (vs j)
 
-abbrev At-In-loop-left : Type 0
-At-In-loop-left = lts.In-loop tie.the-claims reads.Pre reads.Post goal.the-invariant-loop-left goal.the-decreases-loop-left
+-- it is tested as the index has it
+tested : (vs : List ℤ) (m : ℕ) (x y : ℤ) (naming : Naming) {r : Bool} → mag y < 2147483648 → y ≡ value (with_value m x vs) m → r ≡ naming_holds (value vs) (to_z w32 (of_z w32 y)) naming
+    → naming_holds (value vs) (value (with_value m x vs) m) naming ≡ r
+tested vs m x y naming f e h = sym (h ∙ ap (λ z. naming_holds (value vs) z naming) (to_z-of_z (fits32 y f) ∙ e))
 
-abbrev At-After-naming_holds : Type 0
-At-After-naming_holds = lts.After-naming_holds tie.the-claims reads.Pre reads.Post goal.the-invariant-loop-left goal.the-decreases-loop-left
-
--- The row is that of the first 32 values,
-row_is : (c : At-After-size_of) → take (c.size_of.result - 0) c.args.lent.now ≡ take 32 c.args.lent.now
-row_is c =
-    let l = c.args.lent.now in
-    let e : c.size_of.result - 0 ≡ c.size_of.result = omega arith in
-    ap (λ k. take k l) (e ∙ c.size_of.ensures) ∙ take-least 32 l
-
--- and it is tested as it was given.
-exactly : (c : At-After-size_of) → let a = c.args in
-    indexed_in a.index.now a.m (to_z w32 (of_z w32 a.x)) (take (c.size_of.result - 0) a.lent.now) ≡ indexed_in a.index.now a.m a.x (take 32 a.lent.now)
-exactly c =
-    let a = c.args in
-    let x = to_z-of_z c.ranges.x in
-    let vs = row_is c in
-    λ j. indexed_in a.index.now a.m (x j) (vs j)
-
--- it is tested
-module _ (c : At-After-naming_holds) where
-  abbrev walk : At-In-loop-left
-  walk = c.before.before.before
-
-  abbrev start : At-Start
-  start = walk.before.before.before.before.before.before.before.before.before.before.before.before
-
-  abbrev at_hand : ℕ
-  at_hand = walk.number-first.result + (walk.loop-left.left - 1)
-
-  abbrev vs : List ℤ
-  vs = take (walk.size_of.result - 0) start.args.lent.now
-
-  tested : c.naming_holds.result ≡ naming_holds (value vs) (value (with_value start.args.m (to_z w32 (of_z w32 start.args.x)) vs) start.args.m) (naming_at start.args.index.now at_hand)
-  tested =
-      let y = walk.value_with-y in
-      let i = start.args.index.now in
-      let to-y = to_z-of_z (fits32 y.result y.type_inv) ∙ y.ensures in
-      let to-o = to_z-of_z (fits32 (get_or i (129 + 3 * at_hand) (pos 0)) c.naming_holds-arg-1.given) in
-      let to-g = to_z-of_z (fits32 (get_or i (130 + 3 * at_hand) (pos 0)) c.naming_holds-arg-in-loop-left-1.given) in
-      c.naming_holds.ensures ∙ (λ j. side_holds (value vs) (to-y j) (to-o j) (to-g j))
-
--- its rule's number, from 0
-numbered : (c : goal.After-number-then-not-naming_holds) → let b = c.before.before.before in c.number-then-not-naming_holds.result ≡ natural (get_or (start b).args.index.now (128 + 3 * at_hand b) (pos 0))
-numbered c =
-    let b = c.before.before.before in
-    c.number-then-not-naming_holds.ensures ∙ ap natural (to_z-of_z (fits32 (get_or (start b).args.index.now (128 + 3 * at_hand b) (pos 0)) c.number-arg-then-not-naming_holds-1.given))
-
-pub loop-left-init : goal.loop-left-init
-loop-left-init c = let a = c.args in
-    let i = a.index.now in
-    let p = c.listed-p in
-    let first = c.number-first in
-    let last = c.capped-last in
-    let r = c.rest-left.ensures in (
-      omega arith,
-      reading_begin i a.m _ _ p.result first.result last.result c.rest-left.result p.ensures.0
-          (first.ensures ∙ ap natural (to_z-of_z (fits32 (get_or i p.result (pos 0)) c.number-arg-1.given)))
-          (last.ensures ∙ ap (λ n. min n 128) (c.number.ensures ∙ ap natural (to_z-of_z (fits32 (get_or i (p.result + 1) (pos 0)) c.number-arg-2-1.given))))
-          r,
-    )
+pub loop-k-init : goal.loop-k-init
+loop-k-init c = let a = c.args in
+    reading_begin a.index.now a.m _ _ c.listed-p.result c.from-first.result c.min-last.result (c.min-last.result - c.from-first.result) c.listed-p.ensures.0 c.from-first.ensures
+    (c.min-last.ensures ∙ ap (λ n. min n 128) c.from.ensures) refl
 
 pub returns-then-not-naming_holds : goal.returns-then-not-naming_holds
-returns-then-not-naming_holds c = let b = c.before.before.before in
-    let i = (start b).args.index.now in
-    add-one c.number-then-not-naming_holds.result ∙ ap suc (numbered c)
-    ∙ walk-stop _ number_of (walk b).loop-left.invariant.1 (back_next _ (walk b).loop-left.left (naming_at i) (omega (arith, (walk b).loop-left-test.true)))
-    (sym (tested b) ∙ c.if-not-naming_holds.true)
-    ∙ exactly (walk b).before.before.before.before.before.before.before.before.before.before.before
+returns-then-not-naming_holds c = let a = c.args in
+    ap Some (add-one c.from-then-not-naming_holds.result)
+    ∙ ap numbered (ap suc c.from-then-not-naming_holds.ensures
+    ∙ walk-stop _ number_of c.loop-k.invariant (back c.from-first.result c.loop-k.k (naming_at a.index.now.namings) (omega arith)) (tested (take c.min.result a.lent.now) a.m (to_z w32 (of_z w32 a.x)) c.value_with-y.result (naming_at a.index.now.namings (c.loop-k.k - 1)) c.value_with-y.type_inv c.value_with-y.ensures c.naming_holds.ensures ∙ c.if-not-naming_holds.true)
+    ∙ exactly a.index.now a.m a.x a.lent.now c.min.result c.ranges.x c.min.ensures)
 
-pub loop-left-preserved : goal.loop-left-preserved
-loop-left-preserved c = let b = c.before in
-    let i = (start b).args.index.now in
-    let few = (walk b).loop-left.invariant.0 in (
-      omega arith,
-      walk-next _ number_of (walk b).loop-left.invariant.1 (back_next _ (walk b).loop-left.left (naming_at i) (omega (arith, (walk b).loop-left-test.true))) (sym (tested b) ∙ c.if-not-naming_holds.false),
-    )
+pub loop-k-preserved : goal.loop-k-preserved
+loop-k-preserved c = let a = c.args in
+    walk-next _ number_of c.loop-k.invariant (back c.from-first.result c.loop-k.k (naming_at a.index.now.namings) (omega arith))
+    (tested (take c.min.result a.lent.now) a.m (to_z w32 (of_z w32 a.x)) c.value_with-y.result (naming_at a.index.now.namings (c.loop-k.k - 1)) c.value_with-y.type_inv c.value_with-y.ensures c.naming_holds.ensures ∙ c.if-not-naming_holds.false)
 
 pub returns : goal.returns
-returns c = let w = c.before in
-    let s = w.before.before.before.before.before.before.before.before.before.before in
-    sym (w.loop-left.invariant.1 ∙ ap (first_not _ number_of) (back_over _ w.loop-left.left (naming_at s.args.index.now) (omega arith))) ∙ exactly s
+returns c = let a = c.args in
+    ap numbered (sym (c.loop-k.invariant ∙ ap (first_not _ number_of) (back_over c.from-first.result (c.loop-k.k - c.from-first.result) (naming_at a.index.now.namings) (omega arith)))
+    ∙ exactly a.index.now a.m a.x a.lent.now c.min.result c.ranges.x c.min.ensures)
