@@ -1,36 +1,34 @@
-use Prim.Native.Nat.{◌-◌, min}
+use Prim.Native.Nat.{◌-◌}
 use native.Mathlib.Omega.{arith}
-use mathlib.Core.Path.{◌≡◌, ap, ◌∙◌}
+use mathlib.Core.Path.{◌≡◌, refl, ap, ◌∙◌}
 use lib.ListN.{length, take}
 use mir.Facts.{to_z-of_z}
+use borrow.Author.Rules.{rules}
 use Rattle.rows.specs.Rows.{row}
 use Rattle.rows.proofs.Spans.{front-row, row_most}
+use Rattle.rules.specs.Rules.{numbered}
 use Rattle.rules.proofs.Index.{asked_index, asked-all}
-use borrow.Author.Rules.{rules}
+use Rattle.replay.specs.Replays.{draft_in}
+use Rattle.replay.proofs.Trials.{as_numbered}
 use Rattle.replay.proofs.broken.Goals as goal
-use Rattle.replay.proofs.broken.Lts as lts
-use Rattle.replay.proofs.broken.Tie as tie
-use Rattle.replay.proofs.broken.Reads as reads
+use Rattle.replay.proofs.broken.Goals.{After-capped}
 
-abbrev At-After-vs-1 : Type 0
-At-After-vs-1 = lts.After-vs tie.the-claims reads.Pre reads.Post
-
-full : (c : At-After-vs-1) → length c.args.draft.now ≡ 32
-full c = search rules
-
--- the part of the draft is its row
-part : (c : At-After-vs-1) → let a = c.args in take (c.capped-size.result - 0) a.draft.now ≡ row a.draft.now 0 (min a.n 32)
+-- the front of the draft is its row
+part : (c : After-capped) → let p = c.args.p.now in take c.capped.result p.draft ≡ draft_in p.head p.draft
 part c =
-    let a = c.args in
-    let size = c.capped-size in
-    front-row a.draft.now size.result (let l = full c in let e = size.ensures in omega arith) ∙ ap (row a.draft.now 0) size.ensures
+    let p = c.args.p.now in
+    let full : length p.draft ≡ 32 = search rules in
+    let size = c.capped.ensures in
+    ap (λ k. take k p.draft) (let z : c.capped.result ≡ c.capped.result - 0 = omega arith in z) ∙ front-row p.draft c.capped.result (omega (arith, size, full)) ∙ ap (row p.draft 0) size
 
 pub returns-then-sound : goal.returns-then-sound
-returns-then-sound c = let v = c.before.before.before in
-    let a = v.args in
-    asked_index a.sound a.index.now a.m _ _ _ _ (to_z-of_z v.ranges.x) (part v) c.if-sound.true c.broken_by_index.ensures (row_most a.draft.now 0 a.n 32)
+returns-then-sound c =
+    let a = c.args in
+    c.then_some.ensures ∙ as_numbered c.broken_by_index-rule.result
+    ∙ ap numbered (asked_index a.sound a.index.now a.m _ _ _ _ (to_z-of_z c.ranges.x) (part c.before.before.before.before) c.if-sound.true c.broken_by_index-rule.ensures
+    (row_most a.p.now.draft 0 a.p.now.head.drafted 32))
 
 pub returns : goal.returns
-returns c = let v = c.before.before.before in
-    let a = v.args in
-    asked-all a.sound a.index.now a.m _ _ _ _ (to_z-of_z v.ranges.x) (part v) c.if-sound.false c.broken_of_all.ensures
+returns c =
+    let a = c.args in
+    c.broken_of_all.ensures ∙ ap numbered (asked-all a.sound a.index.now a.m _ _ _ _ (to_z-of_z c.ranges.x) (part c.before.before.before) c.if-sound.false refl)
