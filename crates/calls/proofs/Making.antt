@@ -24,7 +24,7 @@ use Rattle.format.specs.Sheets.{step_of}
 use Rattle.rows.specs.Rows.{row}
 use Rattle.rows.proofs.Spans.{length-span}
 use Rattle.rules.specs.declared.Index.{Index}
-use Rattle.rules.specs.Index.{is_made}
+use Rattle.rules.specs.Index.{is_made, IndexedIf}
 use Rattle.heads.specs.Heads.{mode_of, sides_in, index_of, offset_of, measures_in, kept_in, end_in}
 use Rattle.records.specs.Records.{kept_of, kept_at, no_record}
 use Rattle.state.specs.declared.State.{State}
@@ -36,14 +36,17 @@ use Rattle.state.proofs.Meets.{fine_pass}
 use Rattle.counts.specs.declared.Tallies.{Tallies}
 use Rattle.counts.specs.Tallies.{Tallied, unsent_in, noted}
 use Rattle.moves.specs.Moves.{SameRules, Unsent}
-use Rattle.counts.proofs.Counting.{tally_after, tallied-after}
+use Rattle.counts.proofs.Counting.{tally_after, tallied-after, missing_unset}
+use Rattle.edit.specs.Edits as edits
+use Rattle.replay.specs.Replays as replays
+use Rattle.protocol.specs.declared.call.Edit.{Edit as Edited}
 use Rattle.query.specs.Reads.{show_checks}
 use Rattle.query.proofs.Readings.{show_checks_lem, shown-row}
 use Rattle.reader.specs.Reads.{called}
 use Rattle.writer.specs.Writes.{with_row}
 use Rattle.calls.specs.declared.Beside.{Beside}
 use Rattle.calls.specs.declared.Told.{Told}
-use Rattle.calls.specs.Makes.{SoundIn, ReadyIn, Changes, Noted, Made, is_draw, side_named}
+use Rattle.calls.specs.Makes.{SoundIn, ReadyIn, Readied, Changes, Noted, Made, Shows, is_draw, side_named}
 
 -- ---- an answer
 
@@ -232,4 +235,50 @@ module _ (c : Call) {p q : State} {a : Answer} {b b' : Beside} (w : Changes c p 
     tallied = λ h. subst (λ t. Tallied t (view q)) (sym w.counts) (tallied-refused c w.makes b.counts h n);
     indexed = λ x. subst (λ z. ReadyIn (spread z) b'.index) (sym (refused-same a n w.makes.same)) (w.indexed x);
     sound = w.sound;
+  }
+
+-- ---- a call that leaves the plan
+
+show_plan : (p : Plan) (s : ℤ) (room : ℕ) → (step (show s room) p).plan ≡ p
+unfolding step after
+show_plan p s room = by (first (checks (show s room) p))
+  where
+    by : (v : Verdict) → (step_by v (show s room) p).plan ≡ p
+    by fine = refl
+    by (refused k) = refl
+
+all_same : (a : Answer) (p : State) → IfRefused a (p ≡ p)
+all_same (Err r) p = refl
+all_same (Ok g) p = tt
+
+pub showed : (p : State) (b : Beside) (s : ℤ) (r : Told) → Shows p s r → Made (Some (Show s)) p b r p b
+showed p b s r e = record {
+  answer = e;
+  plan = sym (show_plan (view p) s measure_limit);
+  same = all_same r.answer p;
+  tallied = λ h. h;
+  indexed = λ h. h;
+  sound = refl;
+}
+
+-- ---- edit and replay, with the index made ready
+
+module _ {p q : State} {a : Answer} {b b' : Beside} (r : Readied p b b') where
+  pub readied : (c : Call) → Makes (asked c) p a q → SameRules p q → Changes c p b a q b'
+  readied c m s = record { makes = m; rules = λ e. s; counts = r.counts; sound = r.sound; indexed = r.still }
+
+  -- where the index is asked it is the rules' own
+  theirs : (b.sound ≡ true → ReadyIn (spread p) b.index) → IndexedIf b'.sound b'.index (spread p).lower (spread p).gap (spread p).upper (spread p).firm (min p.head.rules 64)
+  theirs i y = let s = sym r.sound ∙ y in r.asked s (i s) refl
+
+  pub edit-trusted : (e : Edited) → SoundIn b.sound (spread p) → (b.sound ≡ true → ReadyIn (spread p) b.index) → edits.Trusted b'.sound b'.index p e
+  edit-trusted e h i = record { indexed = λ d. theirs i; held = λ y. side_holds p (h (sym r.sound ∙ y)) (natural e.side) }
+
+  pub replay-trusted : Tallied b.counts (view p) → SoundIn b.sound (spread p) → (b.sound ≡ true → ReadyIn (spread p) b.index)
+      → replays.Trusted p b'.counts.missing b'.counts.settled b'.index b'.sound
+  replay-trusted t h i = record {
+    missing = λ a. ap (λ u. u.missing) r.counts ∙ missing_unset (spread p) b.counts t a;
+    settled = λ a. ap (λ u. u.settled) r.counts ∙ t.counted.settled;
+    indexed = λ a. theirs i;
+    held = λ y a. yes_is _ ((h (sym r.sound ∙ y)).draft a);
   }

@@ -121,7 +121,18 @@ fn changed(call: Call, p: &mut State, beside: &mut Beside) -> Answer
         }
         Call::Join => moves::join(p),
         Call::Send(s) => moves::send(p, s, unsent(&beside.counts, s)),
-        Call::Replay(_) => Err(Refusal::WrongMode),
+        Call::Replay(n) => {
+            beside.ready(p);
+            let counts = &beside.counts;
+            replay::replay(
+                p,
+                n,
+                counts.missing,
+                counts.settled,
+                &beside.index,
+                beside.sound,
+            )
+        }
         Call::Stop => moves::stop(p, beside.counts.waiting),
         Call::Confirm(s) => moves::confirm(p, s, unsent(&beside.counts, s)),
         Call::Install => moves::install(p, beside.counts.waiting),
@@ -158,13 +169,20 @@ fn show(p: &State, s: i32) -> Told
     }
 }
 
+// With no values besides.
+fn bare(answer: Answer) -> Told
+    ensures { result ≡ record { answer = answer; shown = None } }
+{
+    Told {
+        answer,
+        shown: None,
+    }
+}
+
 fn refused(refusal: Refusal) -> Told
     ensures { result ≡ record { answer = Err refusal; shown = None } }
 {
-    Told {
-        answer: Err(refusal),
-        shown: None,
-    }
+    bare(Err(refusal))
 }
 
 // The call of a line, if it has one.
@@ -174,9 +192,6 @@ pub fn make(call: Option<Call>, p: &mut State, beside: &mut Beside) -> Told
     match call {
         None => refused(Refusal::Unreadable),
         Some(Call::Show(s)) => show(p, s),
-        Some(call) => Told {
-            answer: noted(call, p, beside),
-            shown: None,
-        },
+        Some(call) => bare(noted(call, p, beside)),
     }
 }

@@ -4,11 +4,12 @@ use mir.Syntax.{w32}
 use mir.Val.{to_z, of_z}
 use Rattle.protocol.specs.Lists.{natural}
 use Rattle.protocol.specs.Calls as model
-use Rattle.protocol.specs.declared.call.Call.TheVariants.{Rule, Edit, Send, Confirm, Fate, Left}
+use Rattle.protocol.specs.declared.call.Call.TheVariants.{Rule, Edit, Send, Replay, Confirm, Fate, Left}
+use Rattle.heads.specs.declared.Head.{Head}
 use Rattle.state.specs.View.{view}
 use Rattle.state.specs.Meets.{Makes}
 use Rattle.calls.specs.Makes.{Changes}
-use Rattle.calls.proofs.Making.{drawn, moved, rule-same, unsent_is, read, fate-plan, left_plan}
+use Rattle.calls.proofs.Making.{drawn, moved, rule-same, unsent_is, read, fate-plan, left_plan, readied, edit-trusted, replay-trusted}
 use Rattle.calls.proofs.changed.Goals as goal
 
 pub returns-in-Rule : goal.returns-in-Rule
@@ -21,7 +22,20 @@ returns-in-Rule c k =
     rw i.is (drawn c.args.beside.now (Rule i.lower i.gap i.upper i.firm) (rule-same l g u f c.rule.ensures.makes) refl)
 
 pub returns-in-Edit : goal.returns-in-Edit
-returns-in-Edit c k = ?
+returns-in-Edit c k =
+    let e = c.in-Edit.e in
+    let w = rw c.in-Edit.is at k in
+    let m = c.edit.ensures.step (edit-trusted c.ready.ensures e w.held w.indexed) in
+    rw c.in-Edit.is (readied c.ready.ensures (Edit e) m c.edit.ensures.rules)
+
+pub returns-in-Replay : goal.returns-in-Replay
+returns-in-Replay c k =
+    let n = c.in-Replay.n in
+    let z : to_z w32 (of_z w32 n) ≡ n = search rules in
+    let w = rw c.in-Replay.is at k in
+    let m = c.replay.ensures.step (replay-trusted c.ready-in-Replay.ensures (w.tallied refl) w.held w.indexed) in
+    let r = c.replay.ensures.rules in
+    rw c.in-Replay.is (readied c.ready-in-Replay.ensures (Replay n) (subst (λ x. Makes (model.replay x) c.args.p.now c.replay.result c.replay.new.p) z m) (r.0, ap (λ (h : Head). h.rules) r.1))
 
 pub returns-in-Send : goal.returns-in-Send
 returns-in-Send c k =
