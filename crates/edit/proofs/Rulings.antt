@@ -9,7 +9,7 @@ use lib.Dec.{eqb, eqb-suc-zero}
 use lib.IntN.{ℤ, pos}
 use lib.ListN.{get_or}
 use borrow.Author.Tests.{eq-eqb}
-use Rattle.std.specs.Prelude.{Option, Some, None, Result, Ok, Err}
+use Rattle.std.specs.Prelude.{Some, None, Result, Ok, Err}
 use Rattle.protocol.specs.Lists.{is_none, any, natural, one_to}
 use Rattle.protocol.specs.Asked.{number_of, verdict_of}
 use Rattle.protocol.specs.Plan.{is, whole, allowed, in_range, applied, fits, value}
@@ -25,14 +25,14 @@ use Rattle.rows.specs.Rows.{row}
 use Rattle.rules.specs.Rules.{RuleTest, numbered}
 use Rattle.rules.specs.Index.{FirmTest}
 use Rattle.rules.proofs.Rules.{value_row}
-use Rattle.heads.specs.Heads.{mode_of, sides_in, offset_of, measures_in, position_of, end_in, kept_in, named_at, seat}
+use Rattle.heads.specs.Heads.{mode_of, sides_in, offset_of, measures_in, end_in, kept_in, named_at, seat}
 use Rattle.records.specs.Records.{kept_at, looked, found_at}
 use Rattle.records.proofs.Records.{Placed, placed, looked_record}
 use Rattle.state.specs.Spread.{Spread, named_in}
 use Rattle.state.proofs.Meets.{fine_pass}
 use Rattle.state.proofs.View.{row-length}
 use Rattle.edit.specs.declared.Granted.{Granted}
-use Rattle.edit.specs.Edits.{place_checks, room_checks, edit_checks, row_of, asks, result_of, rule_by, frozen_by, checks_by, Ruled, spot_of}
+use Rattle.edit.specs.Edits.{place_checks, room_checks, row_of, asks, result_of, rule_by, frozen_by, checks_by, Ruled, spot_of}
 
 -- ---- parts
 
