@@ -169,12 +169,29 @@ fn show(p: &State, s: i32) -> Told
     }
 }
 
+// With no values besides.
+fn bare(answer: Answer) -> Told
+    ensures { result ≡ record { answer = answer; shown = None } }
+{
+    Told {
+        answer,
+        shown: None,
+    }
+}
+
 fn refused(refusal: Refusal) -> Told
     ensures { result ≡ record { answer = Err refusal; shown = None } }
 {
-    Told {
-        answer: Err(refusal),
-        shown: None,
+    bare(Err(refusal))
+}
+
+// Any call.
+fn call_told(call: Call, p: &mut State, beside: &mut Beside) -> Told
+    ensures { Known call beside.old p.old → Made (Some call) p.old beside.old result p.new beside.new }
+{
+    match call {
+        Call::Show(s) => show(p, s),
+        _ => bare(noted(call, p, beside)),
     }
 }
 
@@ -184,10 +201,6 @@ pub fn make(call: Option<Call>, p: &mut State, beside: &mut Beside) -> Told
 {
     match call {
         None => refused(Refusal::Unreadable),
-        Some(Call::Show(s)) => show(p, s),
-        Some(call) => Told {
-            answer: noted(call, p, beside),
-            shown: None,
-        },
+        Some(call) => call_told(call, p, beside),
     }
 }
