@@ -6,10 +6,10 @@ use mathlib.Core.Bool.{Bool, true, false, not, cond}
 use mathlib.Core.List.{List, [], ◌∷◌, ◌++◌, append-nil, append_assoc}
 use borrow.Author.Tests.{lt-ltb, le-ltb, leb-true}
 use borrow.Rule.Slice.PartMut.{put_mid}
-use lib.Dec.{leb, ltb}
+use lib.Dec.{leb}
 use lib.ListN.{length, take, drop, length-append, length-take, length-drop, drop_of_length-le, take-append-drop}
 use lib.Seq.{drop-drop, take_all, take_at, drop_at}
-use Rattle.std.specs.Prelude.{Option, Some, None}
+use Rattle.std.specs.Prelude.{Option, Some, None, IfSome}
 use Rattle.protocol.specs.Plan.{Plan}
 use Rattle.protocol.proofs.Laws.{is_yes}
 use Rattle.format.specs.Lines.{lines}
@@ -171,8 +171,11 @@ still_long at xs ys h e =
     let r = ap length (lent_rest at xs) in let d = length-drop at xs in let t = length-take at xs in let a = length-append (take at xs) ys in
     ap length (put_back at xs ys) ∙ omega (arith, h, e, r, d, t, a)
 
-lent_most : (at : ℕ) (xs : List ℕ) → length (lent_from at xs) ≡ length xs - at
+pub lent_most : (at : ℕ) (xs : List ℕ) → length (lent_from at xs) ≡ length xs - at
 lent_most at xs = ap length (lent_rest at xs) ∙ length-drop at xs
+
+pub most_put : {put : Option ℕ} {room : ℕ} → IfSome put (λ n. n ≤ room) → (n : ℕ) → put ≡ Some n → n ≤ room
+most_put {room = room} h n e = subst (λ o. IfSome o (λ k. k ≤ room)) e h
 
 -- ---- the loop's invariant
 

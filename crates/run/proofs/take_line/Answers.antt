@@ -1,6 +1,5 @@
 use Rattle.reader.proofs.Cut.{up_to-length}
 use Rattle.format.specs.Lines.{line_feed}
-use mathlib.Core.Path.{◌≡◌}
 use native.Mathlib.Omega.{arith}
 use Rattle.run.proofs.Taking.{known, answered}
 use Rattle.run.proofs.take_line.Goals as goal
