@@ -1,4 +1,4 @@
--- Scaffolding: the checks of a file, by what they read of the state; the head with the file's number. Assumes nothing.
+-- Scaffolding: the checks of a file, by what they read of the state. Assumes nothing.
 use Rattle.std.specs.Prelude.{ℕ, Bool, ◌&&◌, List, ◌∷◌}
 use Rattle.protocol.specs.Lists.{is_none}
 use Rattle.protocol.specs.Plan.{blank, is}
@@ -13,6 +13,3 @@ untouched_in h = is blank (mode_of h.mode) && is_none h.measures && is_none h.ru
 
 abbrev pub head_checks : List ℕ → Head → List Check
 head_checks f h = (31 unless untouched_in h) ∷ file_checks f
-
-abbrev pub renumbered_head : Head → ℕ → Head
-renumbered_head h n = record { mode = h.mode; measures = h.measures; rules = h.rules; added = h.added; kept = h.kept; next = n; mark = h.mark; based = h.based; drafted = h.drafted }

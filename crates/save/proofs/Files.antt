@@ -1,25 +1,44 @@
 -- A file from its slots, written one behind the other; and what the call gives by its tests. Assumes nothing.
-use Rattle.std.proofs.Common.{◌≡◌, ℕ, suc, ◌+◌, ◌*◌, ◌/◌, ◌<◌, ◌≤◌, min, true, false, List, [], ◌∷◌, ◌++◌, length, take, drop, ℤ, pos, sym, refl, ap, ◌∙◌, ap₂, append_assoc, arith, length-append, take_all, take_at, drop_at, le-leb}
+use Rattle.std.proofs.Common.{◌≡◌, ℕ, zero, suc, ◌+◌, ◌*◌, ◌/◌, ◌<◌, ◌≤◌, min, true, false, List, [], ◌∷◌, ◌++◌, length, get_or, map, take, drop, ℤ, pos, sym, refl, ap, ◌∙◌, ap₂, append_assoc, arith, length-append, take_all, take_at, drop_at, le-leb}
 use borrow.Author.Tests.{lt-leb}
 use lib.Seq.{sets}
-use Rattle.protocol.specs.Plan.{Rule, whole, is}
+use Rattle.protocol.specs.Plan as model
+use Rattle.protocol.specs.Plan.{whole, is}
 use Rattle.protocol.specs.Calls.{ok}
+use Rattle.protocol.specs.declared.refusal.Refusal.TheVariants.{WrongMode, NoRoom}
 use Rattle.file.specs.Bytes.{total, balancing}
 use Rattle.file.specs.Saved.{measure_slot, rule_slot, slots_from, chains, heading, check_word, file_of, saved, save_checks, save, save_into}
 use Rattle.file.proofs.Sums.{length-slots, measure_16, rule_16, heading_16, file-length}
 use Rattle.format.specs.Sheets.{in_front}
 use Rattle.format.proofs.Fronts.{sets_front}
 use Rattle.heads.specs.Heads.{mode_of, measures_in}
-use Rattle.rows.specs.Rows.{row}
-use Rattle.rows.proofs.Spans.{length-span}
+use lib.Seq.{drop-cons}
+use Rattle.rows.specs.Rows.{row, span}
+use Rattle.rows.proofs.Spans.{length-span, span_same}
+use Rattle.rules.specs.declared.Rule.{Rule}
+use Rattle.rules.proofs.Table.{none, at_lower, at_gap, at_upper, at_firm}
 use Rattle.slots.proofs.Words.{sets_both}
 use Rattle.state.specs.declared.State.{State}
 use Rattle.state.specs.Meets.{refusal, number}
 use Rattle.state.specs.Spread.{spread}
 use Rattle.state.specs.View.{view}
 use Rattle.state.proofs.View.{first-row, row-length}
-use Rattle.save.specs.Parts.{head_of, rule_at, rules_of, MeetsSave}
+use Rattle.save.specs.Parts.{head_of, rule_of, rules_of, MeetsSave}
 use Rattle.save.proofs.Slots.{start_link}
+
+-- ---- the first rules of a table, as the protocol has them
+
+module _ (table : List Rule) where
+  rules_from : (i n : ℕ) → i + n ≤ length table → map rule_of (take n (drop i table)) ≡ span i n (λ k. rule_of (get_or table k none))
+  rules_from i zero h = refl
+  rules_from i (suc n) h =
+      ap (λ rs. map rule_of (take (suc n) rs)) (drop-cons table i none (omega arith))
+      ∙ ap {B = List model.Rule} (λ rs. rule_of (get_or table i none) ∷ rs) (rules_from (suc i) n (omega arith))
+
+  pub rules-are : (m : ℕ) → m ≤ length table → map rule_of (take m table) ≡ rules_of table m
+  rules-are m h =
+      rules_from 0 m (omega arith)
+      ∙ span_same 0 m _ _ (λ k a b j. record { lower = sym (at_lower table k) j; gap = sym (at_gap table k) j; upper = sym (at_upper table k) j; firm = sym (at_firm table k) j })
 
 -- ---- the front of an area
 
@@ -39,7 +58,7 @@ front_anew area old new rest e h =
 
 -- ---- the file of a plan with n measures and m rules
 
-module _ (vs : List ℤ) (rs : List Rule) (next n m : ℕ) (p : length vs ≡ n) (q : length rs ≡ m) where
+module _ (vs : List ℤ) (rs : List model.Rule) (next n m : ℕ) (p : length vs ≡ n) (q : length rs ≡ m) where
   head-is : (check : ℕ) → head_of n m next check ≡ heading vs rs next check
   head-is check =
       let e : suc (length vs) ≡ 1 + n = omega arith in
@@ -108,7 +127,7 @@ module _ (p : State) where
   abbrev pub values : List ℤ
   values = row p.values 0 (measures_in p.head)
 
-  abbrev pub rules : List Rule
+  abbrev pub rules : List model.Rule
   rules = rules_of p.table (min p.head.rules 64)
 
   -- what is saved, from the state's parts
@@ -119,17 +138,17 @@ module _ (p : State) where
   pub saved-size : length (saved (view p)) ≡ 16 * (1 + measures_in p.head + min p.head.rules 64)
   saved-size =
       let a = row-length p.values 0 (measures_in p.head) in
-      let b = length-span 0 (min p.head.rules 64) (rule_at p.table) in
+      let b : length rules ≡ min p.head.rules 64 = length-span 0 (min p.head.rules 64) _ in
       let c = file-length values rules p.head.next in
       ap length saved-is ∙ omega arith
 
   -- refused, which leaves the area
-  pub save_31 : (area : List ℕ) → is whole (mode_of p.head.mode) ≡ false → MeetsSave (view p) area (refusal 31) area
+  pub save_31 : (area : List ℕ) → is whole (mode_of p.head.mode) ≡ false → MeetsSave (view p) area (refusal WrongMode) area
   unfolding save save_into save_checks
   save_31 area e = rw e (refl, refl)
 
   module _ (area : List ℕ) (size : ℕ) (e : is whole (mode_of p.head.mode) ≡ true) (s : size ≡ length (saved (view p))) where
-    pub save_41 : length area < size → MeetsSave (view p) area (refusal 41) area
+    pub save_41 : length area < size → MeetsSave (view p) area (refusal NoRoom) area
     unfolding save save_into save_checks
     save_41 h = rw (e, lt-leb (length (saved (view p))) (length area) (omega arith)) (refl, refl)
 

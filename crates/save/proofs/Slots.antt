@@ -1,12 +1,11 @@
 -- The slots of a saved plan as words, and written one behind the other. Assumes nothing.
-use Rattle.std.proofs.Common.{◌≡◌, ℕ, suc, ◌+◌, ◌-◌, ◌*◌, ◌/◌, ◌%◌, ◌<◌, ◌≤◌, Bool, true, false, List, [], ◌∷◌, ◌++◌, length, ℤ, sym, ap, ◌∙◌, ap₂, append_assoc, arith, le-ltb, lt-ltb}
+use Rattle.std.proofs.Common.{◌≡◌, ℕ, suc, ◌+◌, ◌-◌, ◌*◌, ◌/◌, ◌%◌, ◌<◌, ◌≤◌, Bool, true, false, List, [], ◌∷◌, ◌++◌, length, get_or, drop, ℤ, sym, ap, ◌∙◌, ap₂, append_assoc, arith, le-ltb, lt-ltb, length-drop, drop_of_length-le}
+use Rattle.std.proofs.lemmas.List.{drop_more}
 use lib.Seq.{sets, length-sets}
 use Rattle.protocol.specs.Plan.{Rule}
 use Rattle.file.specs.Bytes.{word_size, two_bytes, four_bytes, complement, measure_kind, rule_kind, mark, balancing}
 use Rattle.file.specs.Saved.{slot_zero, measure_slot, rule_slot, start_at, slots_from}
 use Rattle.file.proofs.Sums.{balancing_only}
-use Rattle.rows.specs.Rows.{span}
-use Rattle.rows.proofs.Spans.{length-span, span-next, span-over}
 use Rattle.slots.specs.declared.Slot.{Slot}
 use Rattle.slots.specs.Words.{joined_word, bytes_of, put_in}
 use Rattle.slots.proofs.Words.{sets_both}
@@ -90,41 +89,42 @@ module _ {A : Type 0} where
   start_link k n [] e = rw (le-ltb k (k + n) (omega arith))
   start_link k n (x ∷ xs) e = rw (lt-ltb k (k + n) (omega arith))
 
-  -- The area once slots are written from slot k + i on, for the rest of n.
-  unfoldable pub full : (ℕ → A → List ℕ) → ℕ → ℕ → (ℕ → A) → List ℕ → ℕ → List ℕ
-  full slot k n f area i = sets area (16 * (k + i)) (slots_from slot (k + i) (span i (n - i) f))
+  -- The area once the slots of a list are written from slot k + i on, for the elements from i on.
+  unfoldable pub full : (ℕ → A → List ℕ) → ℕ → List A → List ℕ → ℕ → List ℕ
+  full slot k xs area i = sets area (16 * (k + i)) (slots_from slot (k + i) (drop i xs))
 
-  pub full-first : (slot : ℕ → A → List ℕ) (k n : ℕ) (f : ℕ → A) (area : List ℕ) → full slot k n f area 0 ≡ sets area (16 * k) (slots_from slot k (span 0 n f))
+  pub full-first : (slot : ℕ → A → List ℕ) (k : ℕ) (xs : List A) (area : List ℕ) → full slot k xs area 0 ≡ sets area (16 * k) (slots_from slot k xs)
   unfolding full
-  full-first slot k n f area = let e : k + 0 ≡ k = omega arith in let d : n - 0 ≡ n = omega arith in rw (e, d)
+  full-first slot k xs area = let e : k + 0 ≡ k = omega arith in rw e
 
-  pub full-last : (slot : ℕ → A → List ℕ) (k n : ℕ) (f : ℕ → A) (area : List ℕ) (i : ℕ) → n ≤ i → full slot k n f area i ≡ area
+  pub full-last : (slot : ℕ → A → List ℕ) (k : ℕ) (xs : List A) (area : List ℕ) (i : ℕ) → length xs ≤ i → full slot k xs area i ≡ area
   unfolding full
-  full-last slot k n f area i h = rw (span-over i n f h)
+  full-last slot k xs area i h = rw (drop_of_length-le xs {i = i} h)
 
-  module _ (slot : ℕ → A → List ℕ) (size : (n : ℕ) (x : A) → length (slot n x) ≡ 16) (k n : ℕ) (f : ℕ → A) (area : List ℕ) (i : ℕ) (h : i < n) where
-    full-next : full slot k n f area i ≡ full slot k n f (sets area (16 * (k + i)) (slot (link_to (k + i + 1) (k + n)) (f i))) (i + 1)
+  module _ (slot : ℕ → A → List ℕ) (size : (n : ℕ) (x : A) → length (slot n x) ≡ 16) (k : ℕ) (xs : List A) (none : A) (area : List ℕ) (i : ℕ) (h : i < length xs) where
+    full-next : full slot k xs area i ≡ full slot k xs (sets area (16 * (k + i)) (slot (link_to (k + i + 1) (k + length xs)) (get_or xs i none))) (i + 1)
     unfolding full
     full-next =
-        let rest = span (i + 1) (n - (i + 1)) f in
-        let l = length-span (i + 1) (n - (i + 1)) f in
+        let rest = drop (i + 1) xs in
+        let x = get_or xs i none in
+        let l = length-drop (i + 1) xs in
         let e : suc (k + i) ≡ k + (i + 1) = omega arith in
         let d : k + i + 1 ≡ suc (k + i) = omega arith in
-        let g : suc (k + i) + (n - (i + 1)) ≡ k + n = omega arith in
-        let one = slot (link_to (k + i + 1) (k + n)) (f i) in
-        let s : slot (start_at (suc (k + i)) rest) (f i) ≡ one = ap (λ m. slot m (f i)) (start_link (suc (k + i)) (n - (i + 1)) rest l ∙ rw (g, d)) in
-        let z = size (link_to (k + i + 1) (k + n)) (f i) in
+        let g : suc (k + i) + (length xs - (i + 1)) ≡ k + length xs = omega arith in
+        let one = slot (link_to (k + i + 1) (k + length xs)) x in
+        let s : slot (start_at (suc (k + i)) rest) x ≡ one = ap (λ m. slot m x) (start_link (suc (k + i)) (length xs - (i + 1)) rest l ∙ rw (g, d)) in
+        let z = size (link_to (k + i + 1) (k + length xs)) x in
         let at : 16 * (k + i) + length one ≡ 16 * (k + (i + 1)) = omega arith in
-        ap (λ xs. sets area (16 * (k + i)) (slots_from slot (k + i) xs)) (span-next i n f h)
+        ap (λ ys. sets area (16 * (k + i)) (slots_from slot (k + i) ys)) (drop_more xs i none h)
         ∙ ap (λ bs. sets area (16 * (k + i)) (bs ++ slots_from slot (suc (k + i)) rest)) s
         ∙ sym (sets_both one (slots_from slot (suc (k + i)) rest) area (16 * (k + i)))
         ∙ ap₂ (λ m j. sets (sets area (16 * (k + i)) one) m (slots_from slot j rest)) at e
 
     -- one slot more, put where it belongs
-    pub full_put : (next : List ℕ) (w : Slot) (l : ℕ) → 16 * (k + n) ≤ length area → next ≡ put_in area (k + i) w → bytes_of w ≡ slot l (f i) → l ≡ link_to (k + i + 1) (k + n)
-        → full slot k n f next (i + 1) ≡ full slot k n f area i
+    pub full_put : (next : List ℕ) (w : Slot) (l : ℕ) → 16 * (k + length xs) ≤ length area → next ≡ put_in area (k + i) w → bytes_of w ≡ slot l (get_or xs i none)
+        → l ≡ link_to (k + i + 1) (k + length xs) → full slot k xs next (i + 1) ≡ full slot k xs area i
     full_put next w l r e b p =
-        ap (λ a. full slot k n f a (i + 1)) (e ∙ put_sets area (k + i) w (omega arith) ∙ ap (sets area (16 * (k + i))) (b ∙ ap (λ m. slot m (f i)) p)) ∙ sym full-next
+        ap (λ a. full slot k xs a (i + 1)) (e ∙ put_sets area (k + i) w (omega arith) ∙ ap (sets area (16 * (k + i))) (b ∙ ap (λ m. slot m (get_or xs i none)) p)) ∙ sym full-next
 
 -- ---- the check word
 

@@ -1,20 +1,18 @@
-use mathlib.Core.Path.{refl}
+use Rattle.std.proofs.Common.{◌≡◌, rules, Err}
 use Rattle.load.proofs.Reading.{sized-parts}
-use Rattle.load.proofs.Drawing.{words-any, drawing_begin, drawing_ends, drawing_on}
+use Rattle.load.proofs.Drawing.{words_any, along_begin, along_refused, along_on}
 use Rattle.load.proofs.draw_chain.Goals as goal
 
-pub loop-k-init : goal.loop-k-init
-loop-k-init c = let a = c.args in (drawing_begin a.f.now a.op a.start (sized-parts a.f.now (c.requires)).1 _ _ _, refl)
+pub loop-i-init : goal.loop-i-init
+loop-i-init c = along_begin c.args.f.now c.args.kind c.args.start c.args.p.now
 
-pub loop-k-preserved : goal.loop-k-preserved
-loop-k-preserved c = let a = c.args in
-    let k = c.loop-k.k in
-    let w = words-any a.f.now k _ (sized-parts a.f.now (c.requires)).0 c.read-w.ensures.0
-    c.read-w.ensures.1 in (
-      drawing_on a.f.now a.op a.start c.loop-k.invariant.0 c.loop-k-test.true _ w.0 w.1 _
-          (c.draw_slot-refusal.ensures _ w.0 w.1) _ c.following-k.ensures,
-      refl,
-    )
+pub returns-in_err-draw_slot : goal.returns-in_err-draw_slot
+returns-in_err-draw_slot c = let a = c.args in
+    let w = words_any a.f.now c.loop-i.k _ (sized-parts a.f.now c.requires).0 c.read-w.ensures.0 c.read-w.ensures.1 in
+    let r : c.from_residual.result ≡ Err c.in_err-draw_slot.field-0.0 = search rules in
+    rw r (along_refused a.f.now a.kind a.start c.loop-i.invariant c.if-k-eq0.false c.loop-i-test.true (c.in_err-draw_slot.ensures _ w.0 w.1))
 
-pub returns : goal.returns
-returns c = let a = c.args in drawing_ends a.f.now a.op a.start c.loop-k.invariant.0 c.loop-k-test.false
+pub loop-i-preserved : goal.loop-i-preserved
+loop-i-preserved c = let a = c.args in
+    let w = words_any a.f.now c.loop-i.k _ (sized-parts a.f.now c.requires).0 c.read-w.ensures.0 c.read-w.ensures.1 in
+    along_on a.f.now a.kind a.start c.loop-i.invariant c.if-k-eq0.false c.loop-i-test.true (c.in_ok-draw_slot.ensures _ w.0 w.1) _ w.0 w.1 c.low-k.ensures

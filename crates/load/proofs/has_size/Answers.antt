@@ -1,16 +1,9 @@
-use native.Mathlib.Omega.{arith}
-use Rattle.load.proofs.Reading.{unsized_part, unsized_empty, unsized_long, sized-count}
+use Rattle.std.proofs.Common.{sym, ◌∙◌}
+use Rattle.load.proofs.Reading.{sized-by, unsized}
 use Rattle.load.proofs.has_size.Goals as goal
 
-pub returns-then-n-ne0 : goal.returns-then-n-ne0
-returns-then-n-ne0 c = unsized_part (c.args.f.now) c.if-n-ne0.true
+pub returns-then-has_slots : goal.returns-then-has_slots
+returns-then-has_slots c = sized-by c.args.f.now _ _ (sym c.has_slots.ensures ∙ c.if-has_slots.true) c.read.ensures.0 c.read.ensures.1 c.low.ensures
 
-pub returns-then-n-eq0 : goal.returns-then-n-eq0
-returns-then-n-eq0 c = unsized_empty (c.args.f.now) c.if-n-ne0.false c.if-n-eq0.true
-
-pub returns-then-count-gt-LIMIT : goal.returns-then-count-gt-LIMIT
-returns-then-count-gt-LIMIT c = unsized_long (c.args.f.now) c.if-n-ne0.false c.if-n-eq0.false c.if-count-gt-LIMIT.true
-
-pub returns : goal.returns
-returns c = sized-count (c.args.f.now) c.if-n-ne0.false c.if-n-eq0.false (omega (arith, c.if-count-gt-LIMIT.false)) _
-    c.read-w.ensures.0 c.read-w.ensures.1 _ c.low.ensures
+pub returns-else-has_slots : goal.returns-else-has_slots
+returns-else-has_slots c = c.if-has_slots.false ∙ unsized c.args.f.now (sym c.has_slots.ensures ∙ c.if-has_slots.false)

@@ -7,25 +7,23 @@ use Rattle.save.proofs.Slots.{full-first, full-last, full_put, put_length_lem}
 use Rattle.save.proofs.put_measures.Goals as goal
 
 pub loop-i-init : goal.loop-i-init
-loop-i-init c = (omega arith, refl, full-first measure_slot 1 c.args.n _ c.args.area.now)
+loop-i-init c = (refl, full-first measure_slot 1 c.args.values.now c.args.area.now)
 
 pub loop-i-preserved : goal.loop-i-preserved
-loop-i-preserved c = let s = c.args in
+loop-i-preserved c = let vs = c.args.values.now in
     let r = c.requires in
     let at = c.loop-i.area in
     let i = c.loop-i.i in
     let inv = c.loop-i.invariant in
-    let l : length at ≡ length s.area.now = inv.1 in
+    let l = inv.0 in
     let t = c.loop-i-test.true in
     let e : 2 + i ≡ 1 + i + 1 = omega arith in
-    let link = c.link.ensures ∙ ap (λ k. link_to k (1 + s.n)) e in
-    let v = to_z-of_z (fits32 (get_or s.values.now i (pos 0)) (search rules)) in
-    let slot = c.measure_slot-w.ensures ∙ ap (measure_slot c.link.result) v in
+    let link = c.link.ensures ∙ ap (λ k. link_to k (1 + length vs)) e in
+    let slot = c.measure_slot.ensures ∙ ap (measure_slot c.link.result) (to_z-of_z (fits32 (get_or vs i (pos 0)) (search rules))) in
     let put = c.put.ensures in (
-      omega (arith, t),
       put_length_lem at _ (1 + i) _ (omega (arith, t, l, r)) put ∙ l,
-      full_put measure_slot measure_16 1 s.n _ at i t _ _ _ (omega (arith, l, r)) put slot link ∙ inv.2,
+      full_put measure_slot measure_16 1 vs (pos 0) at i t _ _ _ (omega (arith, l, r)) put slot link ∙ inv.1,
     )
 
 pub returns : goal.returns
-returns c = sym (full-last measure_slot 1 c.args.n _ c.loop-i.area c.loop-i.i (omega (arith, c.loop-i-test.false))) ∙ c.loop-i.invariant.2
+returns c = sym (full-last measure_slot 1 c.args.values.now c.loop-i.area c.loop-i.i c.loop-i-test.false) ∙ c.loop-i.invariant.1
