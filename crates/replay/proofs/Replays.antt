@@ -41,7 +41,7 @@ use Rattle.state.proofs.Steps.{refuses, accepts}
 use Rattle.replay.specs.declared.Outcome.{Outcome}
 use Rattle.replay.specs.declared.Outcome.TheVariants.{Accepted, Revoked}
 use Rattle.replay.proofs.Checks.{named_at_place}
-use Rattle.replay.specs.Replays.{checks_in, draft_in, point_of, effective_in, broken_in, amount_of, tried_of, outcome_of, outcome_in, outcome_fate, outcome_rule, settled_record, draft_after, settled_in, Decided, broken_of, rule_if_settled, NamesRule, Trusted, Places}
+use Rattle.replay.specs.Replays.{checks_in, draft_in, point_of, effective_in, broken_in, amount_of, tried_of, outcome_of, outcome_in, outcome_fate, outcome_rule, settled_record, draft_after, settled_in, Decided, broken_of, rule_if_settled, NamesRule, Trusted}
 
 -- a draft has 32 values at most
 draft-length : (p : Spread) → length (draft_in p.head p.draft) ≤ 32
@@ -78,7 +78,7 @@ pub replay_sound : (p : Spread) (n : ℤ) {missing : ℕ} (r : Result Outcome Re
 replay_sound p n r h = decided_same (tested_in true) (tested_in false) p n r (λ t. outcome_sound p (named_in p (natural n)) (h t))
 
 -- what the code finds, with the rules' own index, is what the test of all rules finds
-outcome_decided : (p : State) (e : EditRecord) {missing : ℕ} {index : Index} {sound : Bool} → Trusted p missing index sound → T (active (mode_of p.head.mode))
+outcome_decided : (p : State) (e : EditRecord) {missing settled : ℕ} {index : Index} {sound : Bool} → Trusted p missing settled index sound → T (active (mode_of p.head.mode))
     → outcome_of (tested_by sound index) (spread p) e ≡ outcome_of (tested_in false) (spread p) e
 outcome_decided p e {index = index} {sound = sound} known t =
     let q = spread p in
@@ -89,7 +89,7 @@ outcome_decided p e {index = index} {sound = sound} known t =
     held true h = outcome_sound (spread p) e (h refl t)
     held false h = refl
 
-pub replay_decided : (p : State) (n : ℤ) {missing : ℕ} {index : Index} {sound : Bool} (r : Result Outcome Refusal) → Trusted p missing index sound
+pub replay_decided : (p : State) (n : ℤ) {missing settled : ℕ} {index : Index} {sound : Bool} (r : Result Outcome Refusal) → Trusted p missing settled index sound
     → Decided (tested_by sound index) (spread p) n missing r → Decided (tested_in false) (spread p) n missing r
 replay_decided p n {index = index} {sound = sound} r known =
     decided_same (tested_by sound index) (tested_in false) (spread p) n r (outcome_decided p (named_in (spread p) (natural n)) known)
@@ -235,22 +235,22 @@ module _ (p : State) (n : ℤ) where
   abbrev before : Spread
   before = spread p
 
-  pub replay_refused : {missing : ℕ} {index : Index} {sound : Bool} {r : Refusal} {a : Answer} → Trusted p missing index sound → a ≡ Err r
+  pub replay_refused : {missing settled : ℕ} {index : Index} {sound : Bool} {r : Refusal} {a : Answer} → Trusted p missing settled index sound → a ≡ Err r
       → refused (number_of r) ≡ first (checks_in before missing n) → Makes (replay n) p a p
   replay_refused {missing = missing} {r = r} known a-is f =
       let m = refuses {c = replay n} {p = before} (checks_in before missing n) r (checks_known before n known.missing) (sym f) in
       subst (λ x. Makes (replay n) p x p) (sym a-is) (record { answer = m.answer; plan = m.plan; same = refl })
 
   -- the state after it, where the checks pass
-  next_meets : {missing settled : ℕ} {index : Index} {sound : Bool} (i : ℕ) → length p.draft ≡ 32 → length p.edits ≡ 256 → Trusted p missing index sound → Places p settled
+  next_meets : {missing settled : ℕ} {index : Index} {sound : Bool} (i : ℕ) → length p.draft ≡ 32 → length p.edits ≡ 256 → Trusted p missing settled index sound
       → first (checks_in before missing n) ≡ fine → seat (named_at p.head n) ≡ Some i → i < 256
       → MeetsSpread (replay n) before (record { state = spread (settled_in p i (found before n) settled); answer = number (fate_number (fate_of (outcome_fate (found before n)))) })
   unfolding gives after
-  next_meets {missing = missing} {settled = settled'} i draft-is edits-is known places f at few =
+  next_meets {missing = missing} {settled = settled'} i draft-is edits-is known f at few =
       let active-is = (fine_pass (checks_in before missing n) f).0 in
       let there = named_at_place p n i at few in
       let looked = lookup-named before (natural n) in
-      let place : min settled' 256 + 1 ≡ next_place (kept before n) = let s = places active-is in let m = settled-few before n in omega (arith, s, m) in
+      let place : min settled' 256 + 1 ≡ next_place (kept before n) = let s = known.settled active-is in let m = settled-few before n in omega (arith, s, m) in
       accepts {c = replay n} {p = before} (checks_in before missing n) _ (checks_known before n known.missing) f
       (λ t. rw (effect before n) (ap (λ k. ok (pos (fate_number k) ∷ [])) (found-fate before n)))
       (λ t. plan-same refl refl refl refl
@@ -261,11 +261,11 @@ module _ (p : State) (n : ℤ) where
       ∙ (λ j. update (natural n) (settled (sym (effect before n) j) (next_place (kept before n))) (kept before n))))
       tt
 
-  pub replay_meets : {missing settled : ℕ} {index : Index} {sound : Bool} (i : ℕ) {o : Outcome} → length p.draft ≡ 32 → length p.edits ≡ 256 → Trusted p missing index sound → Places p settled
+  pub replay_meets : {missing settled : ℕ} {index : Index} {sound : Bool} (i : ℕ) {o : Outcome} → length p.draft ≡ 32 → length p.edits ≡ 256 → Trusted p missing settled index sound
       → first (checks_in before missing n) ≡ fine → seat (named_at p.head n) ≡ Some i → i < 256 → o ≡ outcome_in (tested_by sound index) before n
       → Makes (replay n) p (number (fate_number (fate_of (outcome_fate o)))) (settled_in p i o settled)
-  replay_meets {missing = missing} {settled = settled'} i draft-is edits-is known places f at few o-is =
+  replay_meets {missing = missing} {settled = settled'} i draft-is edits-is known f at few o-is =
       let active-is = (fine_pass (checks_in before missing n) f).0 in
-      let m = next_meets i draft-is edits-is known places f at few in
+      let m = next_meets i draft-is edits-is known f at few in
       subst (λ x. Makes (replay n) p (number (fate_number (fate_of (outcome_fate x)))) (settled_in p i x settled')) (sym (o-is ∙ outcome_decided p (named_in before (natural n)) known active-is ∙ found_as before n))
       (record { answer = m.answer; plan = m.plan; same = tt })

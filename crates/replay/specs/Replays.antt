@@ -138,13 +138,13 @@ pub record Replayed (test : RuleTest) (p : State) (n : ℤ) (missing settled : �
 
 -- ---- what is known of a state beside it
 
--- While a join is under way the owner's count of the first logs that are missing is the plan's; and where all rules are said to hold (`sound`) they hold on the
--- draft, and the index is theirs.
-pub record Trusted (p : State) (first_logs : ℕ) (index : Index) (sound : Bool) : Type 0 where
+-- While a join is under way the owner's counts are the plan's; and where all rules are said to hold (`sound`) they hold on the draft, and the index is theirs.
+pub record Trusted (p : State) (first_logs places : ℕ) (index : Index) (sound : Bool) : Type 0 where
   pub missing : T (active (mode_of p.head.mode)) → first_logs ≡ unset_in p.arrived (sides_in p.head)
+  pub settled : T (active (mode_of p.head.mode)) → places ≡ count is_settled (kept_of p.head p.edits)
   pub indexed : T (active (mode_of p.head.mode)) → IndexedIf sound index (lowers p.table) (gaps p.table) (uppers p.table) (firms p.table) (min p.head.rules rule_limit)
   pub held : sound ≡ true → T (active (mode_of p.head.mode)) → holds (rules_of (spread p)) (draft_in p.head p.draft) ≡ true
 
--- and so is that of the settled edits
-abbrev pub Places : State → ℕ → Type 0
-Places p n = T (active (mode_of p.head.mode)) → n ≡ count is_settled (kept_of p.head p.edits)
+-- the same where nobody has counted the settled edits
+abbrev pub TrustedUncounted : State → ℕ → Index → Bool → Type 0
+TrustedUncounted p missing index sound = Trusted p missing (count is_settled (kept_of p.head p.edits)) index sound

@@ -9,7 +9,7 @@ ghost use Rattle.protocol.specs.Lists.{natural};
 ghost use Rattle.protocol.specs.Plan.{fate_is};
 ghost use Rattle.records.specs.Records.{fate_of, kept_at, no_record};
 ghost use Rattle.records.specs.declared.Fate.TheVariants.{Unsent};
-ghost use Rattle.replay.specs.Replays.{point_of, tried_of, outcome_fate, outcome_of, settled_record, settled_in, checks_in, Decided, NamesRule, Replayed, Trusted, Places};
+ghost use Rattle.replay.specs.Replays.{point_of, tried_of, outcome_fate, outcome_of, settled_record, settled_in, checks_in, Decided, NamesRule, Replayed, Trusted, TrustedUncounted};
 ghost use Rattle.rules.specs.Index.{tested_by};
 ghost use Rattle.state.specs.Meets.{Makes};
 ghost use Rattle.state.specs.Spread.{spread, named_in};
@@ -129,7 +129,7 @@ pub fn decide(
     sound: bool,
 ) -> Result<Outcome, Refusal>
     ensures exact { Decided (tested_by sound index.now) (spread p.now) n missing result }
-    ensures rule { Trusted p.now missing index.now sound → NamesRule (view p.now) n result }
+    ensures rule { TrustedUncounted p.now missing index.now sound → NamesRule (view p.now) n result }
 {
     let i = waiting(p, n, missing)?;
     Ok(trial(p, &p.edits[i], index, sound))
@@ -170,7 +170,7 @@ pub fn replay(
     sound: bool,
 ) -> Answer
     ensures exact { Replayed (tested_by sound index.now) p.old n missing settled result p.new }
-    ensures step { Trusted p.old missing index.now sound → Places p.old settled → Makes (replay n) p.old result p.new }
+    ensures step { Trusted p.old missing settled index.now sound → Makes (replay n) p.old result p.new }
     ensures rules { (p.new.table ≡ p.old.table) × (p.new.head ≡ p.old.head) }
 {
     let i = waiting(p, n, missing)?;

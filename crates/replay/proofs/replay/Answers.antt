@@ -29,7 +29,7 @@ After-number = lts.After-number tie.the-claims reads.Pre reads.Post tie.handed_c
 pub returns-in_err-i-clause-step : goal.returns-in_err-i-clause-step
 returns-in_err-i-clause-step c =
     let a = c.args in
-    λ known places. replay_refused a.p.now a.n known (search rules) (c.in_err-i.ensures.0 ∙ ap (λ n. first (checks_in (spread a.p.now) a.missing n)) (to_z-of_z c.ranges.n))
+    λ known. replay_refused a.p.now a.n known (search rules) (c.in_err-i.ensures.0 ∙ ap (λ n. first (checks_in (spread a.p.now) a.missing n)) (to_z-of_z c.ranges.n))
 
 module _ (c : After-number) where
   abbrev p : State
@@ -70,4 +70,4 @@ returns-clause-exact c =
 pub returns-clause-step : goal.returns-clause-step
 returns-clause-step c =
     let draft : length (p c).draft ≡ 32 = search rules in
-    λ known places. rw (c.settle.ensures.0, gives c) (replay_meets (p c) c.args.n (i c) draft c.settle.ensures.1 known places (passes c) (at c) (few c) (comes c))
+    λ known. rw (c.settle.ensures.0, gives c) (replay_meets (p c) c.args.n (i c) draft c.settle.ensures.1 known (passes c) (at c) (few c) (comes c))
