@@ -1,11 +1,11 @@
 -- The tests of a file, as the program makes them. Assumes nothing.
-use Prim.Native.Nat.{ℕ, zero, suc, ◌+◌, ◌-◌, ◌*◌, ◌/◌, ◌%◌, ◌<◌, ◌≤◌}
+use Prim.Native.Nat.{ℕ, zero, suc, ◌+◌, ◌*◌, ◌/◌, ◌%◌, ◌<◌, ◌≤◌}
 use native.Mathlib.Omega.{arith}
 use mathlib.Core.Path.{◌≡◌, refl, sym, ap, subst, ◌∙◌}
 use mathlib.Core.Bool.{Bool, true, false, not, ◌&&◌}
 use mathlib.Core.Logic.{◌≢◌}
 use mathlib.Core.List.{List, [], ◌∷◌}
-use borrow.Author.Tests.{lt-ltb, le-ltb, lt-leb, le-leb, eq-eqb, ne_eqb, ltb-true, ltb-false}
+use borrow.Author.Tests.{lt-ltb, eq-eqb, ne_eqb, ltb-true, ltb-false}
 use lib.Dec.{T, eqb, leb, ltb, eqb→eq, leb→le}
 use lib.Seq.{take_all}
 use lib.ListN.{length, get_or, take, replicate}
@@ -13,8 +13,8 @@ use Rattle.protocol.specs.Lists.{is_none}
 use Rattle.protocol.specs.Plan.{blank, is}
 use Rattle.protocol.specs.Calls.{Check, ◌unless◌, ◌when◌, first, fine, refused}
 use Rattle.protocol.proofs.Laws.{cases, is_yes, yes_is, no-is, both, same-no}
-use Rattle.file.specs.Bytes.{two_at, total, word_size, measure_kind, rule_kind}
-use Rattle.file.specs.Loaded.{slot_in, slots, first_slot, zero_from, measure_chain, rule_chain, next_number, next_limit, sized, balanced, leaves_file, meets_twice, well_marked, misses_slot, clear, numbered}
+use Rattle.file.specs.Bytes.{two_at, total, word_size}
+use Rattle.file.specs.Loaded.{slot_in, slots, first_slot, zero_from, measure_chain, rule_chain, next_number, sized, balanced, leaves_file, meets_twice, well_marked, misses_slot, clear, numbered}
 use Rattle.file.specs.Walked.{Walked, stopped, ended, walk, as_measure, as_rule, Sound46}
 use Rattle.file.proofs.Walks.{onto, walk-ended, sound_walks, walks_sound}
 use Rattle.std.proofs.Common.{Option, None, Some}
