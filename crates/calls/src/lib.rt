@@ -1,422 +1,206 @@
-// Internal, for `run` and `plan`: the fourteen calls (01, "The calls"), each made on what the owner of a plan lends: numbers in place, kept edits as the
-// owner's part. There is one contract for all (specs/Makes): for all kept edits of which what was handed over is true, the answer and the plan are the protocol's.
+// Internal, for `run` and `plan`: every call (01, "The calls"), made on a plan and on what its owner keeps beside it. There is one contract for all (specs/Makes):
+// where what is kept beside the plan is true of it, the answer and the plan are the protocol's, and what is kept stays true.
 #![tactic(auto)]
 
-ghost use Rattle.std.specs.Prelude.{◌≡◌, Bool, true, false, not, cond, ◌&&◌, List, ℕ, min, eqb, ℤ};
-ghost use Rattle.calls.specs.declared.Look.{Look};
-ghost use Rattle.protocol.specs.Numbering.{edit_op, send_op, replay_op};
-ghost use Rattle.heads.specs.Numbers.{head_from};
-ghost use Rattle.rules.specs.Table.{lowers, gaps, uppers, firms};
-ghost use Rattle.rules.specs.Index.{is_made, Indexed};
-ghost use Rattle.counts.specs.Tallies.{all_sent, move_tally};
-ghost use Rattle.reader.specs.Reads.{line_in};
-ghost use Rattle.query.specs.Readings.{read_call};
-ghost use Rattle.calls.specs.Makes.{first_look, second_look, Making, is_move, is_draw, plain, stored};
-ghost use Rattle.state.specs.declared.Answer.TheVariants as Answer;
+ghost use Rattle.std.specs.Prelude.{◌≡◌, false, Some, None, Err};
+ghost use Rattle.calls.specs.Makes.{Readied, Known, KnownIf, Changes, Made, is_show, side_named, Noted, Shows};
+ghost use Rattle.counts.specs.Tallies.{Tallied, unsent_in};
+ghost use Rattle.protocol.specs.Lists.{natural};
+ghost use Rattle.rules.specs.Index.{is_made};
+ghost use Rattle.state.specs.View.{view};
 
 use counts::Tallies;
-use edit::Ruling;
-use heads::{Head, Numbers};
-use protocol::{call, limit};
-use reader::Line;
-use records::EditRecord;
-use replay::Outcome;
-use rules::{Index, Table};
-use state::Answer;
+use heads::Head;
+use protocol::call::Call;
+use protocol::refusal::Refusal;
+use rules::Index;
+use state::{Answer, Given, State};
 
-// What a call leaves besides what it stored: its answer, where the values stand that it gives besides, the record that the owner is to store in a slot, if it is
-// kept, and among how many edits those of the side are to be marked as sent. Every line pays for what stands here.
+// What a call tells: its answer, and the side whose values it gives besides.
 #[derive(Clone, Copy)]
-pub struct Effect {
+pub struct Told {
     pub answer: Answer,
-    pub from: usize,
-    pub width: usize,
-    pub kept: bool,
-    pub slot: usize,
-    pub entry: EditRecord,
-    pub marked: usize,
+    pub shown: Option<u32>,
 }
 
-// The kept edits that a call looks at, each with its position from 1: the one that it names, and the one that this names in turn.
+// What the owner of a plan keeps beside it: the counts of its kept edits, the index of its rules, and whether every rule is known to hold (`sound`), which is when
+// the index is asked.
 #[derive(Clone, Copy)]
-pub struct Look {
-    pub named: usize,
-    pub standing: EditRecord,
-    pub next: usize,
-    pub seen: EditRecord,
+pub struct Beside {
+    pub counts: Tallies,
+    pub index: Index,
+    pub sound: bool,
 }
 
-pub fn looking(named: usize, standing: EditRecord, next: usize, seen: EditRecord) -> Look
-    ensures { result ≡ record { named = named; standing = standing; next = next; seen = seen } }
-{
-    Look {
-        named,
-        standing,
-        next,
-        seen,
+impl Beside {
+    // Of a plan of which it is known or not that every rule holds. No index is made before it is asked.
+    pub fn of(p: &State, sound: bool) -> Beside
+        ensures { (Tallied result.counts (view p.now)) × (is_made result.index ≡ false) × (result.sound ≡ sound) }
+    {
+        Beside {
+            counts: query::tallies(p),
+            index: Index::new(),
+            sound,
+        }
     }
-}
 
-// The position, from 1, of the kept edit that a call names; 0 for a call that looks at none.
-pub fn first_look(l: Line, h: Head) -> usize
-    ensures { result ≡ first_look h l }
-{
-    let op = l.op;
-    if op == call::EDIT {
-        return heads::named(h, l.c);
+    // For an edit of a plan of which nothing is known: it needs no counts, and counting goes over the kept edits.
+    pub fn unknown() -> Beside
+        ensures { (is_made result.index ≡ false) × (result.sound ≡ false) }
+    {
+        Beside {
+            counts: Tallies::none(),
+            index: Index::new(),
+            sound: false,
+        }
     }
-    if op == call::REPLAY {
-        return heads::named(h, l.a);
-    }
-    if op == call::FATE {
-        return heads::named(h, l.a);
-    }
-    0
-}
 
-// The same of the one that this names in turn; 0 for a call that does not look at it.
-pub fn second_look(l: Line, h: Head, named: usize, standing: EditRecord) -> usize
-    ensures { result ≡ second_look h l named standing }
-{
-    if l.op == call::REPLAY {
-        return replay::earlier(h, named, standing);
+    // The index is made first where an edit or a replay asks it.
+    fn ready(&mut self, p: &State)
+        ensures { Readied p.now self.old self.new }
+    {
+        if self.sound && !self.index.is_made() {
+            self.make_index(p);
+        }
     }
-    0
-}
 
-// No edit is stored or marked.
-fn plain_effect(answer: Answer) -> Effect
-    ensures { result ≡ plain answer }
-{
-    let entry = records::no_record();
-    Effect {
-        answer,
-        from: 0,
-        width: 0,
-        kept: false,
-        slot: 0,
-        entry,
-        marked: 0,
+    // It has one caller that is compiled into two, so that the test alone is.
+    fn make_index(&mut self, p: &State)
+        ensures { Readied p.now self.old self.new }
+    {
+        self.index = Index::of(&p.table, p.head.rules);
     }
-}
 
-fn refusal(k: u32) -> Effect
-    ensures { result ≡ plain (Answer.Refused k 0) }
-{
-    let answer = Answer::Refused(k, 0);
-    plain_effect(answer)
-}
-
-// A record is stored.
-fn keeping(answer: Answer, slot: usize, entry: EditRecord) -> Effect
-    ensures { result ≡ stored answer slot entry }
-{
-    Effect {
-        answer,
-        from: 0,
-        width: 0,
-        kept: true,
-        slot,
-        entry,
-        marked: 0,
-    }
-}
-
-// Whether the index is to be made first: edit and replay ask it where every rule holds (`sound`).
-fn lacks_index(index: &Index, sound: bool) -> bool
-    ensures { result ≡ (sound && not (is_made index.now)) }
-{
-    if sound {
-        return !rules::is_made(index);
-    }
-    false
-}
-
-// Makes the index. It has two callers, so that the test alone is compiled into them.
-fn make_index(index: &mut Index, table: &Table, k: u32)
-    ensures { Indexed index.new (lowers table.now) (gaps table.now) (uppers table.now) (firms table.now)
-        (min k 64) × (is_made index.new ≡ true) }
-{
-    let next = rules::indexed(table, k);
-    *index = next;
-}
-
-fn edit_in<'a>(
-    l: Line,
-    head: &mut Numbers,
-    values: &mut [i32; limit::VALUES],
-    arrived: &'a [bool; limit::SIDES],
-    table: &'a Table,
-    index: &mut Index,
-    look: Look,
-    counts: &mut Tallies,
-    sound: bool,
-) -> Effect
-    requires { l.op ≡ edit_op }
-    ensures { (base draft : List ℤ) (confirmed : List Bool) → Making l (head_from head.old) base draft values.old
-        arrived.now confirmed table.now index.old look counts.old sound result (head_from head.new) base draft
-        values.new arrived.now confirmed table.now index.new counts.new }
-{
-    let h = heads::from_numbers(head);
-    if lacks_index(index, sound) {
-        make_index(index, table, h.rules);
-    }
-    let standing = look.standing;
-    let ruling = edit::decide_edit(l, h, table, index, values, look.named, standing, sound);
-    match ruling {
-        Ruling::Refused(k) => refusal(k),
-        Ruling::Broken(_) => refusal(29),
-        Ruling::Granted(change, x) => {
-            let spot = edit::spot(l.a, l.d);
-            values[spot] = x;
-            let next = heads::numbers(edit::edit_head(h));
-            *head = next;
-            let answer = Answer::Given(1, h.next, 0, 0);
-            let mode = h.mode;
-            if edit::is_whole(mode) {
-                return plain_effect(answer);
-            }
-            let side = exact::number(l.a);
-            let i = heads::index(side);
-            counts::note_kept(counts, side, arrived[i]);
-            keeping(
-                answer,
-                rows::capped(h.kept, limit::LAST_EDIT),
-                edit::edit_record(h, l, change),
-            )
+    // A call was accepted: from the head before it, and whether the first log of the side that it names was there. After a drawing the rules are others.
+    fn note(&mut self, call: Call, before: &Head, arrived: bool)
+        ensures { Noted call before.now arrived self.old self.new }
+    {
+        self.counts.note(call, before, arrived);
+        if matches!(call, Call::Measure(_) | Call::Rule { .. } | Call::Open) {
+            self.index.forget();
         }
     }
 }
 
-// The fate that a replay gives: 3 accepted, 4 revoked.
-fn fate_number(accepted: bool) -> u32
-    ensures { result ≡ cond accepted 3 4 }
+// The side that an edit or a send names; 0 for any other call.
+fn side_named(call: Call) -> u32
+    ensures { result ≡ side_named call }
 {
-    if accepted { 3 } else { 4 }
+    match call {
+        Call::Edit(e) => exact::number(e.side),
+        Call::Send(s) => exact::number(s),
+        _ => 0,
+    }
 }
 
-fn replay_in<'a>(
-    l: Line,
-    head: &'a Numbers,
-    draft: &mut [i32; limit::MEASURES],
-    table: &'a Table,
-    index: &mut Index,
-    look: Look,
-    counts: &mut Tallies,
-    sound: bool,
-) -> Effect
-    requires { l.op ≡ replay_op }
-    ensures { (base values : List ℤ) (arrived confirmed : List Bool) → Making l (head_from head.now) base draft.old values arrived
-        confirmed table.now index.old look counts.old sound result (head_from head.now) base draft.new values
-        arrived confirmed table.now index.new counts.new }
+// How many edits a call's side has unsent.
+fn unsent(counts: &Tallies, s: i32) -> u32
+    ensures { result ≡ unsent_in counts.now (natural s) }
 {
-    let h = heads::from_numbers(head);
-    if lacks_index(index, sound) {
-        make_index(index, table, h.rules);
-    }
-    let i = look.named;
-    let standing = look.standing;
-    let seen = look.seen;
-    let missing = counts[counts::MISSING];
-    let outcome = replay::decide_replay(
-        h, table, index, draft, missing, i, standing, look.next, seen, sound,
-    );
-    match outcome {
-        Outcome::Refused(k) => refusal(k),
-        Outcome::Settled(accepted, x, _) => {
-            let point = replay::point_of(i, standing);
-            draft[point] = x;
-            let place = rows::capped(counts[counts::SETTLED], limit::EDITS) as u32 + 1;
-            counts::note_settled(counts);
-            let answer = Answer::Given(1, fate_number(accepted), 0, 0);
-            keeping(
-                answer,
-                heads::slot(i),
-                replay::settled_record(standing, accepted, place),
+    counts.unsent[heads::index(exact::number(s))]
+}
+
+// Any call but show: its answer, and the plan after it.
+fn changed(call: Call, p: &mut State, beside: &mut Beside) -> Answer
+    requires { is_show call ≡ false }
+    ensures { Known call beside.old p.old → Changes call p.old beside.old result p.new beside.new }
+{
+    match call {
+        Call::Measure(v) => draw::measure(p, v),
+        Call::Rule {
+            lower,
+            gap,
+            upper,
+            firm,
+        } => draw::rule(p, lower, gap, upper, firm),
+        Call::Open => draw::open_plan(p),
+        Call::Split(s) => moves::split(p, s),
+        Call::Edit(e) => {
+            beside.ready(p);
+            edit::edit(p, e, &beside.index, beside.sound)
+        }
+        Call::Join => moves::join(p),
+        Call::Send(s) => moves::send(p, s, unsent(&beside.counts, s)),
+        Call::Replay(n) => {
+            beside.ready(p);
+            let counts = &beside.counts;
+            replay::replay(
+                p,
+                n,
+                counts.missing,
+                counts.settled,
+                &beside.index,
+                beside.sound,
             )
         }
+        Call::Stop => moves::stop(p, beside.counts.waiting),
+        Call::Confirm(s) => moves::confirm(p, s, unsent(&beside.counts, s)),
+        Call::Install => moves::install(p, beside.counts.waiting),
+        Call::Show(_) => unreachable!(),
+        Call::Fate(n) => query::fate(p, n),
+        Call::Left => query::left(p, &beside.counts),
     }
 }
 
-fn send_in(
-    l: Line,
-    head: &Numbers,
-    arrived: &mut [bool; limit::SIDES],
-    counts: &mut Tallies,
-) -> Effect
-    requires { l.op ≡ send_op }
-    ensures { (base draft values : List ℤ) (confirmed : List Bool) (table : List ℤ) (index : List ℤ) (look : Look) (sound : Bool) → Making l
-        (head_from head.now) base draft values arrived.old confirmed table index look counts.old sound result
-        (head_from head.now) base draft values arrived.new confirmed table index counts.new }
+// The same, and what is kept beside the plan is brought up to it.
+fn noted(call: Call, p: &mut State, beside: &mut Beside) -> Answer
+    requires { is_show call ≡ false }
+    ensures { Known call beside.old p.old → Made (Some call) p.old beside.old (record { answer = result; shown = None }) p.new beside.new }
 {
-    let h = heads::from_numbers(head);
-    let side = exact::number(l.a);
-    let i = heads::index(side);
-    let was = arrived[i];
-    let d = moves::decide_send(h, side, was, counts[i]);
-    arrived[i] = d.arrived;
-    let answer = d.answer;
-    note_sent(counts, state::accepted(answer), side, was);
-    let mut e = plain_effect(answer);
-    e.marked = d.marked;
-    e
+    let before = p.head;
+    let arrived = p.arrived[heads::index(side_named(call))];
+    let answer = changed(call, p, beside);
+    if answer.is_ok() {
+        beside.note(call, &before, arrived);
+    }
+    answer
 }
 
-// Counts a send, if it was accepted.
-fn note_sent(counts: &mut Tallies, accepted: bool, s: u32, was: bool)
-    ensures { counts.new ≡ cond accepted (all_sent s was counts.old) counts.old }
+// A sheet's show gives the values of the side besides.
+fn show(p: &State, s: i32) -> Told
+    ensures { Shows p.now s result }
 {
-    if accepted {
-        counts::note_sent(counts, s, was);
+    match query::shown_side(&p.head, s) {
+        Ok(side) => Told {
+            answer: Ok(Given::Nothing),
+            shown: Some(side),
+        },
+        Err(refusal) => refused(refusal),
     }
 }
 
-// Counts a move, if it was accepted.
-fn note_move(counts: &mut Tallies, accepted: bool, op: u32, h: Head)
-    ensures { counts.new ≡ cond accepted (move_tally op h counts.old) counts.old }
+// With no values besides.
+fn bare(answer: Answer) -> Told
+    ensures { result ≡ record { answer = answer; shown = None } }
 {
-    if accepted {
-        counts::note_move(counts, op, h);
+    Told {
+        answer,
+        shown: None,
     }
 }
 
-// split, join, stop, confirm, install
-fn move_in(
-    l: Line,
-    head: &mut Numbers,
-    base: &mut [i32; limit::MEASURES],
-    draft: &mut [i32; limit::MEASURES],
-    values: &mut [i32; limit::VALUES],
-    arrived: &mut [bool; limit::SIDES],
-    confirmed: &mut [bool; limit::SIDES],
-    counts: &mut Tallies,
-) -> Effect
-    requires { is_move l.op ≡ true }
-    ensures { (table : List ℤ) (index : List ℤ) (look : Look) (sound : Bool) → Making l (head_from head.old) base.old
-        draft.old values.old arrived.old confirmed.old table index look counts.old sound result
-        (head_from head.new) base.new draft.new values.new arrived.new confirmed.new table index
-        counts.new }
+fn refused(refusal: Refusal) -> Told
+    ensures { result ≡ record { answer = Err refusal; shown = None } }
 {
-    let h = heads::from_numbers(head);
-    let side = exact::number(l.a);
-    let i = heads::index(side);
-    let unsent = counts[i];
-    let waiting = counts[counts::WAITING];
-    let r = moves::make_move(
-        h, base, draft, values, arrived, confirmed, l.op, l.a, unsent, waiting,
-    );
-    moves::lengths(base, draft, values, arrived, confirmed);
-    let answer = r.answer;
-    let next = heads::numbers(r.head);
-    *head = next;
-    note_move(counts, state::accepted(answer), l.op, h);
-    plain_effect(answer)
+    bare(Err(refusal))
 }
 
-// After an accepted call the rules may be others.
-fn note_drawn(index: &mut Index, accepted: bool)
-    ensures { (accepted ≡ true → is_made index.new ≡ false) × (accepted ≡ false → index.new ≡ index.old) }
+// Any call.
+fn call_told(call: Call, p: &mut State, beside: &mut Beside) -> Told
+    ensures { Known call beside.old p.old → Made (Some call) p.old beside.old result p.new beside.new }
 {
-    if accepted {
-        rules::forget(index);
+    match call {
+        Call::Show(s) => show(p, s),
+        _ => bare(noted(call, p, beside)),
     }
 }
 
-// measure, rule, open
-fn draw_in(
-    l: Line,
-    head: &mut Numbers,
-    values: &mut [i32; limit::VALUES],
-    table: &mut Table,
-    index: &mut Index,
-) -> Effect
-    requires { is_draw l.op ≡ true }
-    ensures { (base draft : List ℤ) (arrived confirmed : List Bool) (look : Look) (t : List ℕ) (sound : Bool) → Making l (head_from head.old)
-        base draft values.old arrived confirmed table.old index.old look t sound result (head_from head.new) base draft
-        values.new arrived confirmed table.new index.new t }
+// The call of a line, if it has one.
+pub fn make(call: Option<Call>, p: &mut State, beside: &mut Beside) -> Told
+    ensures { KnownIf call beside.old p.old → Made call p.old beside.old result p.new beside.new }
 {
-    let answer = draw::make(l.op, l.a, l.b, l.c, l.d, head, values, table);
-    note_drawn(index, state::accepted(answer));
-    plain_effect(answer)
-}
-
-// show, fate, left; a line that cannot be read
-fn read_in<'a>(l: Line, head: &'a Numbers, look: Look, counts: &'a Tallies) -> Effect
-    requires { (line_in l ≡ read_call l.op l.a) × (eqb l.op edit_op ≡ false) }
-    ensures { (base draft values : List ℤ) (arrived confirmed : List Bool) (table : List ℤ) (index : List ℤ) (sound : Bool) → Making l
-        (head_from head.now) base draft values arrived confirmed table index look counts.now sound result (head_from head.now) base draft
-        values arrived confirmed table index counts.now }
-{
-    let h = heads::from_numbers(head);
-    let standing = look.standing;
-    let r = query::read(l.op, l.a, h, look.named, standing, counts[counts::LEFT]);
-    let answer = r.answer;
-    let mut e = plain_effect(answer);
-    e.from = r.from;
-    e.width = r.width;
-    e
-}
-
-// split, join, stop, confirm, install
-fn moves(op: u32) -> bool
-    ensures { result ≡ is_move op }
-{
-    if op == call::SPLIT {
-        return true;
+    match call {
+        None => refused(Refusal::Unreadable),
+        Some(call) => call_told(call, p, beside),
     }
-    if op == call::JOIN {
-        return true;
-    }
-    if call::REPLAY < op {
-        return op < call::SHOW;
-    }
-    false
-}
-
-// measure, rule, open
-fn draws(op: u32) -> bool
-    ensures { result ≡ is_draw op }
-{
-    if 0 < op {
-        return op < call::SPLIT;
-    }
-    false
-}
-
-// Every call, by its number in the order of 01.
-pub fn make(
-    l: Line,
-    head: &mut Numbers,
-    base: &mut [i32; limit::MEASURES],
-    draft: &mut [i32; limit::MEASURES],
-    values: &mut [i32; limit::VALUES],
-    arrived: &mut [bool; limit::SIDES],
-    confirmed: &mut [bool; limit::SIDES],
-    table: &mut Table,
-    index: &mut Index,
-    look: Look,
-    counts: &mut Tallies,
-    sound: bool,
-) -> Effect
-    ensures { Making l (head_from head.old) base.old draft.old values.old arrived.old
-        confirmed.old table.old index.old look counts.old sound result (head_from head.new) base.new
-        draft.new values.new arrived.new confirmed.new table.new index.new counts.new }
-{
-    let op = l.op;
-    if op == call::EDIT {
-        return edit_in(l, head, values, arrived, table, index, look, counts, sound);
-    }
-    if op == call::REPLAY {
-        return replay_in(l, head, draft, table, index, look, counts, sound);
-    }
-    if op == call::SEND {
-        return send_in(l, head, arrived, counts);
-    }
-    if moves(op) {
-        return move_in(l, head, base, draft, values, arrived, confirmed, counts);
-    }
-    if draws(op) {
-        return draw_in(l, head, values, table, index);
-    }
-    read_in(l, head, look, counts)
 }

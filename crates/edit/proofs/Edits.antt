@@ -15,11 +15,11 @@ use Rattle.protocol.specs.Asked.{verdict_of}
 use Rattle.protocol.specs.Plan as model
 use Rattle.protocol.specs.Plan.{is, blank, whole, split, joining, mode_number, holds, firmly_named, value, made, unsent, side_at}
 use Rattle.protocol.specs.Broken.{broken_rule}
-use Rattle.protocol.specs.Calls.{Call, edit, Check, Verdict, refused, first, apart, checks, further, on_values, after, gives, ok}
+use Rattle.protocol.specs.Calls.{Call, edit, Check, Verdict, refused, first, apart, checks, further, on_values, after, gives}
 use Rattle.protocol.specs.declared.call.Edit.{Edit}
 use Rattle.protocol.specs.declared.refusal.Refusal.{Refusal}
 use Rattle.protocol.specs.declared.refusal.Refusal.TheVariants.{RuleBroken}
-use Rattle.protocol.proofs.Laws.{cases, yes_is, no-is, is_yes, which, range, Pass}
+use Rattle.protocol.proofs.Laws.{cases, no-is, is_yes, which, range, Pass}
 use Rattle.rows.specs.Rows.{span, row}
 use Rattle.rows.proofs.Spans.{length-span, row_most}
 use Rattle.rules.specs.declared.Index.{Index}

@@ -9,7 +9,7 @@ use lib.Dec.{eqb, eqb-suc-zero}
 use lib.IntN.{ℤ, pos}
 use lib.ListN.{get_or}
 use borrow.Author.Tests.{eq-eqb}
-use Rattle.std.specs.Prelude.{Option, Some, None, Result, Ok, Err}
+use Rattle.std.specs.Prelude.{Some, None, Result, Ok, Err}
 use Rattle.protocol.specs.Lists.{is_none, any, natural, one_to}
 use Rattle.protocol.specs.Asked.{number_of, verdict_of}
 use Rattle.protocol.specs.Plan.{is, whole, allowed, in_range, applied, fits, value}
@@ -25,14 +25,14 @@ use Rattle.rows.specs.Rows.{row}
 use Rattle.rules.specs.Rules.{RuleTest, numbered}
 use Rattle.rules.specs.Index.{FirmTest}
 use Rattle.rules.proofs.Rules.{value_row}
-use Rattle.heads.specs.Heads.{mode_of, sides_in, offset_of, measures_in, position_of, end_in, kept_in, named_at, seat}
+use Rattle.heads.specs.Heads.{mode_of, sides_in, offset_of, measures_in, end_in, kept_in, named_at, seat}
 use Rattle.records.specs.Records.{kept_at, looked, found_at}
 use Rattle.records.proofs.Records.{Placed, placed, looked_record}
 use Rattle.state.specs.Spread.{Spread, named_in}
 use Rattle.state.proofs.Meets.{fine_pass}
 use Rattle.state.proofs.View.{row-length}
 use Rattle.edit.specs.declared.Granted.{Granted}
-use Rattle.edit.specs.Edits.{place_checks, room_checks, edit_checks, row_of, asks, result_of, rule_by, frozen_by, checks_by, Ruled, spot_of}
+use Rattle.edit.specs.Edits.{place_checks, room_checks, row_of, asks, result_of, rule_by, frozen_by, checks_by, Ruled, spot_of}
 
 -- ---- parts
 
@@ -131,13 +131,13 @@ module _ (test : RuleTest) (firmly : FirmTest) (p : Spread) (e : Edit) where
   other : (r : Refusal) (cs : List Check) → any (λ c. eqb c.number 29) cs ≡ false → refused (number_of r) ≡ first cs → number_of r ≡ 29 → ⊥
   other r cs a f q = never 29 cs a (sym f ∙ ap refused q)
 
-  pub place_refused : (r : Refusal) → refused (number_of r) ≡ first place → Ruled test firmly p e (Err r)
-  place_refused r f = refuses r (found f refl refl refl refl) (other r place refl f)
+  pub place_refused : {r : Refusal} → refused (number_of r) ≡ first place → Ruled test firmly p e (Err r)
+  place_refused {r = r} f = refuses r (found f refl refl refl refl) (other r place refl f)
 
   pub change_refused : fine ≡ first place → None ≡ made_of (natural e.kind) e.constant → Ruled test firmly p e (Err NoSuchChange)
   change_refused f m = refuses NoSuchChange (found f (made-no e m) refl refl refl) (λ q. cc)
 
-  module _ (f : fine ≡ first place) (c : Change) (m : Some c ≡ made_of (natural e.kind) e.constant) where
+  module _ (f : fine ≡ first place) {c : Change} (m : Some c ≡ made_of (natural e.kind) e.constant) where
     abbrev yes : allowed (asks e) ≡ true
     yes = (made_yes e c m).0
 
@@ -161,8 +161,8 @@ module _ (test : RuleTest) (firmly : FirmTest) (p : Spread) (e : Edit) where
         ap₂ applied (made_yes e c m).1 (stands_at p.values (natural e.side) (measures_in p.head) (natural e.measure) r.0 r.1 (omega arith))
 
     module _ (g : Follows true) where
-      pub room_refused : (r : Refusal) → refused (number_of r) ≡ first room → Ruled test firmly p e (Err r)
-      room_refused r h = refuses r (found f yes (follows g) h refl) (other r room refl h)
+      pub room_refused : {r : Refusal} → refused (number_of r) ≡ first room → Ruled test firmly p e (Err r)
+      room_refused {r = r} h = refuses r (found f yes (follows g) h refl) (other r room refl h)
 
       module _ (h : fine ≡ first room) where
         pub result_refused : None ≡ ranged_of made_of_old → Ruled test firmly p e (Err ResultOutOfRange)
@@ -171,7 +171,7 @@ module _ (test : RuleTest) (firmly : FirmTest) (p : Spread) (e : Edit) where
             out : refused 28 ≡ first last
             out = rw (fits-in p e, ranged_out (result_of p e) (o ∙ ap ranged_of result_is))
 
-        module _ (x : ℤ) (i : Some x ≡ ranged_of made_of_old) where
+        module _ {x : ℤ} (i : Some x ≡ ranged_of made_of_old) where
           fitting : (in_range (result_of p e) ≡ true) × (x ≡ result_of p e)
           fitting = ranged_in (result_of p e) x (i ∙ ap ranged_of result_is)
 
@@ -182,8 +182,8 @@ module _ (test : RuleTest) (firmly : FirmTest) (p : Spread) (e : Edit) where
           tested_is : tested ≡ rule_by test p e
           tested_is = ap (λ y. test (natural e.measure) p.lower p.gap p.upper (min p.head.rules 64) y (row_of p e)) fitting.1
 
-          pub rule_refused : (k : ℕ) → Some k ≡ numbered tested → Ruled test firmly p e (Err (RuleBroken k))
-          rule_refused k n = record { verdict = found f yes (follows g) h broken; granted = tt; rule = λ j q. sym (named k j q) ∙ some.0 }
+          pub rule_refused : {k : ℕ} → Some k ≡ numbered tested → Ruled test firmly p e (Err (RuleBroken k))
+          rule_refused {k = k} n = record { verdict = found f yes (follows g) h broken; granted = tt; rule = λ j q. sym (named k j q) ∙ some.0 }
             where
               some : (k ≡ rule_by test p e) × (is_none (rule_by test p e) ≡ false)
               some = some-rule _ k (n ∙ ap numbered tested_is)
@@ -191,8 +191,8 @@ module _ (test : RuleTest) (firmly : FirmTest) (p : Spread) (e : Edit) where
               broken : refused 29 ≡ first last
               broken = rw (fits-in p e, fitting.0, some.1)
 
-          pub grants : (y : ℤ) → y ≡ x → None ≡ numbered tested → Ruled test firmly p e (Ok (record { change = c; value = y }))
-          grants y w n = record { verdict = found f yes (follows g) h none; granted = (m, w ∙ fitting.1); rule = λ j q. cc }
+          pub grants : {y : ℤ} → y ≡ x → None ≡ numbered tested → Ruled test firmly p e (Ok (record { change = c; value = y }))
+          grants w n = record { verdict = found f yes (follows g) h none; granted = (m, w ∙ fitting.1); rule = λ j q. cc }
             where
               none : fine ≡ first last
               none = rw (fits-in p e, fitting.0, no-rule _ (n ∙ ap numbered tested_is))

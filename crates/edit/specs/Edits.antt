@@ -1,5 +1,5 @@
 -- Scaffolding: the checks of an edit from its parts, what it decides, and the state after the stores. Assumes nothing.
-use Rattle.std.specs.Prelude.{ℕ, ◌+◌, ◌-◌, ◌%◌, min, Bool, true, not, cond, ◌&&◌, ◌||◌, List, [], ◌∷◌, leb, ℤ, length, set, T, ◌≡◌, Option, Some, Result, Err, IfOk}
+use Rattle.std.specs.Prelude.{ℕ, ◌+◌, ◌-◌, ◌%◌, min, Bool, true, not, cond, ◌&&◌, ◌||◌, List, [], ◌∷◌, leb, ℤ, length, set, T, ◌≡◌, Some, Result, Err, IfOk}
 use Rattle.protocol.specs.Lists.{is_none, natural, one_to}
 use Rattle.protocol.specs.Plan as model
 use Rattle.protocol.specs.Plan.{is, blank, whole, split, applied, value, holds, made, side_at, kept_limit, rule_limit, number_limit}

@@ -1,7 +1,7 @@
 // What an edit decides (01, "The calls"), and what it stores where it is granted.
 #![tactic(auto)]
 
-ghost use Rattle.std.specs.Prelude.{min, ◌<◌, ◌≤◌, leb, ltb, ◌&&◌, ◌||◌, ◌≡◌, false, set, length};
+ghost use Rattle.std.specs.Prelude.{min, ◌<◌, ◌||◌, ◌≡◌, false, set, length};
 ghost use Rattle.edit.specs.Edits.{place_checks, room_checks, Ruled, Trusted, BrokenNamed, StaysIfRefused, SameRules, edited, spot_of};
 ghost use Rattle.heads.specs.Heads.{mode_of};
 ghost use Rattle.protocol.specs.Asked.{verdict_of};
@@ -139,7 +139,7 @@ pub fn decide(p: &State, e: Edit, index: &Index, sound: bool) -> Result<Granted,
     Ok(Granted { change, value })
 }
 
-// Puts a record among the kept edits.
+// Puts a record among the kept edits. A function of its own, since what lends them alone is told how many there is room for.
 fn put_record(edits: &mut [EditRecord; limit::EDITS], place: usize, entry: EditRecord)
     requires { place < 256 }
     ensures { (edits.new ≡ set edits.old place entry) × (length edits.old ≡ 256) }

@@ -48,11 +48,6 @@ lines_cut x (y ∷ ys) =
 
 -- ---- the first line, byte by byte; a sheet ends as if by a line feed
 
-pub get_or-within : {A : Type 0} (xs : List A) (k : ℕ) (d e : A) → k < length xs → get_or xs k d ≡ get_or xs k e
-get_or-within [] k d e h = absurd (omega arith)
-get_or-within (x ∷ xs) zero d e h = refl
-get_or-within (x ∷ xs) (suc k) d e h = get_or-within xs k d e (omega arith)
-
 pub line_over : (bs : List ℕ) (at : ℕ) → get_or bs at line_feed ≡ line_feed → length (first_line bs) ≤ at
 line_over [] at e = omega arith
 line_over (x ∷ xs) zero e = rw (eq-eqb x line_feed e) (omega arith)

@@ -79,11 +79,6 @@ abbrev pub Reading : List ℕ → ℕ → ℕ → ℕ → ℕ → Type 0
 Reading line from first n i =
     (from ≤ i) × (i ≤ length line) × (i - from ≤ 8) × (n < 10 ^ (i - from + 1)) × (followed 0 first from (word_at line from) ≡ followed (i - from) n i (word_at line i))
 
-pub reading_begin : (line : List ℕ) (from first : ℕ) → first < 10 → from ≤ length line → Reading line from first first from
-reading_begin line from first p q =
-    let z : from - from ≡ 0 = omega arith in
-    (omega arith, q, omega arith, rw z (omega arith), rw z)
-
 module _ (line : List ℕ) (from first n i : ℕ) (r : Reading line from first n i) where
   pub reading-stop : word_at line i ≡ [] → behind_it n i ≡ followed 0 first from (word_at line from)
   reading-stop e = sym (r.4 ∙ ap (followed (i - from) n i) e ∙ followed-end (i - from) n i r.2)

@@ -17,8 +17,8 @@ struct Found<T> {
     next: usize,
 }
 
-// The fourteen calls' names.
-#[derive(Clone, Copy, PartialEq, Eq)]
+// Which of the fourteen calls.
+#[derive(Clone, Copy)]
 enum Op {
     Measure,
     Rule,
@@ -51,7 +51,7 @@ impl Op {
         }
     }
 
-    // The call with its numbers, the first of these.
+    // The call with its numbers, as many of these as it takes.
     fn call(self, numbers: &[i32; 6]) -> Call
         ensures { asked result ≡ call_from self numbers.now }
     {
@@ -221,11 +221,12 @@ fn op_named(name: &[u8]) -> Option<Op>
     Some(op)
 }
 
-// The call of a line's first word. Every name has 4 letters or more, and a word that is longer than any name is not read on.
+// The call of a line's first word. Every name has 4 letters or more, so the first 4 bytes are taken as they are: where the word ends among them, they
+// spell no name. A word longer than any name is not read on.
 fn read_name(sheet: &[u8]) -> Option<Found<Op>>
     ensures { Named (first_line sheet.now) result }
 {
-    for next in 4..8usize {
+    for next in 4..8 {
         if ends(byte_at(sheet, next)) {
             return Some(Found {
                 value: op_named(sheet.get(..next)?)?,

@@ -1,188 +1,181 @@
-// What a replay decides (01, "The calls"): its checks, its outcome, and the record that it settles. Read only, on what is lent.
+// What a replay decides and stores (01, "The calls"): its checks, its trial on the draft, and the edit that it settles.
 #![tactic(auto)]
 
-ghost use Rattle.std.specs.Prelude.{min, ◌<◌, ◌≤◌, ◌≡◌, cond, pos, get_or};
+ghost use Rattle.std.specs.Prelude.{◌+◌, ◌<◌, ◌≡◌, ◌≢◌, IfOk, min, length, set, get_or, Some};
+ghost use Rattle.heads.specs.Heads.{named_at, seat};
+ghost use Rattle.protocol.specs.Asked.{verdict_of};
+ghost use Rattle.protocol.specs.Calls.{first, replay};
+ghost use Rattle.protocol.specs.Lists.{natural};
 ghost use Rattle.protocol.specs.Plan.{fate_is};
-ghost use Rattle.records.specs.Records.{fate_of, kept_at, record_of};
-ghost use Rattle.rows.specs.Rows.{row};
-ghost use Rattle.replay.specs.Replays.{draft_outcome, settled_fate, settled_record, point_of, earlier_at, outcome_from};
+ghost use Rattle.records.specs.Records.{fate_of, kept_at, no_record};
+ghost use Rattle.records.specs.declared.Fate.TheVariants.{Unsent};
+ghost use Rattle.replay.specs.Replays.{point_of, tried_of, outcome_fate, outcome_of, settled_record, settled_in, checks_in, Decided, Replayed, Trusted};
 ghost use Rattle.rules.specs.Index.{tested_by};
-ghost use Rattle.rules.specs.Table.{lowers, gaps, uppers};
+ghost use Rattle.state.specs.Meets.{Makes};
+ghost use Rattle.state.specs.Spread.{spread, named_in};
 
-use change::{Applied, Change};
-use heads::Head;
 use protocol::limit;
+use protocol::refusal::Refusal;
 use records::{EditRecord, Fate};
-use rules::{Index, Table};
+use rules::Index;
+use state::{Answer, Given, State};
 
-// What the checks of a replay find: a refusal, or whether the edit is accepted, the value that the draft then has at its place, and the number of the rule that
-// it breaks: 0 if it breaks none or was not tested.
+// What a replay that is not refused comes to: the edit is accepted, with the value that the draft then has at its place; or it is revoked, with the number of the
+// rule that it breaks, if it was tested and breaks one.
 #[derive(Clone, Copy)]
 pub enum Outcome {
-    Refused(u32),
-    Settled(bool, i32, u32),
+    Accepted(i32),
+    Revoked(Option<u32>),
 }
 
-// ---- where a replay looks
+impl Outcome {
+    fn fate(self) -> Fate
+        ensures { result ≡ outcome_fate self }
+    {
+        match self {
+            Outcome::Accepted(_) => Fate::Accepted,
+            Outcome::Revoked(_) => Fate::Revoked,
+        }
+    }
+}
 
 // Where a measure stands in the draft.
 fn point(m: u32) -> usize
     ensures { (result ≡ point_of m) × (result < 32) }
 {
-    if m == 0 {
-        return 0;
-    }
-    rows::capped(m - 1, limit::LAST_MEASURE)
+    rows::capped(m.saturating_sub(1), limit::LAST_MEASURE)
 }
 
-// Where the measure of an edit, seen at a position from 1, stands in the draft.
-pub fn point_of(i: usize, standing: EditRecord) -> usize
-    ensures { (result ≡ point_of (record_of i standing).measure) × (result < 32) }
+// ---- its checks
+
+// Whether the edit that one names as earlier has a fate.
+fn earlier_is(p: &State, e: &EditRecord, fate: Fate) -> bool
+    ensures { fate ≢ Unsent → result ≡ fate_is (fate_of fate) (kept_at 0 (named_in (spread p.now) e.now.earlier)).fate }
 {
-    let e = records::found(i, standing);
-    point(e.measure as u32)
+    matches!(records::find(&p.edits, p.head.position(e.earlier)), Some(earlier) if earlier.fate == fate)
 }
 
-// The position, from 1, of the edit that it names as earlier.
-pub fn earlier(h: Head, i: usize, standing: EditRecord) -> usize
-    ensures { (result ≡ earlier_at h i standing) × (result ≤ 256) }
+// The place of the edit that a call names, where the checks 31, 34, 35 and 36 pass, from how many first logs are missing.
+fn waiting(p: &State, n: i32, missing: u32) -> Result<usize, Refusal>
+    ensures { (verdict_of result ≡ first (checks_in (spread p.now) missing n)) ×
+        IfOk result (λ i. (i < 256) × (seat (named_at p.now.head n) ≡ Some i)) }
 {
-    let e = records::found(i, standing);
-    heads::position(h, e.earlier)
-}
-
-// ---- what it decides
-
-// Whether this is the fate of an edit, seen at a position from 1.
-fn has_fate(i: usize, e: EditRecord, fate: Fate) -> bool
-    ensures { result ≡ fate_is (fate_of fate) (kept_at 0 (record_of i e)).fate }
-{
-    let r = records::found(i, e);
-    let f = r.fate;
-    records::fate_number(f) == records::fate_number(fate)
-}
-
-// The value that a change is made of: 0 where the measure is none of the draft's.
-fn counted(here: bool, old: i32) -> i32
-    ensures { result ≡ cond here old (pos 0) }
-{
-    if here {
-        return old;
-    }
-    0
-}
-
-// The number of a rule that is broken, or 0, on the draft where measure m counts as x. A caller that knows that all rules hold on the draft says so (`sound`):
-// then the index that is lent is asked, which, if it is the rules', has those that name the measure, and the number is the same.
-fn broken<'a>(
-    table: &'a Table,
-    k: u32,
-    index: &'a Index,
-    draft: &'a [i32; limit::MEASURES],
-    n: u32,
-    m: u32,
-    x: i32,
-    sound: bool,
-) -> u32
-    ensures { result ≡ tested_by sound index.now m (lowers table.now) (gaps table.now) (uppers table.now)
-        (min k 64) x (row draft.now 0 (min n 32)) }
-{
-    let size = rows::capped(n, limit::MEASURES);
-    let vs = &draft[..];
-    let row = &vs[0..size];
-    if sound {
-        return rules::broken_by_index(index, row, m, x);
-    }
-    rules::broken_of_all(table, k, row, m, x)
-}
-
-// A change tried on the draft: whether it takes effect, the value at its place then, and the rule that it breaks.
-fn try_draft<'a>(
-    h: Head,
-    table: &'a Table,
-    index: &'a Index,
-    draft: &'a [i32; limit::MEASURES],
-    m: u32,
-    change: Change,
-    sound: bool,
-) -> Outcome
-    ensures { result ≡ draft_outcome (tested_by sound index.now) h (lowers table.now) (gaps table.now)
-        (uppers table.now) draft.now m change (get_or draft.now (point_of m) (pos 0)) }
-{
-    let at = point(m);
-    let old = draft[at];
-    let here = rows::one_to(rows::capped(h.drafted, limit::MEASURES), m);
-    let made = change::apply(change, counted(here, old));
-    let Applied::InRange(x) = made else {
-        return Outcome::Settled(false, old, 0);
-    };
-    let rule = broken(table, h.rules, index, draft, h.drafted, m, x, sound);
-    if rule != 0 {
-        return Outcome::Settled(false, old, rule);
-    }
-    if here {
-        return Outcome::Settled(true, x, 0);
-    }
-    Outcome::Settled(true, old, 0)
-}
-
-// What a replay decides, from how many first logs are missing, and the edit and the one that it names as earlier, each seen at a position from 1:
-// the checks 31, 34, 35, 36, and the trial. An edit built on a revoked one is revoked, untested, and the draft stays (02, S-2).
-pub fn decide_replay<'a>(
-    h: Head,
-    table: &'a Table,
-    index: &'a Index,
-    draft: &'a [i32; limit::MEASURES],
-    missing: u32,
-    i: usize,
-    standing: EditRecord,
-    j: usize,
-    seen: EditRecord,
-    sound: bool,
-) -> Outcome
-    ensures { result ≡ outcome_from (tested_by sound index.now) h (lowers table.now) (gaps table.now)
-        (uppers table.now) draft.now missing i standing j seen }
-{
-    let mode = h.mode;
-    if !heads::is_active(mode) {
-        return Outcome::Refused(31);
+    if !p.head.mode.is_active() {
+        return Err(Refusal::WrongMode);
     }
     if missing != 0 {
-        return Outcome::Refused(34);
+        return Err(Refusal::LogMissing);
     }
-    if !has_fate(i, standing, Fate::Waiting) {
-        return Outcome::Refused(35);
+    let Some(i) = p.head.named(n) else {
+        return Err(Refusal::NotWaiting);
+    };
+    if p.edits[i].fate != Fate::Waiting {
+        return Err(Refusal::NotWaiting);
     }
-    if has_fate(j, seen, Fate::Waiting) {
-        return Outcome::Refused(36);
+    if earlier_is(p, &p.edits[i], Fate::Waiting) {
+        return Err(Refusal::EarlierWaits);
     }
-    let m = standing.measure as u32;
-    if has_fate(j, seen, Fate::Revoked) {
-        let at = point(m);
-        return Outcome::Settled(false, draft[at], 0);
-    }
-    let change = standing.change;
-    try_draft(h, table, index, draft, m, change, sound)
+    Ok(i)
 }
 
-// ---- the record of an edit that is settled
+// ---- its trial
 
-fn settled_fate(accepted: bool) -> Fate
-    ensures { result ≡ settled_fate accepted }
+// The change of an edit tried on the draft. A caller that knows that all rules hold on the draft says so (`sound`): then the index that is lent is asked, which, if
+// it is the rules', has those that name the measure, and the number is the same.
+fn try_draft(p: &State, e: &EditRecord, index: &Index, sound: bool) -> Outcome
+    ensures { result ≡ tried_of (tested_by sound index.now) (spread p.now) e.now }
 {
-    if accepted {
-        return Fate::Accepted;
+    let m = u32::from(e.measure);
+    let here = rows::one_to(rows::capped(p.head.drafted, limit::MEASURES), m);
+    let old = p.draft[point(m)];
+    let Some(x) = e.change.apply(if here { old } else { 0 }) else {
+        return Outcome::Revoked(None);
+    };
+    let broken = rules::broken(
+        &p.table,
+        p.head.rules,
+        index,
+        &p.draft,
+        0,
+        p.head.drafted,
+        m,
+        x,
+        sound,
+    );
+    if let Some(rule) = broken {
+        return Outcome::Revoked(Some(rule));
     }
-    Fate::Revoked
+    Outcome::Accepted(if here { x } else { old })
 }
 
-// An edit, accepted or revoked, with its place in the order of settling.
-pub fn settled_record(e: EditRecord, accepted: bool, place: u32) -> EditRecord
-    ensures { result ≡ settled_record e accepted place }
+// What an edit comes to. One built on a revoked edit is revoked, untested, and the draft stays (02, S-2).
+fn trial(p: &State, e: &EditRecord, index: &Index, sound: bool) -> Outcome
+    ensures { result ≡ outcome_of (tested_by sound index.now) (spread p.now) e.now }
 {
-    let mut r = records::with_fate(e, settled_fate(accepted));
-    r.place = place;
-    r
+    if earlier_is(p, e, Fate::Revoked) {
+        Outcome::Revoked(None)
+    } else {
+        try_draft(p, e, index, sound)
+    }
+}
+
+// What a replay decides, from how many first logs are missing; the state stays as it is.
+pub fn decide(
+    p: &State,
+    n: i32,
+    missing: u32,
+    index: &Index,
+    sound: bool,
+) -> Result<Outcome, Refusal>
+    ensures { Decided (tested_by sound index.now) (spread p.now) n missing result }
+{
+    let i = waiting(p, n, missing)?;
+    Ok(trial(p, &p.edits[i], index, sound))
+}
+
+// ---- what it stores
+
+// The edit at a place is settled, behind as many as there are.
+fn settle_record(edits: &mut [EditRecord; limit::EDITS], i: usize, fate: Fate, settled: u32)
+    requires { i < 256 }
+    ensures { (edits.new ≡ set edits.old i (settled_record (get_or edits.old i no_record) fate (min settled 256 + 1))) × (length edits.old ≡ 256) }
+{
+    edits[i] = EditRecord {
+        fate,
+        place: settled.min(limit::KEPT) + 1,
+        ..edits[i]
+    };
+}
+
+// The same, and the draft where the edit is accepted.
+fn settle(p: &mut State, i: usize, outcome: Outcome, settled: u32)
+    requires { i < 256 }
+    ensures { (p.new ≡ settled_in p.old i outcome settled) × (length p.old.edits ≡ 256) }
+{
+    if let Outcome::Accepted(x) = outcome {
+        p.draft[point(u32::from(p.edits[i].measure))] = x;
+    }
+    settle_record(&mut p.edits, i, outcome.fate(), settled);
+}
+
+// A replay made in place. How many first logs are missing and how many edits are settled, the plan's owner counts.
+pub fn replay(
+    p: &mut State,
+    n: i32,
+    missing: u32,
+    settled: u32,
+    index: &Index,
+    sound: bool,
+) -> Answer
+    ensures exact { Replayed (tested_by sound index.now) p.old n missing settled result p.new }
+    ensures step { Trusted p.old missing settled index.now sound → Makes (replay n) p.old result p.new }
+    ensures rules { (p.new.table ≡ p.old.table) × (p.new.head ≡ p.old.head) }
+{
+    let i = waiting(p, n, missing)?;
+    let e = p.edits[i];
+    let outcome = trial(p, &e, index, sound);
+    settle(p, i, outcome, settled);
+    Ok(Given::One(outcome.fate().number()))
 }
 
 // The laws of the call replay stand in proofs/Replays.antt.

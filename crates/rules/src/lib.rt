@@ -282,7 +282,7 @@ fn far_limit(p: u8, z: i64) -> i64
 }
 
 // Whether a rule holds that names a measure, which counts as y: from its other measure and its gap, as the index has them, on a row. Nearly all tests are made
-// here. That each side has its own way to the end, and the far ones another test, is for speed: 14 or 17 instructions a rule (docs/DECISIONS.md).
+// here. That each side has its own way to the end, and the far ones another test, is for speed: 13 or 14 instructions a rule (docs/DECISIONS.md).
 fn naming_holds(row: &[i32], y: i32, naming: &Naming) -> bool
     requires { length row.now ≤ 32 }
     ensures { result ≡ naming_holds (value row.now) y naming.now }

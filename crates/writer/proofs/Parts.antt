@@ -1,7 +1,7 @@
 -- Laws of the parts of a line, and of a line that goes in whole or not at all. Assumes nothing.
-use Rattle.std.proofs.Common.{◌≡◌, ℕ, ◌+◌, ◌<◌, ◌≤◌, ◌==◌, false, Option, Some, None, Ok, Err, List, [], ◌∷◌, ◌++◌, ℤ, pos, length, set, refl, sym, ap, ap₂, ◌∙◌, append_assoc, append-nil, length-append, zero-add, arith}
+use Rattle.std.proofs.Common.{◌≡◌, ℕ, ◌+◌, ◌<◌, ◌≤◌, ◌==◌, false, Some, Ok, Err, List, [], ◌∷◌, ◌++◌, ℤ, pos, length, set, refl, sym, ap, ap₂, ◌∙◌, append_assoc, append-nil, length-append, zero-add, arith}
 use Rattle.std.proofs.lemmas.List.Edits.{sets}
-use borrow.Author.Tests.{le-leb, lt-leb}
+use borrow.Author.Tests.{le-leb}
 use Rattle.protocol.specs.Calls.{ok}
 use Rattle.protocol.specs.declared.refusal.Refusal.{Refusal}
 use Rattle.protocol.specs.declared.refusal.Refusal.TheVariants.{Unreadable}
@@ -14,7 +14,7 @@ use Rattle.format.proofs.Fronts.{sets_front}
 use Rattle.format.proofs.Texts.{written_pos, spaced-none, spaced_more, text-no, text-ok, text-done}
 use Rattle.state.specs.declared.Given.{Given}
 use Rattle.state.specs.declared.Given.TheVariants.{Nothing, One, Two, Three}
-use Rattle.state.specs.Meets.{numbers_of, Answer}
+use Rattle.state.specs.Meets.{numbers_of}
 use Rattle.writer.specs.Writes.{line_of, put_in, put_count, told, numbers_told, head_of, ended, ok_letters, no_letters, parts_of, unreadable}
 use Rattle.writer.proofs.Writes.{sets_append}
 
@@ -80,10 +80,7 @@ line_unreadable row = line_refused Unreadable row 51 refl
 
 -- ---- whole or not at all
 
-pub not-put : (line area : List ℕ) → length area < length line → (area ≡ put_in line area) × (None ≡ put_count line area)
-not-put line area h = rw (lt-leb (length line) (length area) h) (refl, refl)
-
-pub is-put : (line area after : List ℕ) (n : ℕ) → length line ≤ length area → after ≡ sets area 0 line → n ≡ length line → (after ≡ put_in line area) × (Some n ≡ put_count line area)
+is-put : (line area after : List ℕ) (n : ℕ) → length line ≤ length area → after ≡ sets area 0 line → n ≡ length line → (after ≡ put_in line area) × (Some n ≡ put_count line area)
 is-put line area after n h e f = rw (le-leb (length line) (length area) h) (e ∙ sets_front area line h, ap (λ k. Some k) f)
 
 -- bytes put behind others
@@ -92,16 +89,8 @@ put-behind area first second at xs ys e f g =
     let h : at ≡ 0 + length xs = f ∙ sym (zero-add (length xs)) in
     g ∙ ap₂ (λ l k. sets l k ys) e h ∙ sym (sets_append area 0 xs ys)
 
--- a line whose last byte has no room, and one whose last byte is put behind the others
-pub not-ended : (bs area : List ℕ) (at : ℕ) → at ≡ length bs → length area ≤ at → (area ≡ put_in (ended bs) area) × (None ≡ put_count (ended bs) area)
-not-ended bs area at e h = let l = length-append bs (line_feed ∷ []) in not-put (ended bs) area (omega arith)
-
+-- a line whose last byte is put behind the others
 pub is-ended : (bs area first : List ℕ) (at : ℕ) → first ≡ sets area 0 bs → at ≡ length bs → at < length area → (set first at line_feed ≡ put_in (ended bs) area) × (Some (at + 1) ≡ put_count (ended bs) area)
 is-ended bs area first at e f h =
     let l = length-append bs (line_feed ∷ []) in
     is-put (ended bs) area _ _ (omega arith) (put-behind area first _ at bs (line_feed ∷ []) e f refl) (omega arith)
-
--- what was put in is the line of an answer whose parts they are
-pub line_put : (answer : Answer) (row : List ℤ) (parts area after : List ℕ) (n : Option ℕ) → line_of answer row ≡ parts → (after ≡ put_in parts area) × (n ≡ put_count parts area)
-    → (after ≡ put_in (line_of answer row) area) × (n ≡ put_count (line_of answer row) area)
-line_put answer row parts area after n e p = (p.0 ∙ ap (λ t. put_in t area) (sym e), p.1 ∙ ap (λ t. put_count t area) (sym e))

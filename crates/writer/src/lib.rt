@@ -5,7 +5,8 @@ ghost use Rattle.std.specs.Prelude.{◌≡◌, [], ◌+◌, ◌-◌, ◌*◌, �
 ghost use Rattle.std.proofs.lemmas.List.Edits.{sets};
 ghost use Rattle.format.specs.Numbers.{digits, written};
 ghost use Rattle.format.specs.Sheets.{spaced};
-ghost use Rattle.writer.specs.Writes.{line_of, put_in, put_count, two_digits, told, numbers_told, head_of, ended, parts_of, unreadable};
+ghost use Rattle.state.specs.declared.Given.TheVariants as Given;
+ghost use Rattle.writer.specs.Writes.{line_of, put_in, put_count, two_digits, told, numbers_told, head_of, ended, ok_letters, parts_of, unreadable};
 
 use protocol::refusal::Refusal;
 use state::{Answer, Given};
@@ -103,7 +104,8 @@ fn put_signed(x: i32, at: usize, area: &mut [u8]) -> usize
 
 // ---- a row
 
-// A value has at most 11 bytes and a space. The loop changes nothing, and a compiler drops it: that a value of a slice is an i32 the proof knows only once it is read.
+// A value has at most 11 bytes and a space. The loop changes nothing, and a compiler drops it: that a value of a slice is an i32 the proof knows only
+// once it is read.
 #[tactic(auto, using(crate::proofs::Widths::read_next, crate::proofs::Widths::read_over))]
 fn row_most(row: &[i32])
     ensures { length (spaced row.now) ≤ 12 * length row.now }
@@ -178,13 +180,13 @@ fn put_numbers(given: Given, end: usize, area: &mut [u8]) -> usize
     }
 }
 
-// Two letters and the numbers up to an end, which is known.
-fn put_head(letters: [u8; 2], given: Given, end: usize, area: &mut [u8])
-    requires { (end ≡ length (head_of letters given)) × (end ≤ length area.old) }
-    ensures { area.new ≡ sets area.old 0 (head_of letters given) }
+// `ok` and the numbers up to an end, which is known.
+fn put_head(given: Given, end: usize, area: &mut [u8])
+    requires { (end ≡ length (head_of ok_letters given)) × (end ≤ length area.old) }
+    ensures { area.new ≡ sets area.old 0 (head_of ok_letters given) }
 {
-    area[0] = letters[0];
-    area[1] = letters[1];
+    area[0] = b'o';
+    area[1] = b'k';
     put_numbers(given, end, area);
 }
 
@@ -194,27 +196,41 @@ fn put_head(letters: [u8; 2], given: Given, end: usize, area: &mut [u8])
 fn put_parts(given: Given, row: &[i32], area: &mut [u8]) -> Option<usize>
     ensures { (area.new ≡ put_in (parts_of given row.now) area.old) × (result ≡ put_count (parts_of given row.now) area.old) }
 {
-    let letters = *b"ok";
-    let w = letters.len() + numbers_width(given);
+    let w = 2 + numbers_width(given);
     let room = area.len().checked_sub(w + 1)?;
     if !row_fits(row, room) {
         return None;
     }
-    put_head(letters, given, w, area);
+    put_head(given, w, area);
     let end = put_row(row, w, area);
     area[end] = b'\n';
     Some(end + 1)
 }
 
-// With no row behind, as nearly all are.
-fn put_line(letters: [u8; 2], given: Given, area: &mut [u8]) -> Option<usize>
-    ensures { (area.new ≡ put_in (ended (head_of letters given)) area.old) × (result ≡ put_count (ended (head_of letters given)) area.old) }
+// With no row behind.
+fn put_line(given: Given, area: &mut [u8]) -> Option<usize>
+    ensures { (area.new ≡ put_in (ended (head_of ok_letters given)) area.old) × (result ≡ put_count (ended (head_of ok_letters given)) area.old) }
 {
-    let w = letters.len() + numbers_width(given);
+    let w = 2 + numbers_width(given);
     if area.len() <= w {
         return None;
     }
-    put_head(letters, given, w, area);
+    put_head(given, w, area);
+    area[w] = b'\n';
+    Some(w + 1)
+}
+
+// Two letters and one number, as nearly all lines are: the same as above in a straight line, for speed alone.
+fn put_one(letters: [u8; 2], n: u32, area: &mut [u8]) -> Option<usize>
+    ensures { (area.new ≡ put_in (ended (head_of letters (Given.One n))) area.old) × (result ≡ put_count (ended (head_of letters (Given.One n))) area.old) }
+{
+    let w = 3 + width(n);
+    if area.len() <= w {
+        return None;
+    }
+    area[0] = letters[0];
+    area[1] = letters[1];
+    put_spaced(n, w, area);
     area[w] = b'\n';
     Some(w + 1)
 }
@@ -231,16 +247,15 @@ fn put_unreadable(area: &mut [u8]) -> Option<usize>
     Some(line.len())
 }
 
-// Numbers alone. No number is told as 0. One number, as nearly all answers have, has a call of its own for speed alone: in it their count is known when
-// the code is compiled.
+// Numbers alone. No number is told as 0.
 #[tactic(auto, using(crate::proofs::Parts::line_nothing, crate::proofs::Parts::line_alone))]
 fn put_alone(given: Given, area: &mut [u8]) -> Option<usize>
     ensures { (area.new ≡ put_in (line_of (Ok given) []) area.old) × (result ≡ put_count (line_of (Ok given) []) area.old) }
 {
     match given {
-        Given::Nothing => put_line(*b"ok", Given::One(0), area),
-        Given::One(n) => put_line(*b"ok", Given::One(n), area),
-        _ => put_line(*b"ok", given, area),
+        Given::Nothing => put_one(*b"ok", 0, area),
+        Given::One(n) => put_one(*b"ok", n, area),
+        _ => put_line(given, area),
     }
 }
 
@@ -252,7 +267,7 @@ pub fn put(answer: Answer, row: &[i32], area: &mut [u8]) -> Option<usize>
 {
     match answer {
         Err(Refusal::Unreadable) => put_unreadable(area),
-        Err(refusal) => put_line(*b"no", Given::One(refusal.number()), area),
+        Err(refusal) => put_one(*b"no", refusal.number(), area),
         Ok(given) if row.is_empty() => put_alone(given, area),
         Ok(given) => put_parts(given, row, area),
     }

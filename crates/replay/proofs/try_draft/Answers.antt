@@ -1,131 +1,91 @@
-use Prim.Native.Nat.{ℕ, suc, zero, ◌+◌, ◌-◌, ◌≤◌, min}
+use Prim.Native.Nat.{ℕ, min}
 use native.Mathlib.Omega.{arith}
-use mathlib.Core.Bool.{true, false, cond}
-use mathlib.Core.Path.{◌≡◌, refl, sym, ap, ◌∙◌, subst}
+use mathlib.Core.Bool.{cond}
+use mathlib.Core.Path.{◌≡◌, sym, ap, ◌∙◌}
 use mathlib.Core.List.{List}
-use borrow.Author.Tests.{ltb-true, ltb-false, ne_eqb}
-use lib.Dec.{T, ltb}
 use lib.IntN.{ℤ, pos}
 use lib.ListN.{get_or}
 use mir.Syntax.{w32}
 use mir.Val.{to_z, of_z}
-use mir.Facts.{to_z-of_z}
-use Rattle.exact.proofs.Ints.{fits32}
-use Rattle.protocol.specs.Lists.{is_none, one_to}
-use Rattle.protocol.specs.Plan.{in_range, fits, applied, value}
-use Rattle.protocol.specs.Plan as model
-use Rattle.protocol.proofs.Laws.{cases, is_yes, range, in_range_lem}
+use borrow.Author.Rules.{rules}
+use Rattle.protocol.specs.Lists.{one_to}
+use Rattle.protocol.specs.Plan.{value, applied}
 use Rattle.change.specs.Change.{view_change, ranged_of}
-use Rattle.change.proofs.Changes.{ranged_in, ranged_out}
-use Rattle.rows.specs.Rows.{row}
 use Rattle.rules.specs.Index.{tested_by}
+use Rattle.rules.specs.Rules.{numbered}
 use Rattle.rules.specs.Table.{lowers, gaps, uppers}
-use Rattle.rules.proofs.Rules.{value_none, value_row, value-outside}
-use Rattle.replay.specs.declared.Outcome.TheVariants.{Settled}
-use Rattle.replay.specs.Replays.{draft_in, effective_in, broken_in, draft_outcome, point_of}
+use Rattle.state.specs.Spread.{spread}
+use Rattle.replay.specs.Replays.{draft_in, point_of}
+use Rattle.replay.proofs.Trials.{value_there, tried-out, tried-broken, tried-passes}
 use Rattle.replay.proofs.try_draft.Goals as goal
+use Rattle.replay.proofs.try_draft.Goals.{then-here, else-here}
 use Rattle.replay.proofs.try_draft.Lts as lts
 use Rattle.replay.proofs.try_draft.Tie as tie
 use Rattle.replay.proofs.try_draft.Reads as reads
 
-abbrev At-Start : Type 0
-At-Start = lts.Start tie.the-claims reads.Pre reads.Post
+abbrev After-broken : Type 0
+After-broken = lts.After-broken tie.the-claims reads.Pre reads.Post
 
-abbrev At-After-apply-made : Type 0
-At-After-apply-made = lts.After-apply tie.the-claims reads.Pre reads.Post
+abbrev After-apply : Type 0
+After-apply = lts.After-apply tie.the-claims reads.Pre reads.Post
 
-abbrev At-After-broken-rule : Type 0
-At-After-broken-rule = lts.After-broken tie.the-claims reads.Pre reads.Post
-
--- a measure's value in the draft is the one at its place, and 0 where there is none
-none-there : (draft : List ℤ) (n m : ℕ) → one_to n m ≡ false → pos 0 ≡ value (row draft 0 n) m
-none-there draft n zero e = value_none (row draft 0 n) 0 refl
-none-there draft n (suc m) e = cases (ltb m n)
-    (λ t. let u = ltb-true m n t in absurd (subst T e (in_range_lem n (suc m) (omega arith) (omega arith))))
-    (λ t. let u = ltb-false m n t in value-outside draft 0 n (suc m) (omega arith) (omega arith))
-
-value_there : (draft : List ℤ) (n m : ℕ) → n ≤ 32 → cond (one_to n m) (get_or draft (point_of m) (pos 0)) (pos 0) ≡ value (row draft 0 n) m
-value_there draft n m l = cases (one_to n m)
-    (λ t.
-    let r = range n m (is_yes t) in
-    let at : point_of m ≡ 0 + (m - 1) = omega (arith, r.0, r.1) in
-    rw t (ap (λ i. get_or draft i (pos 0)) at ∙ sym (value_row draft 0 n m r.0 (omega (arith, r.0, r.1)))))
-    (λ t. rw t (none-there draft n m t))
-
--- the value that stands at the measure's place, and the one that the change makes
-module _ (c : At-After-apply-made) where
-  abbrev start : At-Start
-  start = c.before.before.before.before.before.before
-
+module _ (c : After-apply) where
   abbrev draft : List ℤ
-  draft = start.args.draft.now
+  draft = c.args.p.now.draft
 
-  abbrev m : ℕ
-  m = start.args.m
+  here : c.one_to-here.result ≡ one_to (min c.args.p.now.head.drafted 32) c.args.e.now.measure
+  here = c.one_to-here.ensures ∙ (λ i. one_to (c.capped.ensures i) (c.from-m.ensures i))
 
-  abbrev vs : List ℤ
-  vs = draft_in start.args.h draft
+  old : get_or draft c.point.result (pos 0) ≡ get_or draft (point_of c.args.e.now.measure) (pos 0)
+  old = ap (λ i. get_or draft i (pos 0)) (c.point.ensures.0 ∙ ap point_of c.from-m.ensures)
 
-  abbrev ch : model.Change
-  ch = view_change start.args.change
+  read : to_z w32 (of_z w32 (get_or draft c.point.result (pos 0))) ≡ get_or draft c.point.result (pos 0)
+  read = search rules
 
-  abbrev made : ℤ
-  made = applied ch (value vs m)
+  counted : to_z w32 c.if-here.apply-bits ≡ cond (one_to (min c.args.p.now.head.drafted 32) c.args.e.now.measure) (get_or draft (point_of c.args.e.now.measure) (pos 0)) (pos 0)
+  counted = elim c.if-here.branch [
+    | then-here w ↦ rw (sym here ∙ w.if-here.true) (w.apply-is ∙ read ∙ old)
+    | else-here w ↦ rw (sym here ∙ w.if-here.false) w.apply-is
+  ]
 
-  abbrev read : ℤ
-  read = get_or draft c.point-at.result (pos 0)
+  gives : c.apply.result ≡ ranged_of (applied (view_change c.args.e.now.change) (value (draft_in c.args.p.now.head draft) c.args.e.now.measure))
+  gives = c.apply.ensures ∙ ap (λ y. ranged_of (applied (view_change c.args.e.now.change) y)) (counted ∙ value_there draft (min c.args.p.now.head.drafted 32) c.args.e.now.measure (omega arith))
 
-  old : to_z w32 (of_z w32 read) ≡ get_or draft (point_of m) (pos 0)
-  old = to_z-of_z (fits32 read c.old-1.given) ∙ ap (λ i. get_or draft i (pos 0)) c.point-at.ensures.0
+module _ (c : After-broken) where
+  -- the value that the change made, kept as bits
+  kept : to_z w32 (of_z w32 c.in-Some.x) ≡ c.in-Some.x
+  kept = search rules
 
-  here : c.one_to-here.result ≡ one_to (min start.args.h.drafted 32) m
-  here = c.one_to-here.ensures ∙ ap (λ n. one_to n m) c.capped.ensures
+  abbrev test : ℕ → ℤ → ℕ
+  test m x =
+      let a = c.args in
+      let t = a.p.now.table in
+      tested_by a.sound a.index.now m (lowers t) (gaps t) (uppers t) (min a.p.now.head.rules 64) x (draft_in a.p.now.head a.p.now.draft)
 
-  gives : c.apply-made.result ≡ ranged_of made
-  gives =
-      let v = c.counted in
-      let there = value_there draft (min start.args.h.drafted 32) m (omega arith) in
-      c.apply-made.ensures
-      ∙ ap (λ y. ranged_of (applied ch y)) (to_z-of_z (fits32 v.result v.type_inv) ∙ v.ensures ∙ (λ i. cond (here i) (old i) (pos 0)) ∙ there)
-
--- it is in range, and the rules are tested where the measure counts as it
-module _ (c : At-After-broken-rule) where
-  abbrev trial : At-After-apply-made
-  trial = c.before.before
-
-  abbrev x : ℤ
-  x = c.in-InRange.x
-
-  abbrev test : ℤ → List ℤ → ℕ
-  test =
-      let a = (start trial).args in
-      tested_by a.sound a.index.now a.m (lowers a.table.now) (gaps a.table.now) (uppers a.table.now) (min a.h.rules 64)
-
-  tried : (in_range (made trial) ≡ true) × (x ≡ made trial)
-  tried = ranged_in (made trial) x (sym c.in-InRange.is ∙ gives trial)
-
-  same : to_z w32 (of_z w32 x) ≡ made trial
-  same = to_z-of_z (fits32 x c.in-InRange.known_told-1-own.given.0.1) ∙ tried.1
-
-  tested : c.broken-rule.result ≡ test (made trial) (vs trial)
-  tested = c.broken-rule.ensures ∙ ap (λ y. test y (vs trial)) same
+  tested : c.broken-broken.result ≡ numbered (test c.args.e.now.measure c.in-Some.x)
+  tested = c.broken-broken.ensures (omega arith) ∙ (λ i. numbered (test (c.from-m.ensures i) (kept i)))
 
 pub returns-in_default : goal.returns-in_default
-unfolding draft_outcome effective_in broken_in fits
-returns-in_default c = let p = c.before in
-    rw (ranged_out (made p) (sym c.in_default.is ∙ gives p), old p)
+returns-in_default c =
+    let a = c.args in
+    tried-out (tested_by a.sound a.index.now) (spread a.p.now) a.e.now (sym c.in_default.is ∙ gives c.before.before)
 
-pub returns-then-rule-ne0 : goal.returns-then-rule-ne0
-unfolding draft_outcome effective_in broken_in fits
-returns-then-rule-ne0 c = let p = c.before in
-    rw ((tried p).0, ap is_none (sym (tested p)) ∙ ne_eqb _ 0 c.if-rule-ne0.true) (λ j. Settled false (old (trial p) j) (tested p j))
+pub returns-in-Some-broken : goal.returns-in-Some-broken
+returns-in-Some-broken c =
+    let a = c.args in
+    tried-broken (tested_by a.sound a.index.now) (spread a.p.now) a.e.now c.in-Some.x c.in-Some-broken.rule (sym c.in-Some.is ∙ gives c.before.before.before.before)
+    (sym c.in-Some-broken.is ∙ tested c.before.before)
 
-pub returns-then-here : goal.returns-then-here
-unfolding draft_outcome effective_in broken_in fits
-returns-then-here c = let p = c.before.before in
-    rw ((tried p).0, sym (tested p) ∙ c.if-rule-ne0.false, sym (here (trial p)) ∙ c.if-here.true) (ap (λ y. Settled true y 0) (same p))
+pub returns-then-here-2 : goal.returns-then-here-2
+returns-then-here-2 c =
+    let a = c.args in
+    let t = c.before.before.before.before.before in
+    tried-passes (tested_by a.sound a.index.now) (spread a.p.now) a.e.now c.in-Some.x (sym c.in-Some.is ∙ gives t)
+    (sym c.in_default-broken.is ∙ tested c.before.before.before) (rw (sym (here t) ∙ c.if-here-2.true) (kept c.before.before.before))
 
-pub returns : goal.returns
-unfolding draft_outcome effective_in broken_in fits
-returns c = let p = c.before.before in
-    rw ((tried p).0, sym (tested p) ∙ c.if-rule-ne0.false, sym (here (trial p)) ∙ c.if-here.false) (ap (λ y. Settled true y 0) (old (trial p)))
+pub returns-else-here-2 : goal.returns-else-here-2
+returns-else-here-2 c =
+    let a = c.args in
+    let t = c.before.before.before.before.before in
+    tried-passes (tested_by a.sound a.index.now) (spread a.p.now) a.e.now c.in-Some.x (sym c.in-Some.is ∙ gives t)
+    (sym c.in_default-broken.is ∙ tested c.before.before.before) (rw (sym (here t) ∙ c.if-here-2.false) (read t ∙ old t))
