@@ -57,9 +57,9 @@ unfolding sized
 sized-parts f t = slotted-parts f (both (slotted f) _ t).0
 
 -- a file of so many slots has the count that slot 0 gives
-pub sized-by : (f : List ℕ) (w : Slot) (n : ℕ) → slotted f ≡ true → w ≡ words_in f 0 → (0 < slots f → Parted (slot_in f 0)) → n ≡ w.fourth % 65_536 → eqb n (slots f) ≡ sized f
+pub sized_by : (f : List ℕ) (w : Slot) (n : ℕ) → slotted f ≡ true → w ≡ words_in f 0 → (0 < slots f → Parted (slot_in f 0)) → n ≡ w.fourth % 65_536 → eqb n (slots f) ≡ sized f
 unfolding sized
-sized-by f w n t e p k =
+sized_by f w n t e p k =
     let some = (slotted-parts f (is_yes t)).1 in
     let count = k ∙ ap (λ (x : Slot). x.fourth % 65_536) (zero-words f some w e) ∙ sym (count_part (first_slot f) (p some)) in
     rw t (eqb_swap n (slots f) ∙ ap (eqb (slots f)) count)

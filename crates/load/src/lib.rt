@@ -194,6 +194,7 @@ pub fn load_in(f: &[u8], p: &mut State) -> Result<(), Refusal>
 }
 
 // Loads a file: the plan is drawn and opened on a copy, so that a refusal leaves it as it was, and has the file's next number.
+#[tactic(auto, using(crate::proofs::Loading::meets_refused))]
 pub fn load(p: State, f: &[u8]) -> Answered
     ensures { MeetsLoad f.now p result }
 {
