@@ -266,10 +266,10 @@ showed p b s r e = record {
 
 -- ---- edit and replay, with the index made ready
 
-module _ {p q : State} {a : Answer} {b b' : Beside} (r : Readied p b b') where
-  pub readied : (c : Call) → Makes (asked c) p a q → SameRules p q → Changes c p b a q b'
-  readied c m s = record { makes = m; rules = λ e. s; counts = r.counts; sound = r.sound; indexed = r.still }
+pub readied : (c : Call) {p q : State} {a : Answer} {b b' : Beside} → Readied p b b' → Makes (asked c) p a q → SameRules p q → Changes c p b a q b'
+readied c r m s = record { makes = m; rules = λ e. s; counts = r.counts; sound = r.sound; indexed = r.still }
 
+module _ {p : State} {b b' : Beside} (r : Readied p b b') where
   -- where the index is asked it is the rules' own
   theirs : (b.sound ≡ true → ReadyIn (spread p) b.index) → IndexedIf b'.sound b'.index (spread p).lower (spread p).gap (spread p).upper (spread p).firm (min p.head.rules 64)
   theirs i y = let s = sym r.sound ∙ y in r.asked s (i s) refl

@@ -22,9 +22,10 @@ use Rattle.change.specs.Change.{view_change}
 use Rattle.rows.specs.Rows.{row}
 use Rattle.rows.proofs.Spans.{length-span, row_most}
 use Rattle.rules.specs.Rules.{RuleTest, tested_in, numbered}
+use Rattle.rules.specs.declared.Index.{Index}
 use Rattle.rules.specs.Index.{tested_by}
 use Rattle.rules.proofs.Rules.{made_with, modify_out, tested_all, tested_none, tested_sound, row-set}
-use Rattle.rules.proofs.Index.{tested_indexed}
+use Rattle.rules.proofs.Namings.{tested_indexed}
 use Rattle.records.specs.declared.EditRecord.{EditRecord}
 use Rattle.records.specs.declared.Fate.{Fate}
 use Rattle.heads.specs.declared.Head.{Head}
@@ -63,7 +64,7 @@ pub replay_sound : (p : Spread) (e : EditRecord) → holds (rules_of p) (draft_i
 replay_sound p e h = outcome_same (tested_in true) (tested_in false) p e (tested_sound p.lower p.gap p.upper p.firm (min p.head.rules 64) e.measure _ _ (draft-length p) h)
 
 -- the outcome that the code finds, with the rules' own index, is the one by the test of all rules
-pub replay_decided : (p : State) (e : EditRecord) {missing settled : ℕ} {index : List ℤ} {sound : Bool} → Trusted p missing settled index sound → T (active (mode_of p.head.mode))
+pub replay_decided : (p : State) (e : EditRecord) {missing settled : ℕ} {index : Index} {sound : Bool} → Trusted p missing settled index sound → T (active (mode_of p.head.mode))
     → outcome_of (tested_by sound index) (spread p) e ≡ outcome_of (tested_in false) (spread p) e
 replay_decided p e {index = index} {sound = sound} known t =
     let q = spread p in
@@ -193,14 +194,14 @@ module _ (p : State) (n : ℤ) where
       let l : length kept ≡ kept_in h = length-span 0 (kept_in h) (λ i. kept_at (end_in h - (kept_in h - i)) (get_or p.edits i no_record)) in
       let m = count_most is_settled kept in omega arith
 
-  pub replay_refused : {missing settled : ℕ} {index : List ℤ} {sound : Bool} {r : Refusal} {a : Answer} → Trusted p missing settled index sound → a ≡ Err r
+  pub replay_refused : {missing settled : ℕ} {index : Index} {sound : Bool} {r : Refusal} {a : Answer} → Trusted p missing settled index sound → a ≡ Err r
       → refused (number_of r) ≡ first (checks_in q missing n) → Makes call p a p
   replay_refused {missing = missing} {r = r} known a-is f =
       let m = refuses {c = call} {p = q} (checks_in q missing n) r (checks_known known.missing) (sym f) in
       subst (λ x. Makes call p x p) (sym a-is) (record { answer = m.answer; plan = m.plan; same = refl })
 
   -- the state after it, where the checks pass
-  next_meets : {missing settled : ℕ} {index : List ℤ} {sound : Bool} (i : ℕ) → length p.draft ≡ 32 → length p.edits ≡ 256 → Trusted p missing settled index sound
+  next_meets : {missing settled : ℕ} {index : Index} {sound : Bool} (i : ℕ) → length p.draft ≡ 32 → length p.edits ≡ 256 → Trusted p missing settled index sound
       → first (checks_in q missing n) ≡ fine → seat (named_at h n) ≡ Some i → i < 256
       → MeetsSpread call q (record { state = spread (settled_in p i found settled); answer = number (fate_number (fate_of (outcome_fate found))) })
   unfolding gives after
@@ -219,7 +220,7 @@ module _ (p : State) (n : ℤ) where
       ∙ (λ j. update (natural n) (settled (sym effect j) (next_place kept)) kept)))
       tt
 
-  pub replay_meets : {missing settled : ℕ} {index : List ℤ} {sound : Bool} (i : ℕ) {o : Outcome} → length p.draft ≡ 32 → length p.edits ≡ 256 → Trusted p missing settled index sound
+  pub replay_meets : {missing settled : ℕ} {index : Index} {sound : Bool} (i : ℕ) {o : Outcome} → length p.draft ≡ 32 → length p.edits ≡ 256 → Trusted p missing settled index sound
       → first (checks_in q missing n) ≡ fine → seat (named_at h n) ≡ Some i → i < 256 → o ≡ outcome_in (tested_by sound index) q n
       → Makes call p (number (fate_number (fate_of (outcome_fate o)))) (settled_in p i o settled)
   replay_meets {missing = missing} {settled = settled'} i draft-is edits-is known f at few o-is =

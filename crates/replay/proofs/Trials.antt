@@ -1,12 +1,11 @@
 -- What an edit comes to on the draft, from what the code finds. Assumes nothing.
 use Prim.Native.Nat.{ℕ, suc, zero, ◌+◌, ◌-◌, ◌≤◌, min}
 use native.Mathlib.Omega.{arith}
-use mathlib.Core.Bool.{false, not, cond}
+use mathlib.Core.Bool.{false, cond}
 use mathlib.Core.Path.{◌≡◌, refl, sym, ap, ◌∙◌, subst}
 use mathlib.Core.List.{List}
 use borrow.Author.Tests.{ltb-true, ltb-false}
-use lib.Dec.{T, ltb, eqb, eqb-suc-zero}
-use Rattle.std.specs.Bool.{then_some}
+use lib.Dec.{T, ltb, eqb-suc-zero}
 use lib.IntN.{ℤ, pos}
 use lib.ListN.{get_or}
 use Rattle.std.specs.Prelude.{None, Some}
@@ -46,11 +45,6 @@ number_none (suc k) e = cc
 number_some : (k r : ℕ) → Some r ≡ numbered k → is_none k ≡ false
 number_some zero r e = cc
 number_some (suc k) r e = eqb-suc-zero k
-
--- a number as an option, 0 as none
-pub as_numbered : (k : ℕ) → then_some (not (eqb k 0)) k ≡ numbered k
-as_numbered zero = refl
-as_numbered (suc k) = rw (eqb-suc-zero k)
 
 module _ (test : RuleTest) (p : Spread) (e : EditRecord) where
   abbrev vs : List ℤ

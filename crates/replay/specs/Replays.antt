@@ -10,6 +10,7 @@ use Rattle.protocol.specs.declared.refusal.Refusal.{Refusal}
 use Rattle.change.specs.Change.{view_change}
 use Rattle.rows.specs.Rows.{row}
 use Rattle.rules.specs.Rules.{RuleTest, numbered}
+use Rattle.rules.specs.declared.Index.{Index}
 use Rattle.rules.specs.Index.{IndexedIf}
 use Rattle.rules.specs.Table.{lowers, gaps, uppers, firms}
 use Rattle.records.specs.declared.EditRecord.{EditRecord}
@@ -116,7 +117,7 @@ pub record Replayed (test : RuleTest) (p : State) (n : ℤ) (missing settled : �
 -- ---- what is known of a state beside it
 
 -- While a join is under way the owner's counts are the plan's; and where all rules are said to hold (`sound`) they hold on the draft, and the index is theirs.
-pub record Trusted (p : State) (first_logs places : ℕ) (index : List ℤ) (sound : Bool) : Type 0 where
+pub record Trusted (p : State) (first_logs places : ℕ) (index : Index) (sound : Bool) : Type 0 where
   pub missing : T (active (mode_of p.head.mode)) → first_logs ≡ unset_in p.arrived (sides_in p.head)
   pub settled : T (active (mode_of p.head.mode)) → places ≡ count is_settled (kept_of p.head p.edits)
   pub indexed : T (active (mode_of p.head.mode)) → IndexedIf sound index (lowers p.table) (gaps p.table) (uppers p.table) (firms p.table) (min p.head.rules rule_limit)

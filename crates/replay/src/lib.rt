@@ -9,17 +9,15 @@ ghost use Rattle.protocol.specs.Lists.{natural};
 ghost use Rattle.protocol.specs.Plan.{fate_is};
 ghost use Rattle.records.specs.Records.{fate_of, kept_at, no_record};
 ghost use Rattle.records.specs.declared.Fate.TheVariants.{Unsent};
-ghost use Rattle.replay.specs.Replays.{draft_in, point_of, tried_of, outcome_fate, outcome_of, settled_record, settled_in, checks_in, Decided, Replayed, Trusted};
+ghost use Rattle.replay.specs.Replays.{point_of, tried_of, outcome_fate, outcome_of, settled_record, settled_in, checks_in, Decided, Replayed, Trusted};
 ghost use Rattle.rules.specs.Index.{tested_by};
-ghost use Rattle.rules.specs.Rules.{numbered};
-ghost use Rattle.rules.specs.Table.{lowers, gaps, uppers};
 ghost use Rattle.state.specs.Meets.{Makes};
 ghost use Rattle.state.specs.Spread.{spread, named_in};
 
 use protocol::limit;
 use protocol::refusal::Refusal;
 use records::{EditRecord, Fate};
-use rules::{Index, Table};
+use rules::Index;
 use state::{Answer, Given, State};
 
 // What a replay that is not refused comes to: the edit is accepted, with the value that the draft then has at its place; or it is revoked, with the number of the
@@ -82,21 +80,8 @@ fn waiting(p: &State, n: i32, missing: u32) -> Result<usize, Refusal>
 
 // ---- its trial
 
-// The number of a rule that is broken on the draft where measure m counts as x. A caller that knows that all rules hold on the draft says so (`sound`): then the
-// index that is lent is asked, which, if it is the rules', has those that name the measure, and the number is the same.
-fn broken(p: &State, index: &Index, m: u32, x: i32, sound: bool) -> Option<u32>
-    ensures { result ≡ numbered (tested_by sound index.now m (lowers p.now.table) (gaps p.now.table) (uppers p.now.table)
-        (min p.now.head.rules 64) x (draft_in p.now.head p.now.draft)) }
-{
-    let row = &p.draft[..rows::capped(p.head.drafted, limit::MEASURES)];
-    if sound {
-        let rule = rules::broken_by_index(index, row, m, x);
-        return (rule != 0).then_some(rule);
-    }
-    rules::broken_of_all(&p.table, p.head.rules, row, m, x)
-}
-
-// The change of an edit tried on the draft.
+// The change of an edit tried on the draft. A caller that knows that all rules hold on the draft says so (`sound`): then the index that is lent is asked, which, if
+// it is the rules', has those that name the measure, and the number is the same.
 fn try_draft(p: &State, e: &EditRecord, index: &Index, sound: bool) -> Outcome
     ensures { result ≡ tried_of (tested_by sound index.now) (spread p.now) e.now }
 {
@@ -106,7 +91,18 @@ fn try_draft(p: &State, e: &EditRecord, index: &Index, sound: bool) -> Outcome
     let Some(x) = e.change.apply(if here { old } else { 0 }) else {
         return Outcome::Revoked(None);
     };
-    if let Some(rule) = broken(p, index, m, x, sound) {
+    let broken = rules::broken(
+        &p.table,
+        p.head.rules,
+        index,
+        &p.draft,
+        0,
+        p.head.drafted,
+        m,
+        x,
+        sound,
+    );
+    if let Some(rule) = broken {
         return Outcome::Revoked(Some(rule));
     }
     Outcome::Accepted(if here { x } else { old })
@@ -123,7 +119,7 @@ fn trial(p: &State, e: &EditRecord, index: &Index, sound: bool) -> Outcome
     }
 }
 
-// What a replay decides.
+// What a replay decides, from how many first logs are missing; the state stays as it is.
 pub fn decide(
     p: &State,
     n: i32,
@@ -162,7 +158,7 @@ fn settle(p: &mut State, i: usize, outcome: Outcome, settled: u32)
     settle_record(&mut p.edits, i, outcome.fate(), settled);
 }
 
-// How many first logs are missing, and how many edits are settled, the plan's owner counts.
+// A replay made in place. How many first logs are missing and how many edits are settled, the plan's owner counts.
 pub fn replay(
     p: &mut State,
     n: i32,

@@ -62,8 +62,8 @@ module _ (c : After-broken) where
       let t = a.p.now.table in
       tested_by a.sound a.index.now m (lowers t) (gaps t) (uppers t) (min a.p.now.head.rules 64) x (draft_in a.p.now.head a.p.now.draft)
 
-  tested : c.broken.result ≡ numbered (test c.args.e.now.measure c.in-Some.x)
-  tested = c.broken.ensures ∙ (λ i. numbered (test (c.from-m.ensures i) (kept i)))
+  tested : c.broken-broken.result ≡ numbered (test c.args.e.now.measure c.in-Some.x)
+  tested = c.broken-broken.ensures (omega arith) ∙ (λ i. numbered (test (c.from-m.ensures i) (kept i)))
 
 pub returns-in_default : goal.returns-in_default
 returns-in_default c =
