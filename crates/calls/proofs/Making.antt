@@ -1,32 +1,30 @@
 -- A call made on a plan: what an acceptance says, the counts after it, the index, and that every rule goes on holding. Assumes nothing.
-use Prim.Native.Nat.{ℕ, ◌-◌, ◌<◌, ◌≤◌, min}
+use Prim.Native.Nat.{ℕ, ◌-◌, ◌≤◌, min}
 use native.Mathlib.Omega.{arith}
 use mathlib.Core.Path.{◌≡◌, refl, sym, ap, ◌∙◌, subst}
-use mathlib.Core.Bool.{Bool, true, false, not, cond}
-use mathlib.Core.List.{List, [], ◌++◌, append-nil}
+use mathlib.Core.Bool.{Bool, true, false, not}
+use mathlib.Core.List.{List, [], append-nil}
 use lib.Dec.{T}
 use lib.IntN.{ℤ}
 use lib.ListN.{length, get_or}
 use Rattle.std.specs.Prelude.{Option, Some, None, Ok, Err, is_ok}
-use Rattle.protocol.specs.Lists.{natural, one_to, count}
-use Rattle.protocol.specs.Plan.{Plan, is, blank, whole, holds, is_settled, absent_side, side_at, measure_limit}
+use Rattle.protocol.specs.Lists.{natural, one_to}
+use Rattle.protocol.specs.Plan.{Plan, is, blank, holds, absent_side, side_at, measure_limit}
 use Rattle.protocol.specs.Calls as model
 use Rattle.protocol.specs.Calls.{Verdict, fine, refused, first, checks, further, gives, after, rule, show, step, step_by, no, ok}
-use Rattle.protocol.specs.Asked.{asked, number_of, verdict_of}
+use Rattle.protocol.specs.Asked.{asked}
 use Rattle.protocol.specs.declared.call.Call.{Call}
 use Rattle.protocol.specs.declared.call.Call.TheVariants.{Measure, Rule, Open, Split, Edit, Join, Send, Replay, Stop, Confirm, Install, Show, Fate, Left}
-use Rattle.protocol.specs.declared.refusal.Refusal.{Refusal}
 use Rattle.protocol.proofs.Laws.{cases, Pass, passed, is_yes, yes_is, range, all-nth}
 use Rattle.guarantee.specs.Holding.{Holding}
-use Rattle.guarantee.proofs.Kept.{settled-count}
 use Rattle.guarantee.proofs.Holding.{holding_step}
 use Rattle.format.specs.Sheets.{step_of}
 use Rattle.rows.specs.Rows.{row}
 use Rattle.rows.proofs.Spans.{length-span}
 use Rattle.rules.specs.declared.Index.{Index}
-use Rattle.rules.specs.Index.{is_made, IndexedIf}
+use Rattle.rules.specs.Index.{IndexedIf}
 use Rattle.heads.specs.Heads.{mode_of, sides_in, index_of, offset_of, measures_in, kept_in, end_in}
-use Rattle.records.specs.Records.{kept_of, kept_at, no_record}
+use Rattle.records.specs.Records.{kept_at, no_record}
 use Rattle.state.specs.declared.State.{State}
 use Rattle.state.specs.Spread.{Spread, spread, plan_of, rules_of}
 use Rattle.state.specs.View.{view}

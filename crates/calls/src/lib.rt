@@ -185,13 +185,22 @@ fn refused(refusal: Refusal) -> Told
     bare(Err(refusal))
 }
 
+// Any call.
+fn call_told(call: Call, p: &mut State, beside: &mut Beside) -> Told
+    ensures { Known call beside.old p.old → Made (Some call) p.old beside.old result p.new beside.new }
+{
+    match call {
+        Call::Show(s) => show(p, s),
+        _ => bare(noted(call, p, beside)),
+    }
+}
+
 // The call of a line, if it has one.
 pub fn make(call: Option<Call>, p: &mut State, beside: &mut Beside) -> Told
     ensures { KnownIf call beside.old p.old → Made call p.old beside.old result p.new beside.new }
 {
     match call {
         None => refused(Refusal::Unreadable),
-        Some(Call::Show(s)) => show(p, s),
-        Some(call) => bare(noted(call, p, beside)),
+        Some(call) => call_told(call, p, beside),
     }
 }

@@ -1,14 +1,12 @@
 use borrow.Author.Rules.{rules}
-use mathlib.Core.Path.{◌≡◌, refl, sym, ap, ◌∙◌, subst}
+use mathlib.Core.Path.{◌≡◌, refl, ap, subst}
 use mir.Syntax.{w32}
 use mir.Val.{to_z, of_z}
-use Rattle.protocol.specs.Lists.{natural}
 use Rattle.protocol.specs.Calls as model
 use Rattle.protocol.specs.declared.call.Call.TheVariants.{Rule, Edit, Send, Replay, Confirm, Fate, Left}
 use Rattle.heads.specs.declared.Head.{Head}
 use Rattle.state.specs.View.{view}
 use Rattle.state.specs.Meets.{Makes}
-use Rattle.calls.specs.Makes.{Changes}
 use Rattle.calls.proofs.Making.{drawn, moved, rule-same, unsent_is, read, fate-plan, left_plan, readied, edit-trusted, replay-trusted}
 use Rattle.calls.proofs.changed.Goals as goal
 

@@ -1,5 +1,5 @@
-use mathlib.Core.Bool.{Bool, false}
-use mathlib.Core.Path.{◌≡◌, sym, ap, ◌∙◌, subst}
+use mathlib.Core.Bool.{false}
+use mathlib.Core.Path.{sym, ap, ◌∙◌, subst}
 use lib.ListN.{get_or}
 use Rattle.heads.specs.Heads.{index_of}
 use Rattle.calls.specs.Makes.{Noted}
