@@ -28,12 +28,12 @@ use Rattle.records.specs.Records.{kept_at, no_record}
 use Rattle.state.specs.declared.State.{State}
 use Rattle.state.specs.Spread.{Spread, spread, plan_of, rules_of}
 use Rattle.state.specs.View.{view}
-use Rattle.state.specs.Meets.{Answer, answer_of, numbers_of, IfRefused, Makes}
+use Rattle.state.specs.Meets.{Answer, answer_of, numbers_of, IfRefused, Makes, SameRules}
 use Rattle.state.proofs.View.{sides-length, sides_most, side_at_lem}
 use Rattle.state.proofs.Meets.{fine_pass}
 use Rattle.counts.specs.declared.Tallies.{Tallies}
 use Rattle.counts.specs.Tallies.{Tallied, unsent_in, noted}
-use Rattle.moves.specs.Moves.{SameRules, Unsent}
+use Rattle.moves.specs.Moves.{Unsent}
 use Rattle.counts.proofs.Counting.{tally_after, tallied-after, missing_unset}
 use Rattle.edit.specs.Edits as edits
 use Rattle.replay.specs.Replays as replays

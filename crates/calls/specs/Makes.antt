@@ -16,9 +16,8 @@ use Rattle.heads.specs.Heads.{offset_of, measures_in}
 use Rattle.state.specs.declared.State.{State}
 use Rattle.state.specs.Spread.{Spread, spread, plan_of}
 use Rattle.state.specs.View.{view}
-use Rattle.state.specs.Meets.{Answer, answer_of, IfRefused, Makes}
+use Rattle.state.specs.Meets.{Answer, answer_of, IfRefused, Makes, SameRules}
 use Rattle.counts.specs.Tallies.{Tallied, noted}
-use Rattle.moves.specs.Moves.{SameRules}
 use Rattle.reader.specs.Reads.{called}
 use Rattle.writer.specs.Writes.{with_row}
 use Rattle.calls.specs.declared.Beside.{Beside}

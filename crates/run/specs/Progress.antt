@@ -1,16 +1,8 @@
 -- Scaffolding: a run that goes on as long as there is room, as an owner makes it piece by piece. Assumes nothing.
-use Rattle.std.specs.Prelude.{ℕ, ◌-◌, ◌≡◌, Bool, true, false, not, cond, ◌&&◌, List, [], ◌∷◌, ◌++◌, eqb, leb, ltb, length, drop}
+use Rattle.std.specs.Prelude.{ℕ, ◌-◌, ◌≡◌, Bool, true, false, cond, List, [], ◌∷◌, ◌++◌, leb, ltb, length, drop}
 use Rattle.protocol.specs.Plan.{Plan}
 use Rattle.format.specs.Lines.{lines}
 use Rattle.format.specs.Sheets.{text, line_step, in_front}
-
--- where the last line that is begun ends: nowhere, if an answer did not fit or less room is left than the reserve
-abbrev pub last_of : ℕ → Bool → ℕ → ℕ → ℕ
-last_of len ended room reserve = cond ended 0 (cond (ltb room reserve) 0 len)
-
--- an answer that did not fit ends the run, unless it is to go on
-abbrev pub ends_at : Bool → ℕ → Bool
-ends_at on n = not on && eqb n 0
 
 -- the answers written, the lines that are left, the plan, and whether the last answer did not fit
 pub record Ran : Type 0 where

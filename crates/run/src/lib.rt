@@ -1,21 +1,20 @@
-// Internal, for `sheet`: the run over a sheet (01, "The sheet program"). Each line is read, made on the plan and answered. The loop is lent a plan's rows, flags and
-// rules, which it lends to the call, and has head and kept edits by value.
+// Internal, for `sheet`: the run over a sheet (01, "The sheet program"). Each line is read, made on the plan and answered.
 #![tactic(auto)]
 
-ghost use Rattle.std.specs.Prelude.{◌≡◌, ◌≤◌};
-ghost use Rattle.protocol.specs.Plan.{measure_limit};
-ghost use Rattle.rows.specs.Rows.{row};
-ghost use Rattle.writer.specs.Writes.{line_of, put_in, put_length};
+ghost use Rattle.std.specs.Prelude.{◌≡◌, ◌≤◌, length};
 ghost use Rattle.rules.specs.Table.{lowers, gaps, uppers};
+ghost use Rattle.state.specs.Spread.{spread};
+ghost use Rattle.state.specs.View.{view};
+ghost use Rattle.writer.specs.Writes.{line_of, put_in, put_count};
+ghost use Rattle.calls.specs.Makes.{Kept, SoundIn, row_told};
 ghost use Rattle.run.specs.Sound.{sound_in};
-ghost use Rattle.run.specs.Progress.{last_of, ends_at};
-ghost use Rattle.run.specs.Advance.{Advancing};
+ghost use Rattle.run.specs.Progress.{Advanced};
+ghost use Rattle.run.specs.Lines.{AnsweredLine, PutSome, first_length};
 
-use heads::Head;
+use calls::{Beside, Told};
+use heads::Mode;
 use protocol::limit;
-use records::{EditRecord, Test};
-use rules::Table;
-use state::Answer;
+use state::State;
 
 // How a run goes: from which place of the sheet on, how many bytes are to be free before a line is begun, whether it goes on where an answer does not fit, and whether
 // every rule is known to hold.
@@ -27,149 +26,87 @@ pub struct Way {
     pub sound: bool,
 }
 
-// Where a run stands: the plan's head and its kept edits, the place of the line that comes next, how many bytes were written, and whether an answer did not fit.
+// Where a run stands: the place of the line that comes next, how many bytes were written, and whether an answer did not fit.
 #[derive(Clone, Copy)]
 pub struct Progress {
-    pub head: Head,
-    pub edits: [EditRecord; limit::EDITS],
     pub next: usize,
     pub written: usize,
     pub ended: bool,
 }
 
-// Where the last line that is begun ends: nowhere, if an answer did not fit or less room is left than the reserve.
-fn last(len: usize, ended: bool, room: usize, reserve: usize) -> usize
-    ensures { result ≡ last_of len ended room reserve }
-{
-    if ended {
-        return 0;
-    }
-    if room < reserve {
-        return 0;
-    }
-    len
+// A line that was answered: its length, and how many bytes its answer takes, if it fits.
+#[derive(Clone, Copy)]
+struct Answered {
+    end: usize,
+    put: Option<usize>,
 }
 
-// An answer that did not fit ends the run, unless it is to go on.
-fn ends(on: bool, n: usize) -> bool
-    ensures { result ≡ ends_at on n }
+// The values that an answer gives besides.
+fn shown<'a>(p: &'a State, side: Option<u32>) -> &'a [i32]
+    ensures { result.now ≡ row_told p.now side }
 {
-    if on {
-        return false;
+    match side {
+        Some(s) => {
+            let at = heads::offset(s);
+            &p.values[at..at + rows::capped(p.head.measures, limit::MEASURES)]
+        }
+        None => &p.values[..0],
     }
-    n == 0
 }
 
-// Puts an answer into a room, with the values that it gives besides.
-fn tell(
-    answer: Answer,
-    values: &[i32; limit::VALUES],
-    from: usize,
-    width: usize,
-    room: &mut [u8],
-) -> usize
-    requires { (from ≤ 224) × (width ≤ measure_limit) }
-    ensures { (room.new ≡ put_in (line_of answer (row values.now from width)) room.old) ×
-        (result ≡ put_length (line_of answer (row values.now from width)) room.old) }
+// Puts an answer into a room.
+fn tell(told: Told, p: &State, room: &mut [u8]) -> Option<usize>
+    ensures { (room.new ≡ put_in (line_of told.answer (row_told p.now told.shown)) room.old) ×
+        (result ≡ put_count (line_of told.answer (row_told p.now told.shown)) room.old) }
 {
-    let vs = &values[..];
-    writer::put(answer, &vs[from..from + width], room)
+    writer::put(told.answer, shown(p, told.shown), room)
+}
+
+// The first line of a sheet's rest, made on the plan and answered.
+fn take_line(p: &mut State, beside: &mut Beside, rest: &[u8], room: &mut [u8]) -> Answered
+    ensures end { (result.end ≡ first_length rest.now) × (result.end ≤ length rest.now) }
+    ensures put { PutSome room.old result.put room.new }
+    ensures line { Kept beside.old p.old → AnsweredLine rest.now p.old room.old result.put p.new beside.new room.new }
+{
+    let line = reader::read_line(rest);
+    let told = calls::make(line.call, p, beside);
+    Answered {
+        end: line.end,
+        put: tell(told, p, room),
+    }
 }
 
 // The rules of a plan hold once it is open, and every call keeps it so (`sound`): of a blank one this is known, and a whole one is tested.
-pub fn is_sound<'a>(h: Head, table: &'a Table, values: &'a [i32; limit::VALUES]) -> bool
-    ensures { result ≡ sound_in h (lowers table.now) (gaps table.now) (uppers table.now) values.now }
+pub fn is_sound(p: &State) -> bool
+    ensures { result ≡ sound_in p.now.head (lowers p.now.table) (gaps p.now.table) (uppers p.now.table) p.now.values }
 {
-    let mode = h.mode;
-    let n = heads::mode_number(mode);
-    if n == 0 {
-        return true;
+    match p.head.mode {
+        Mode::Blank => true,
+        Mode::Whole => draw::rules_hold(p),
+        _ => false,
     }
-    if n == 1 {
-        return draw::rules_hold(h, table, values);
-    }
-    false
 }
 
 // The loop: goes on from a line of the sheet as long as so many bytes of the area are free and each answer fits. Where it is to go on, an answer that does not fit is
 // dropped, and does not end the run: an owner that wants only the plan lends no room.
-pub fn advance(
-    first: Head,
-    base: &mut [i32; limit::MEASURES],
-    draft: &mut [i32; limit::MEASURES],
-    values: &mut [i32; limit::VALUES],
-    arrived: &mut [bool; limit::SIDES],
-    confirmed: &mut [bool; limit::SIDES],
-    table: &mut Table,
-    kept: [EditRecord; limit::EDITS],
-    way: Way,
-    sheet: &[u8],
-    area: &mut [u8],
-) -> Progress
-    ensures { Advancing way sheet.now area.old first base.old draft.old values.old
-        arrived.old confirmed.old table.old kept result base.new draft.new values.new
-        arrived.new confirmed.new table.new area.new }
+pub fn advance(p: &mut State, way: Way, sheet: &[u8], area: &mut [u8]) -> Progress
+    ensures { SoundIn way.sound (spread p.old) → Advanced way.on way.reserve sheet.now way.from (view p.old) area.old (view p.new) result.next result.written result.ended area.new }
 {
-    let mut head = heads::numbers(first);
-    let mut edits = kept;
-    let mut counts = query::tallies(kept, first, arrived, confirmed);
-    let mut index = [0i32; 512];
-    let mut at: usize = 0;
-    let mut i = way.from;
+    let mut beside = Beside::of(p, way.sound);
+    let mut next = way.from;
+    let mut written = 0;
     let mut ended = false;
-    let mut stop = last(sheet.len(), ended, area.len(), way.reserve);
-    while i < stop {
-        let line = reader::read_line(&sheet[i..]);
-        let h = heads::from_numbers(&head);
-        let named = calls::first_look(line, h);
-        let first_slot = heads::slot(named);
-        let standing = edits[first_slot];
-        let next = calls::second_look(line, h, named, standing);
-        let second_slot = heads::slot(next);
-        let seen = edits[second_slot];
-        let look = calls::looking(named, standing, next, seen);
-        let e = calls::make(
-            line,
-            &mut head,
-            base,
-            draft,
-            values,
-            arrived,
-            confirmed,
-            table,
-            &mut index,
-            look,
-            &mut counts,
-            way.sound,
-        );
-        if e.kept {
-            let slot = e.slot;
-            let entry = e.entry;
-            edits[slot] = entry;
+    while !ended && next < sheet.len() && way.reserve <= area.len() - written {
+        let line = take_line(p, &mut beside, &sheet[next..], &mut area[written..]);
+        match line.put {
+            Some(n) => written += n,
+            None => ended = !way.on,
         }
-        let side = exact::number(line.a);
-        let marked = e.marked;
-        let mut j: usize = 0;
-        while j < marked {
-            let r = edits[j];
-            if records::satisfies(r, Test::UnsentOf(side)) != 0 {
-                let s = moves::sent_record(r, side);
-                edits[j] = s;
-            }
-            j += 1;
-        }
-        let answer = e.answer;
-        let n = tell(answer, values, e.from, e.width, &mut area[at..]);
-        ended = ends(way.on, n);
-        at += n;
-        i = i + line.end + 1;
-        stop = last(sheet.len(), ended, area.len() - at, way.reserve);
+        next += line.end + 1;
     }
     Progress {
-        head: heads::from_numbers(&head),
-        edits,
-        next: i,
-        written: at,
+        next,
+        written,
         ended,
     }
 }
