@@ -28,12 +28,12 @@ use Rattle.records.specs.Records.{kept_at, no_record}
 use Rattle.state.specs.declared.State.{State}
 use Rattle.state.specs.Spread.{Spread, spread, plan_of, rules_of}
 use Rattle.state.specs.View.{view}
-use Rattle.state.specs.Meets.{Answer, answer_of, numbers_of, IfRefused, Makes}
+use Rattle.state.specs.Meets.{Answer, answer_of, numbers_of, IfRefused, Makes, SameRules}
 use Rattle.state.proofs.View.{sides-length, sides_most, side_at_lem}
 use Rattle.state.proofs.Meets.{fine_pass}
 use Rattle.counts.specs.declared.Tallies.{Tallies}
 use Rattle.counts.specs.Tallies.{Tallied, unsent_in, noted}
-use Rattle.moves.specs.Moves.{SameRules, Unsent}
+use Rattle.moves.specs.Moves.{Unsent}
 use Rattle.counts.proofs.Counting.{tally_after, tallied-after, missing_unset}
 use Rattle.edit.specs.Edits as edits
 use Rattle.replay.specs.Replays as replays
@@ -215,6 +215,7 @@ module _ (c : Call) {p q : State} {a : Answer} {b b' : Beside} (w : Changes c p 
   made_accepted y n = record {
     answer = alone-row a ∙ w.makes.answer;
     plan = w.makes.plan;
+    bare = λ e. refl;
     same = w.makes.same;
     tallied = λ h. subst (λ t. Tallied t (view q)) (sym (n.counts ∙ ap (noted c p.head (get_or p.arrived (index_of (side_named c)) false)) w.counts))
         (tallied-accepted c w.makes b.counts h (ap (λ t. length t.unsent) (sym w.counts) ∙ n.sides) y);
@@ -229,6 +230,7 @@ module _ (c : Call) {p q : State} {a : Answer} {b b' : Beside} (w : Changes c p 
   made-refused n = record {
     answer = alone-row a ∙ w.makes.answer;
     plan = w.makes.plan;
+    bare = λ e. refl;
     same = w.makes.same;
     tallied = λ h. subst (λ t. Tallied t (view q)) (sym w.counts) (tallied-refused c w.makes b.counts h n);
     indexed = λ x. subst (λ z. ReadyIn (spread z) b'.index) (sym (refused-same a n w.makes.same)) (w.indexed x);
@@ -253,6 +255,7 @@ pub showed : (p : State) (b : Beside) (s : ℤ) (r : Told) → Shows p s r → M
 showed p b s r e = record {
   answer = e;
   plan = sym (show_plan (view p) s measure_limit);
+  bare = λ y. absurd (is_yes (sym y));
   same = all_same r.answer p;
   tallied = λ h. h;
   indexed = λ h. h;

@@ -16,9 +16,8 @@ use Rattle.heads.specs.Heads.{offset_of, measures_in}
 use Rattle.state.specs.declared.State.{State}
 use Rattle.state.specs.Spread.{Spread, spread, plan_of}
 use Rattle.state.specs.View.{view}
-use Rattle.state.specs.Meets.{Answer, answer_of, IfRefused, Makes}
+use Rattle.state.specs.Meets.{Answer, answer_of, IfRefused, Makes, SameRules}
 use Rattle.counts.specs.Tallies.{Tallied, noted}
-use Rattle.moves.specs.Moves.{SameRules}
 use Rattle.reader.specs.Reads.{called}
 use Rattle.writer.specs.Writes.{with_row}
 use Rattle.calls.specs.declared.Beside.{Beside}
@@ -106,10 +105,16 @@ abbrev pub row_told : State → Option ℕ → List ℤ
 row_told p None = []
 row_told p (Some s) = row p.values (offset_of s) (measures_in p.head)
 
+-- a line that has them told
+abbrev pub asks_show : Option Call → Bool
+asks_show None = false
+asks_show (Some c) = is_show c
+
 -- from one plan and what is kept beside it to the next, with what is told
 pub record Made (c : Option Call) (p : State) (b : Beside) (r : Told) (q : State) (b' : Beside) : Type 0 where
   pub answer : with_row (answer_of r.answer) (row_told q r.shown) ≡ (step_of (called c) (view p)).answer
   pub plan : view q ≡ (step_of (called c) (view p)).plan
+  pub bare : asks_show c ≡ false → r.shown ≡ None
   pub same : IfRefused r.answer (q ≡ p)
   pub tallied : Tallied b.counts (view p) → Tallied b'.counts (view q)
   pub indexed : ReadyIn (spread p) b.index → ReadyIn (spread q) b'.index

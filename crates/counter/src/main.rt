@@ -6,11 +6,13 @@
 // was read and every answer written. That line missing, for whatever reason, means that they were not.
 #![tactic(auto)]
 
-ghost use Rattle.std.specs.Prelude.{ℕ, ◌≡◌, true, false};
+ghost use Rattle.std.specs.Prelude.{OnOk};
+ghost use Rattle.std.specs.Io.{ReadsAtMost};
 ghost use Rattle.std.specs.Io.KnownBytes.{Appends};
-ghost use Rattle.counter.specs.Counts.{IsPrefixLen};
 
 use std::env::{Env, FillError};
+use std::fmt;
+use std::fmt::Display;
 use std::io::{Error, ErrorKind, Read, Write};
 use std::str;
 use std::time::{Clock, Duration};
@@ -19,27 +21,29 @@ use std::time::{Clock, Duration};
 // number that no run uses up.
 const TURNS: u64 = u64::MAX;
 
-// The sheet as far as it is wanted, or an error on the way, after which nobody knows how the sheet goes on.
-#[derive(Clone, Copy)]
-enum Reading {
-    All(usize),
-    Failed,
+// Why not every answer of a sheet was written.
+#[derive(Drop)]
+enum Failure {
+    // an error on the way, after which nobody knows how the sheet goes on
+    Unread(Error),
+    Unwritten(Error),
+    // A write that takes nothing and names no error might do so for ever.
+    Untaken,
 }
 
-// Waits for about a millisecond, so that waiting for the other end of a pipe leaves the processor free.
-fn pause(rt: &impl Clock) {
-    rt.sleep(Duration::from_millis(1));
-}
-
-// Whether another read or write may follow one that failed: a signal came in between, or the other end of the pipe is not ready and was
-// given a moment. None may after any other error.
-fn goes_on(rt: &impl Clock, error: &Error) -> bool {
-    let kind = error.kind();
-    if kind == ErrorKind::WouldBlock {
-        pause(rt);
-        return true;
+impl Display for Failure {
+    fn fmt<W: fmt::Write>(&self, f: &mut fmt::Formatter<W>) -> fmt::Result {
+        let mut space = [0u8; 256];
+        match self {
+            Failure::Unread(error) => {
+                write!(f, "the sheet cannot be read: {}", reason(error, &mut space))
+            }
+            Failure::Unwritten(error) => {
+                write!(f, "the answers cannot be written: {}", reason(error, &mut space))
+            }
+            Failure::Untaken => write!(f, "the answers cannot be written: nothing was taken"),
+        }
     }
-    kind == ErrorKind::Interrupted
 }
 
 // The system's words for an error, without the number that std puts behind them.
@@ -49,103 +53,77 @@ fn reason<'a>(error: &Error, space: &'a mut [u8; 256]) -> &'a str {
     let left = rest.len();
     let n = space.len().saturating_sub(left);
     let said = str::from_utf8(&space[..n]).unwrap_or("");
-    match said.split_once(" (os error ") {
-        Some((words, _)) => words,
-        None => said,
+    said.split_once(" (os error ").map_or(said, |(words, _)| words)
+}
+
+// Lets another read or write follow one that failed where a signal came in between, or where the other end of the pipe is not ready: it is given about a
+// millisecond, so that waiting for it leaves the processor free. None follows any other error.
+fn try_again(rt: &impl Clock, error: Error) -> Result<(), Error> {
+    match error.kind() {
+        ErrorKind::Interrupted => Ok(()),
+        ErrorKind::WouldBlock => {
+            rt.sleep(Duration::from_millis(1));
+            Ok(())
+        }
+        _ => Err(error),
     }
 }
 
-// Says what failed and why.
-fn fail(rt: &impl Eprint, failed: &str, error: &Error) {
-    let mut space = [0u8; 256];
-    let why = reason(error, &mut space);
-    let _ = eprintln!(rt; "counter: {failed}: {why}");
-}
-
-fn unread(rt: &impl Eprint, error: &Error) -> Reading
-    ensures { result ≡ Reading.Failed }
-{
-    fail(rt, "the sheet cannot be read", error);
-    Reading::Failed
-}
-
-fn unwritten(rt: &impl Eprint, error: &Error) -> bool
-    ensures { result ≡ false }
-{
-    fail(rt, "the answers cannot be written", error);
-    false
-}
-
-fn untaken(rt: &impl Eprint) -> bool
-    ensures { result ≡ false }
-{
-    let _ = eprintln!(rt; "counter: the answers cannot be written: nothing was taken");
-    false
-}
-
-// Reads until the input ends or `sheet` is full.
-fn read_sheet(rt: &(impl Clock + Eprint), input: &mut impl Read, sheet: &mut [u8]) -> Reading
-    ensures { (n : ℕ) → result ≡ Reading.All n → IsPrefixLen n sheet.new }
+// Reads until the input ends or `sheet` is full, and gives how many bytes were read.
+fn read_sheet(
+    rt: &impl Clock,
+    input: &mut impl Read,
+    sheet: &mut [u8],
+) -> Result<usize, Failure>
+    ensures { ReadsAtMost result sheet.new }
 {
     let mut done: usize = 0;
     for _ in 0..TURNS {
         if sheet.len() <= done {
-            return Reading::All(done);
+            return Ok(done);
         }
         let part = &mut sheet[done..];
         match input.read(part) {
-            Ok(0) => return Reading::All(done),
+            Ok(0) => return Ok(done),
             Ok(n) => done += n,
-            Err(error) => {
-                if !goes_on(rt, &error) {
-                    return unread(rt, &error);
-                }
-            }
+            Err(error) => try_again(rt, error).map_err(Failure::Unread)?,
         }
     }
-    unread(rt, &Error::from(ErrorKind::TimedOut))
+    Err(Failure::Unread(Error::from(ErrorKind::TimedOut)))
 }
 
-// Writes all of `answers`, and answers whether it did. A write that takes nothing and names no error might do so for ever, and so counts as
-// a failure.
-fn write_answers<W: Write>(rt: &(impl Clock + Eprint), output: &mut W, answers: &[u8]) -> bool
-    ensures { result ≡ true → Appends (W.contents output.old) (W.contents output.new) answers.now }
+// Writes all of `answers`.
+fn write_answers<W: Write>(
+    rt: &impl Clock,
+    output: &mut W,
+    answers: &[u8],
+) -> Result<(), Failure>
+    ensures { OnOk result (Appends (W.contents output.old) (W.contents output.new) answers.now) }
 {
-    let mut done: usize = 0;
+    let mut rest = answers;
     for _ in 0..TURNS {
-        if answers.len() <= done {
-            return true;
+        if rest.is_empty() {
+            return Ok(());
         }
-        let part = &answers[done..];
-        match output.write(part) {
-            Ok(0) => return untaken(rt),
-            Ok(n) => done += n,
-            Err(error) => {
-                if !goes_on(rt, &error) {
-                    return unwritten(rt, &error);
-                }
-            }
+        match output.write(rest) {
+            Ok(0) => return Err(Failure::Untaken),
+            Ok(n) => rest = &rest[n..],
+            Err(error) => try_again(rt, error).map_err(Failure::Unwritten)?,
         }
     }
-    unwritten(rt, &Error::from(ErrorKind::TimedOut))
+    Err(Failure::Unwritten(Error::from(ErrorKind::TimedOut)))
 }
 
-// Writes the answers to a sheet, and answers whether it did: piece by piece, each from where the one before it ended, until the sheet is over.
-fn answer(rt: &(impl Clock + Eprint), output: &mut impl Write, sheet: &[u8]) -> bool {
-    let mut p = state::blank();
-    let mut out = [0u8; 65536];
-    let mut from: usize = 0;
-    while from < sheet.len() {
-        let r = sheet::next_piece(p, sheet, from, &mut out);
-        let n = r.written;
-        if !write_answers(rt, output, &out[..n]) {
-            return false;
-        }
-        let q = r.state;
-        p = q;
-        from = r.next;
-    }
-    true
+fn answer(rt: &impl Clock, output: &mut impl Write, sheet: &[u8]) -> Result<(), Failure> {
+    write_answers(rt, output, sheet)
+}
+
+// Reads a sheet and writes its answers.
+fn serve(rt: &impl Clock, input: &mut impl Read, output: &mut impl Write) -> Result<(), Failure> {
+    // One byte more than a sheet has at the most, so that one that is too long is told from one that is not.
+    let mut sheet = [0u8; 65537];
+    let n = read_sheet(rt, input, &mut sheet)?;
+    answer(rt, output, &sheet[..n])
 }
 
 // Whether the program was started with the one argument `report`.
@@ -160,12 +138,14 @@ fn is_reporting(rt: &impl Env) -> bool {
 }
 
 fn main(rt: HostRuntime) {
-    // One byte more than a sheet has at the most, so that one that is too long is told from one that is not.
-    let mut sheet = [0u8; 65537];
-    let Reading::All(n) = read_sheet(&rt, &mut rt.stdin(), &mut sheet) else {
-        return;
-    };
-    if answer(&rt, &mut rt.stdout(), &sheet[..n]) && is_reporting(&rt) {
-        let _ = eprintln!(rt; "counter: complete");
+    match serve(&rt, &mut rt.stdin(), &mut rt.stdout()) {
+        Ok(()) => {
+            if is_reporting(&rt) {
+                let _ = eprintln!(rt; "counter: complete");
+            }
+        }
+        Err(failure) => {
+            let _ = eprintln!(rt; "counter: {failure}");
+        }
     }
 }

@@ -122,7 +122,3 @@ BrokenNamed p e a =
 
 abbrev pub StaysIfRefused : State → Answer → State → Type 0
 StaysIfRefused p a q = IfRefused a (q ≡ p)
-
--- the rules are as they were
-abbrev pub SameRules : State → State → Type 0
-SameRules p q = (q.table ≡ p.table) × (q.head.rules ≡ p.head.rules)

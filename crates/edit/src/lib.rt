@@ -2,7 +2,7 @@
 #![tactic(auto)]
 
 ghost use Rattle.std.specs.Prelude.{min, ◌<◌, ◌||◌, ◌≡◌, false, set, length};
-ghost use Rattle.edit.specs.Edits.{place_checks, room_checks, Ruled, Trusted, BrokenNamed, StaysIfRefused, SameRules, edited, spot_of};
+ghost use Rattle.edit.specs.Edits.{place_checks, room_checks, Ruled, Trusted, BrokenNamed, StaysIfRefused, edited, spot_of};
 ghost use Rattle.heads.specs.Heads.{mode_of};
 ghost use Rattle.protocol.specs.Asked.{verdict_of};
 ghost use Rattle.protocol.specs.Calls.{apart, no22, no25, first, edit};
@@ -10,7 +10,7 @@ ghost use Rattle.protocol.specs.Plan.{is, whole};
 ghost use Rattle.records.specs.Records.{kept_at, looked};
 ghost use Rattle.rules.specs.Index.{tested_by, firm_by};
 ghost use Rattle.rules.specs.Table.{lowers, uppers, firms};
-ghost use Rattle.state.specs.Meets.{Makes};
+ghost use Rattle.state.specs.Meets.{Makes, SameRules};
 ghost use Rattle.state.specs.Spread.{spread};
 
 use change::Change;

@@ -1,11 +1,10 @@
 // Arithmetic on i32 that cannot overflow: the results are held by an i64. And a call's number as that of a side, measure, kind or edit.
 #![tactic(auto)]
 
-ghost use Rattle.std.specs.Prelude.{◌≡◌, negsuc, ◌+ℤ◌, ◌*ℤ◌};
+ghost use Rattle.std.specs.Prelude.{◌≡◌, ◌+ℤ◌, ◌*ℤ◌};
 ghost use Rattle.std.specs.Int.Signed.{quot_z};
 ghost use Rattle.protocol.specs.Lists.{natural};
 ghost use Rattle.protocol.specs.Plan.{in_range};
-ghost use Rattle.exact.specs.Signs.{beyond};
 
 use protocol::limit;
 
@@ -41,18 +40,4 @@ pub fn in_range(v: i32) -> bool
     ensures { result ≡ in_range v }
 {
     (limit::LEAST_VALUE..=limit::VALUE).contains(&v)
-}
-
-// A number put below 0.
-pub fn below(n: i32) -> i32
-    ensures { result ≡ negsuc (natural n) }
-{
-    -1 - n.max(0)
-}
-
-// What a number below 0 stands for; 0 for any other.
-pub fn behind(v: i32) -> u32
-    ensures { result ≡ beyond v }
-{
-    u32::try_from(-1 - v).unwrap_or(0)
 }

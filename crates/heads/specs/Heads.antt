@@ -15,10 +15,6 @@ mode_of Split = model.split
 mode_of Joining = model.joining
 mode_of Closing = model.closing
 
--- the same in another mode
-abbrev pub in_mode : Head → Mode → Head
-in_mode h m = record { mode = m; measures = h.measures; rules = h.rules; added = h.added; kept = h.kept; next = h.next; mark = h.mark; based = h.based; drafted = h.drafted }
-
 -- ---- sides
 
 -- a blank or whole plan has one side

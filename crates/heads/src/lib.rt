@@ -3,7 +3,7 @@
 
 ghost use Rattle.std.specs.Prelude.{◌≡◌, ◌≤◌, ◌<◌, IfSome};
 ghost use Rattle.protocol.specs.Plan.{active};
-ghost use Rattle.heads.specs.Heads.{mode_of, in_mode, single, sides_in, offset_of, index_of, end_in, kept_in, position_of, seat, named_at, unset_in};
+ghost use Rattle.heads.specs.Heads.{mode_of, single, sides_in, offset_of, index_of, end_in, kept_in, position_of, seat, named_at, unset_in};
 
 use protocol::limit;
 
@@ -106,13 +106,6 @@ impl Head {
     {
         flags[..self.side_count()].iter().filter(|f| !**f).count() as u32
     }
-}
-
-// The same in another mode.
-pub fn in_mode(h: Head, mode: Mode) -> Head
-    ensures { result ≡ in_mode h mode }
-{
-    Head { mode, ..h }
 }
 
 // A side's place among the flags. A number that is no side's has some place too.

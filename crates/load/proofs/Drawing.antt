@@ -1,11 +1,11 @@
 -- A file drawn by the program, slot by slot, is drawn by the definition's calls. Assumes nothing.
 use Rattle.load.proofs.Reading.{zero-words}
-use Prim.Native.Nat.{ℕ, zero, suc, ◌+◌, ◌-◌, ◌%◌, ◌/◌, ◌<◌, ◌≤◌}
+use Prim.Native.Nat.{ℕ, suc, ◌+◌, ◌-◌, ◌%◌, ◌/◌, ◌<◌}
 use native.Mathlib.Omega.{arith}
 use mathlib.Core.Path.{◌≡◌, refl, sym, ap, ap₂, subst, ◌∙◌}
 use mathlib.Core.Logic.{◌≢◌}
-use mathlib.Core.List.{List, [], ◌∷◌, ◌++◌, map, append-nil, append_assoc}
-use borrow.Author.Tests.{ltb-true, ltb-false, eq-eqb, ne_eqb}
+use mathlib.Core.List.{List, [], ◌∷◌, ◌++◌, map, append_assoc}
+use borrow.Author.Tests.{ltb-true, ltb-false, ne_eqb}
 use lib.Dec.{ltb}
 use mathlib.Core.Bool.{Bool, true, false}
 use lib.IntN.{ℤ, pos}
@@ -31,7 +31,7 @@ use Rattle.state.specs.declared.Given.{Given}
 use Rattle.state.specs.Meets.{Answer, answer_of, Makes}
 use Rattle.state.specs.View.{view}
 use Rattle.draw.specs.Draw.{LeavesRest}
-use Rattle.load.specs.Drawing.{slot_call, slot_calls, chain_calls, Drawn, Drew}
+use Rattle.load.specs.Drawing.{slot_call, slot_calls, chain_calls, Outcome, Drew}
 
 -- ---- lists of calls
 
@@ -92,17 +92,17 @@ drew_given {c} {p} {g = g} m l = record { verdict = answered c (view p) (Ok g) m
 -- ---- one after the other
 
 -- the same calls, said otherwise
-pub same-calls : {cs ds : List Call} {r : Drawn} {p q : State} → cs ≡ ds → Drew cs p r q → Drew ds p r q
+pub same-calls : {cs ds : List Call} {r : Outcome} {p q : State} → cs ≡ ds → Drew cs p r q → Drew ds p r q
 same-calls {r = r} {p} {q} e d = subst (λ cs. Drew cs p r q) e d
 
-pub drew_then : (cs ds : List Call) {p q r : State} (o : Drawn) → Drew cs p (Ok tt) q → Drew ds q o r → Drew (cs ++ ds) p o r
+pub drew_then : (cs ds : List Call) {p q r : State} (o : Outcome) → Drew cs p (Ok tt) q → Drew ds q o r → Drew (cs ++ ds) p o r
 drew_then cs ds {p} {q} {r} o a b = record {
   verdict = first-append cs ds (view p) ∙ ap₂ or_else a.verdict (ap (first_refusal ds) (sym a.plan)) ∙ b.verdict;
   plan = on o b.plan;
   rest = rest-then a.rest b.rest;
 }
   where
-    on : (o : Drawn) → OnOk o (view r ≡ end ds (view q)) → OnOk o (view r ≡ end (cs ++ ds) (view p))
+    on : (o : Outcome) → OnOk o (view r ≡ end ds (view q)) → OnOk o (view r ≡ end (cs ++ ds) (view p))
     on (Ok u) e = e ∙ ap (end ds) a.plan ∙ sym (end-append cs ds (view p))
     on (Err r) e = tt
 
@@ -147,21 +147,6 @@ module _ (f : List ℕ) (kind : Kind) (start : ℕ) where
       let n : slots f ≡ slots f - 0 = omega arith in
       record { done = []; parts = ap (λ m. chain f m start) n; drew = record { verdict = refl; plan = refl; rest = rest-same p } }
 
-  -- where no slot is left
-  along_end : {p q : State} {k i : ℕ} (a : Along p q k i) → chain f (slots f - i) k ≡ [] → Drew (chain_calls kind f start) p (Ok tt) q
-  along_end a none =
-      same-calls (sym (ap (slot_calls kind f) (a.parts ∙ ap (λ ks. a.done ++ ks) none ∙ append-nil a.done))) a.drew
-
-  pub along_ends : {p q : State} {k i : ℕ} → Along p q k i → k ≡ 0 → Drew (chain_calls kind f start) p (Ok tt) q
-  along_ends {i = i} a z = along_end a (ap (chain f (slots f - i)) z ∙ nothing (slots f - i))
-    where
-      nothing : (n : ℕ) → chain f n 0 ≡ []
-      nothing zero = refl
-      nothing (suc n) = refl
-
-  pub along_over : {p q : State} {k i : ℕ} → Along p q k i → slots f ≤ i → Drew (chain_calls kind f start) p (Ok tt) q
-  along_over {k = k} {i} a h = let e : slots f - i ≡ 0 = omega arith in along_end a (ap (λ n. chain f n k) e)
-
   module _ {p q : State} {k i : ℕ} (a : Along p q k i) (ne : k ≢ 0) (h : i < slots f) where
     next-slot : chain f (slots f - i) k ≡ k ∷ chain f (slots f - (i + 1)) (next_in (slot_in f k))
     next-slot = let m : slots f - i ≡ suc (slots f - (i + 1)) = omega arith in ap (λ j. chain f j k) m ∙ rw (ne_eqb k 0 ne)
@@ -183,7 +168,7 @@ module _ (f : List ℕ) (kind : Kind) (start : ℕ) where
         let all = ap (slot_calls kind f) (a.parts ∙ ap (λ ks. a.done ++ ks) next-slot) ∙ calls-append kind f a.done (k ∷ rest) in
         same-calls (sym all) (drew_then (slot_calls kind f a.done) (slot_calls kind f (k ∷ rest)) (Err x) a.drew (drew_stop (slot_call kind (slot_in f k) ∷ []) (slot_calls kind f rest) one))
 
-pub same-call : {c c' : Call} {r : Drawn} {p q : State} → c ≡ c' → Drew (c ∷ []) p r q → Drew (c' ∷ []) p r q
+pub same-call : {c c' : Call} {r : Outcome} {p q : State} → c ≡ c' → Drew (c ∷ []) p r q → Drew (c' ∷ []) p r q
 same-call e d = same-calls (ap {B = List Call} (λ c. c ∷ []) e) d
 
 -- a flag as a number
@@ -232,6 +217,6 @@ module _ (f : List ℕ) (some : 0 < slots f) (w : Slot) (w-is : w ≡ words_in f
           (drew_stop (chain_calls Rule f b) (open_plan ∷ []) d))
 
       -- open decides
-      pub file_open : {p₂ q : State} {o : Drawn} → Drew (chain_calls Rule f b) p₁ (Ok tt) p₂ → Drew (open_plan ∷ []) p₂ o q → Drew (drawing f) p o q
+      pub file_open : {p₂ q : State} {o : Outcome} → Drew (chain_calls Rule f b) p₁ (Ok tt) p₂ → Drew (open_plan ∷ []) p₂ o q → Drew (drawing f) p o q
       file_open {o = o} rs d =
           same-calls drawing-is (drew_then (chain_calls Measure f a) (chain_calls Rule f b ++ (open_plan ∷ [])) o ms (drew_then (chain_calls Rule f b) (open_plan ∷ []) o rs d))

@@ -21,7 +21,6 @@ use Rattle.records.specs.Records.{log_of}
 use Rattle.slots.specs.declared.Slot.{Slot}
 use Rattle.slots.specs.Words.{words_in}
 use Rattle.state.specs.declared.State.{State}
-use Rattle.state.specs.Meets.{done}
 use Rattle.state.specs.Spread.{spread}
 use Rattle.state.specs.View.{view}
 use Rattle.state.proofs.View.{plan-same, first-row, row-length}
@@ -125,6 +124,3 @@ refused_keeps (refused j) f p k e = refl
 pub meets_refused : (f : List ℕ) {p q : State} {x : Refusal} → LoadedFrom f p (Err x) q → MeetsLoad f p (record { state = p; answer = Err x })
 unfolding load
 meets_refused f {p} {x = x} d = record { answer = sym d.answer; plan = sym (refused_keeps (load_verdict f (view p)) f (view p) (number_of x) d.answer); same = refl }
-
-pub meets_loaded : (f : List ℕ) {p q : State} → LoadedFrom f p (Ok tt) q → MeetsLoad f p (record { state = q; answer = done })
-meets_loaded f d = record { answer = sym d.answer; plan = d.plan; same = tt }

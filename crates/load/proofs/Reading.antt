@@ -1,11 +1,11 @@
 -- The tests of a file, as the program makes them. Assumes nothing.
-use Prim.Native.Nat.{ℕ, zero, suc, ◌+◌, ◌-◌, ◌*◌, ◌/◌, ◌%◌, ◌<◌, ◌≤◌}
+use Prim.Native.Nat.{ℕ, zero, suc, ◌+◌, ◌*◌, ◌/◌, ◌%◌, ◌<◌, ◌≤◌}
 use native.Mathlib.Omega.{arith}
 use mathlib.Core.Path.{◌≡◌, refl, sym, ap, subst, ◌∙◌}
 use mathlib.Core.Bool.{Bool, true, false, not, ◌&&◌}
 use mathlib.Core.Logic.{◌≢◌}
 use mathlib.Core.List.{List, [], ◌∷◌}
-use borrow.Author.Tests.{lt-ltb, le-ltb, lt-leb, le-leb, eq-eqb, ne_eqb, ltb-true, ltb-false}
+use borrow.Author.Tests.{lt-ltb, eq-eqb, ne_eqb, ltb-true, ltb-false}
 use lib.Dec.{T, eqb, leb, ltb, eqb→eq, leb→le}
 use lib.Seq.{take_all}
 use lib.ListN.{length, get_or, take, replicate}
@@ -13,8 +13,8 @@ use Rattle.protocol.specs.Lists.{is_none}
 use Rattle.protocol.specs.Plan.{blank, is}
 use Rattle.protocol.specs.Calls.{Check, ◌unless◌, ◌when◌, first, fine, refused}
 use Rattle.protocol.proofs.Laws.{cases, is_yes, yes_is, no-is, both, same-no}
-use Rattle.file.specs.Bytes.{two_at, total, word_size, measure_kind, rule_kind}
-use Rattle.file.specs.Loaded.{slot_in, slots, first_slot, zero_from, measure_chain, rule_chain, next_number, next_limit, sized, balanced, leaves_file, meets_twice, well_marked, misses_slot, clear, numbered}
+use Rattle.file.specs.Bytes.{two_at, total, word_size}
+use Rattle.file.specs.Loaded.{slot_in, slots, first_slot, zero_from, measure_chain, rule_chain, next_number, sized, balanced, leaves_file, meets_twice, well_marked, misses_slot, clear, numbered}
 use Rattle.file.specs.Walked.{Walked, stopped, ended, walk, as_measure, as_rule, Sound46}
 use Rattle.file.proofs.Walks.{onto, walk-ended, sound_walks, walks_sound}
 use Rattle.std.proofs.Common.{Option, None, Some}
@@ -57,9 +57,9 @@ unfolding sized
 sized-parts f t = slotted-parts f (both (slotted f) _ t).0
 
 -- a file of so many slots has the count that slot 0 gives
-pub sized-by : (f : List ℕ) (w : Slot) (n : ℕ) → slotted f ≡ true → w ≡ words_in f 0 → (0 < slots f → Parted (slot_in f 0)) → n ≡ w.fourth % 65_536 → eqb n (slots f) ≡ sized f
+pub sized_by : (f : List ℕ) (w : Slot) (n : ℕ) → slotted f ≡ true → w ≡ words_in f 0 → (0 < slots f → Parted (slot_in f 0)) → n ≡ w.fourth % 65_536 → eqb n (slots f) ≡ sized f
 unfolding sized
-sized-by f w n t e p k =
+sized_by f w n t e p k =
     let some = (slotted-parts f (is_yes t)).1 in
     let count = k ∙ ap (λ (x : Slot). x.fourth % 65_536) (zero-words f some w e) ∙ sym (count_part (first_slot f) (p some)) in
     rw t (eqb_swap n (slots f) ∙ ap (eqb (slots f)) count)

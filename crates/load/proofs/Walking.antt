@@ -38,9 +38,6 @@ module _ (f : List ℕ) (kind : Kind) (start met : ℕ) where
   abbrev pub Walks : List Bool → List Bool → ℕ → ℕ → Type 0
   Walks seen₀ seen k i = (i ≤ slots f) × ((ks₀ : List ℕ) → Marks seen₀ ks₀ → met ≡ length ks₀ → Standing ks₀ seen k i)
 
-  pub walks_begin : (seen : List Bool) → Walks seen seen start 0
-  walks_begin seen = (omega arith, λ ks m e. record { slots-met = ks; marks = m; many = omega arith; on = let n : slots f - 0 ≡ slots f = omega arith in ap (λ n. walk f (as_kind kind) n start ks) n })
-
   -- a slot that the definition's walk stops at
   stops : (seen₀ seen : List Bool) (k i : ℕ) → Walks seen₀ seen k i → ((ks : List ℕ) → Marks seen ks → walk f (as_kind kind) (slots f - i) k ks ≡ stopped) → (seen' : List Bool)
       → Walking f kind start met seen₀ None seen'
@@ -56,10 +53,6 @@ module _ (f : List ℕ) (kind : Kind) (start met : ℕ) where
       rw (n, ne_eqb k 0 ne, e)
 
   module _ (seen₀ seen : List Bool) (k i : ℕ) (w : Walks seen₀ seen k i) (ne : k ≢ 0) (seen' : List Bool) where
-    -- the chain goes on for longer than there are slots
-    pub stop-long : slots f ≤ i → Walking f kind start met seen₀ None seen'
-    stop-long h = stops seen₀ seen k i w (λ ks m. let n : slots f - i ≡ 0 = omega arith in rw (n, ne_eqb k 0 ne)) seen'
-
     -- it leaves the file
     pub stop-outside : i < slots f → slots f ≤ k → Walking f kind start met seen₀ None seen'
     stop-outside h o = stops seen₀ seen k i w (λ ks m. one_more k i ks ne h false (rw (le-ltb k (slots f) o))) seen'

@@ -24,25 +24,25 @@ abbrev pub chain_calls : Kind → List ℕ → ℕ → List Call
 chain_calls kind f start = slot_calls kind f (chain f (slots f) start)
 
 -- nothing is given where calls are accepted, else why one is refused
-abbrev pub Drawn : Type 0
-Drawn = Result (Unit {0}) Refusal
+abbrev pub Outcome : Type 0
+Outcome = Result (Unit {0}) Refusal
 
 -- Calls made one after the other, up to the first that is refused. What drawing does not change stays as it was, also where one is refused.
-pub record Drew (cs : List Call) (p : State) (r : Drawn) (q : State) : Type 0 where
+pub record Drew (cs : List Call) (p : State) (r : Outcome) (q : State) : Type 0 where
   pub verdict : first_refusal cs (view p) ≡ verdict_of r
   pub plan : OnOk r (view q ≡ end cs (view p))
   pub rest : LeavesRest p q
 
 -- what loading answers
-abbrev pub load_answer : Drawn → model.Answer
+abbrev pub load_answer : Outcome → model.Answer
 load_answer (Ok u) = ok []
 load_answer (Err r) = no (number_of r)
 
 -- A file loaded, with the plan where it is accepted. What drawing does not change stays as it was, also where it is refused.
-pub record LoadedAs (s : Stepped) (p : State) (r : Drawn) (q : State) : Type 0 where
+pub record LoadedAs (s : Stepped) (p : State) (r : Outcome) (q : State) : Type 0 where
   pub answer : s.answer ≡ load_answer r
   pub plan : OnOk r (view q ≡ s.plan)
   pub rest : LeavesRest p q
 
-abbrev pub LoadedFrom : List ℕ → State → Drawn → State → Type 0
+abbrev pub LoadedFrom : List ℕ → State → Outcome → State → Type 0
 LoadedFrom f p r q = LoadedAs (load f (view p)) p r q

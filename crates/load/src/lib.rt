@@ -27,7 +27,13 @@ const NEXT_LIMIT: usize = limit::NUMBER as usize + 1;
 
 // Follows a chain from a slot on, and gives how many slots were met in all, those met before it with them. None where it leaves the file, meets a slot that was
 // met before, or one that is not of the kind or has something set that must be nought.
-fn walk(f: &[u8], kind: Kind, start: usize, met: usize, seen: &mut [bool; slots::LIMIT]) -> Option<usize>
+fn walk(
+    f: &[u8],
+    kind: Kind,
+    start: usize,
+    met: usize,
+    seen: &mut [bool; slots::LIMIT],
+) -> Option<usize>
     requires { (slots f.now ≤ 97) × (met ≤ 97) }
     ensures few { IfSome result (λ n. n ≤ met + 97) }
     ensures walks { Walking f.now kind start met seen.old result seen.new }
@@ -80,7 +86,13 @@ fn is_chained(f: &[u8]) -> bool
     let Some(measures) = walk(f, Kind::Measure, slots::low(w.first) as usize, 0, &mut seen) else {
         return false;
     };
-    let Some(all) = walk(f, Kind::Rule, slots::high(w.first) as usize, measures, &mut seen) else {
+    let Some(all) = walk(
+        f,
+        Kind::Rule,
+        slots::high(w.first) as usize,
+        measures,
+        &mut seen,
+    ) else {
         return false;
     };
     all + 1 == f.len() / slots::SIZE
@@ -147,9 +159,9 @@ fn draw_chain(p: &mut State, f: &[u8], kind: Kind, start: usize) -> Result<(), R
     ensures { Drew (chain_calls kind f.now start) p.old result p.new }
 {
     let mut k = start;
-    for i in 0..f.len() / slots::SIZE {
+    for _ in 0..f.len() / slots::SIZE {
         if k == 0 {
-            return Ok(());
+            break;
         }
         let w = Slot::read(f, k);
         draw_slot(p, kind, w)?;
@@ -182,6 +194,7 @@ pub fn load_in(f: &[u8], p: &mut State) -> Result<(), Refusal>
 }
 
 // Loads a file: the plan is drawn and opened on a copy, so that a refusal leaves it as it was, and has the file's next number.
+#[tactic(auto, using(crate::proofs::Loading::meets_refused))]
 pub fn load(p: State, f: &[u8]) -> Answered
     ensures { MeetsLoad f.now p result }
 {

@@ -21,11 +21,6 @@ Waiting p n = n ≡ count is_waiting (kept_of p.head p.edits)
 abbrev pub Unsent : State → ℕ → ℕ → Type 0
 Unsent p s n = T (one_to (sides_in p.head) s) → n ≡ unsent_of s (kept_of p.head p.edits)
 
--- ---- what no call here touches
-
-abbrev pub SameRules : State → State → Type 0
-SameRules p q = (q.table ≡ p.table) × (q.head.rules ≡ p.head.rules)
-
 -- ---- checks
 
 abbrev pub split_checks : Head → ℕ → List Check

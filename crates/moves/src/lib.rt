@@ -4,13 +4,13 @@
 
 ghost use Rattle.std.specs.Prelude.{map, ◌≡◌};
 ghost use Rattle.heads.specs.Heads.{mode_of};
-ghost use Rattle.moves.specs.Moves.{split_checks, send_checks, turn_checks, confirm_checks, first_head, split_base, SameRules, Waiting, Unsent};
+ghost use Rattle.moves.specs.Moves.{split_checks, send_checks, turn_checks, confirm_checks, first_head, split_base, Waiting, Unsent};
 ghost use Rattle.protocol.specs.Asked.{number_of, verdict_of};
 ghost use Rattle.protocol.specs.Calls.{split-side, join, send, first, mark_sent, stop, confirm, install};
 ghost use Rattle.protocol.specs.Lists.{natural};
 ghost use Rattle.protocol.specs.Plan.{mode_number};
 ghost use Rattle.records.specs.Records.{kept_of};
-ghost use Rattle.state.specs.Meets.{Makes};
+ghost use Rattle.state.specs.Meets.{Makes, SameRules};
 
 use heads::{Head, Mode};
 use protocol::limit;

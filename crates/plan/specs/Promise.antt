@@ -7,10 +7,9 @@ use Rattle.file.specs.Saved.{save, save_into}
 use Rattle.file.specs.Loaded.{drawing}
 use Rattle.acts.specs.Acts.{done_by, entered_as}
 use Rattle.acts.specs.Acting.{GuaranteeActs}
-use Rattle.state.specs.Meets.{answer_of, Meets}
+use Rattle.state.specs.Meets.{Answer, answer_of, Meets}
 use Rattle.state.specs.declared.State.{State}
 use Rattle.state.specs.View.{view, blank_state}
-use Rattle.state.specs.declared.Answer.{Answer}
 use Rattle.state.specs.declared.Answered.{Answered}
 use Rattle.load.specs.Loading.{MeetsLoad}
 

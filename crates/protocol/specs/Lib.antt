@@ -5,5 +5,4 @@ pub mod Calls
 pub mod Asked
 pub mod History
 pub mod Trials
-pub mod Numbering
 pub mod Sizes

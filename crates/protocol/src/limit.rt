@@ -15,17 +15,10 @@ pub const CLIENT: i32 = 999;
 // The last number that an edit is given.
 pub const NUMBER: u32 = 999999;
 
-pub const NUMBERS: usize = NUMBER as usize;
-
 // How far a measure and a rule's allowance may be from 0.
 pub const VALUE: i32 = 1000000;
 
 pub const LEAST_VALUE: i32 = -VALUE;
-
-// The same for a result that may be out of range.
-pub const RESULT: i64 = VALUE as i64;
-
-pub const LEAST_RESULT: i64 = -RESULT;
 
 pub const GAP: i32 = 2000000;
 

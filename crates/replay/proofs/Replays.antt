@@ -9,13 +9,12 @@ use lib.Dec.{T, eqb-suc-zero}
 use lib.IntN.{ℤ, pos}
 use lib.ListN.{length, get_or, set}
 use lib.Seq.{set-get_or}
-use Rattle.std.specs.Prelude.{Option, None, Some, Err}
+use Rattle.std.specs.Prelude.{Option, None, Some, Result, Ok, Err}
 use Rattle.protocol.specs.Asked.{number_of}
 use Rattle.protocol.specs.Lists.{is_none, natural, one_to, count, modify}
 use Rattle.protocol.specs.Plan as model
 use Rattle.protocol.specs.Plan.{active, holds, is_revoked, is_settled, fate_number, fits, made, applied, value, effective, lookup}
-use Rattle.protocol.specs.Broken.{broken_rule}
-use Rattle.protocol.specs.Calls.{Call, replay, fine, refused, first, checks, further, built_on_revoked, replayable, settled, outcome, update, next_place, after, gives, ok}
+use Rattle.protocol.specs.Calls.{Call, replay, fine, refused, first, checks, further, replayable, settled, outcome, update, next_place, after, gives, ok}
 use Rattle.protocol.specs.declared.refusal.Refusal.{Refusal}
 use Rattle.protocol.proofs.Laws.{cases, is_yes, range, count_most}
 use Rattle.change.specs.Change.{view_change}
@@ -38,11 +37,11 @@ use Rattle.state.specs.Spread.{Spread, spread, plan_of, rules_of, named_in, Meet
 use Rattle.state.specs.Meets.{Answer, Makes, number}
 use Rattle.state.proofs.View.{plan-same, flags_unset, lookup-named}
 use Rattle.state.proofs.Meets.{fine_pass}
-use Rattle.state.proofs.Steps.{refuses, accepts}
+use Rattle.state.proofs.Steps.{refuses, accepts, refused_makes, given_makes}
 use Rattle.replay.specs.declared.Outcome.{Outcome}
 use Rattle.replay.specs.declared.Outcome.TheVariants.{Accepted, Revoked}
 use Rattle.replay.proofs.Checks.{named_at_place}
-use Rattle.replay.specs.Replays.{checks_in, draft_in, point_of, effective_in, broken_in, amount_of, tried_of, outcome_of, outcome_in, outcome_fate, outcome_rule, settled_record, draft_after, settled_in, Trusted}
+use Rattle.replay.specs.Replays.{checks_in, draft_in, point_of, effective_in, broken_in, amount_of, tried_of, outcome_of, outcome_in, outcome_fate, outcome_rule, settled_record, draft_after, settled_in, Decided, broken_of, rule_if_settled, NamesRule, Trusted}
 
 -- a draft has 32 values at most
 draft-length : (p : Spread) → length (draft_in p.head p.draft) ≤ 32
@@ -59,28 +58,45 @@ outcome_same test test' p e h =
     ap (λ y. cond (is_revoked (kept_at 0 (named_in p e.earlier))) (Revoked None)
     (cond (fits e.measure (view_change e.change) vs && is_none y) (Accepted (amount_of p e)) (Revoked (numbered (cond (fits e.measure (view_change e.change) vs) y 0))))) h
 
--- where all rules held on the draft, it is enough to test those that name the measure
-pub replay_sound : (p : Spread) (e : EditRecord) → holds (rules_of p) (draft_in p.head p.draft) ≡ true → outcome_of (tested_in true) p e ≡ outcome_of (tested_in false) p e
-replay_sound p e h = outcome_same (tested_in true) (tested_in false) p e (tested_sound p.lower p.gap p.upper p.firm (min p.head.rules 64) e.measure _ _ (draft-length p) h)
+-- and the same decision
+decided_same : (test test' : RuleTest) (p : Spread) (n : ℤ) {missing : ℕ} (r : Result Outcome Refusal) → (T (active (mode_of p.head.mode)) → outcome_in test p n ≡ outcome_in test' p n)
+    → Decided test p n missing r → Decided test' p n missing r
+decided_same test test' p n (Err e) h d = record { verdict = d.verdict; outcome = tt }
+decided_same test test' p n {missing = missing} (Ok o) h d = record { verdict = d.verdict; outcome = d.outcome ∙ h (fine_pass (checks_in p missing n) (sym d.verdict)).0 }
 
--- the outcome that the code finds, with the rules' own index, is the one by the test of all rules
-pub replay_decided : (p : State) (e : EditRecord) {missing settled : ℕ} {index : Index} {sound : Bool} → Trusted p missing settled index sound → T (active (mode_of p.head.mode))
+outcome_sound : (p : Spread) (e : EditRecord) → holds (rules_of p) (draft_in p.head p.draft) ≡ true → outcome_of (tested_in true) p e ≡ outcome_of (tested_in false) p e
+outcome_sound p e h = outcome_same (tested_in true) (tested_in false) p e (tested_sound p.lower p.gap p.upper p.firm (min p.head.rules 64) e.measure _ _ (draft-length p) h)
+
+-- what a refusal decides
+pub decided_refused : (test : RuleTest) (p : Spread) (n : ℤ) {missing : ℕ} {r : Refusal} {a : Result Outcome Refusal} → a ≡ Err r → refused (number_of r) ≡ first (checks_in p missing n)
+    → Decided test p n missing a
+decided_refused test p n {missing = missing} e f = subst (Decided test p n missing) (sym e) (record { verdict = f; outcome = tt })
+
+-- where all rules held on the draft, it is enough to test those that name the measure
+pub replay_sound : (p : Spread) (n : ℤ) {missing : ℕ} (r : Result Outcome Refusal) → (T (active (mode_of p.head.mode)) → holds (rules_of p) (draft_in p.head p.draft) ≡ true)
+    → Decided (tested_in true) p n missing r → Decided (tested_in false) p n missing r
+replay_sound p n r h = decided_same (tested_in true) (tested_in false) p n r (λ t. outcome_sound p (named_in p (natural n)) (h t))
+
+-- what the code finds, with the rules' own index, is what the test of all rules finds
+outcome_decided : (p : State) (e : EditRecord) {missing settled : ℕ} {index : Index} {sound : Bool} → Trusted p missing settled index sound → T (active (mode_of p.head.mode))
     → outcome_of (tested_by sound index) (spread p) e ≡ outcome_of (tested_in false) (spread p) e
-replay_decided p e {index = index} {sound = sound} known t =
+outcome_decided p e {index = index} {sound = sound} known t =
     let q = spread p in
     outcome_same (tested_by sound index) (tested_in sound) q e (tested_indexed sound index _ q.lower q.gap q.upper q.firm _ _ _ (draft-length q) (known.indexed t)) ∙ held sound known.held
   where
     held : (sound : Bool) → (sound ≡ true → T (active (mode_of p.head.mode)) → holds (rules_of (spread p)) (draft_in p.head p.draft) ≡ true)
         → outcome_of (tested_in sound) (spread p) e ≡ outcome_of (tested_in false) (spread p) e
-    held true h = replay_sound (spread p) e (h refl t)
+    held true h = outcome_sound (spread p) e (h refl t)
     held false h = refl
 
-module _ (p : State) (n : ℤ) where
-  abbrev q : Spread
-  q = spread p
+pub replay_decided : (p : State) (n : ℤ) {missing settled : ℕ} {index : Index} {sound : Bool} (r : Result Outcome Refusal) → Trusted p missing settled index sound
+    → Decided (tested_by sound index) (spread p) n missing r → Decided (tested_in false) (spread p) n missing r
+replay_decided p n {index = index} {sound = sound} r known =
+    decided_same (tested_by sound index) (tested_in false) (spread p) n r (outcome_decided p (named_in (spread p) (natural n)) known)
 
+module _ (q : Spread) (n : ℤ) where
   abbrev h : Head
-  h = p.head
+  h = q.head
 
   abbrev call : Call
   call = replay n
@@ -89,18 +105,18 @@ module _ (p : State) (n : ℤ) where
   e = named_in q (natural n)
 
   abbrev vs : List ℤ
-  vs = draft_in h p.draft
+  vs = draft_in h q.draft
 
   abbrev ch : model.Change
   ch = view_change e.change
 
   -- the decision's checks are the protocol's
-  checks-same : first (checks call (plan_of q)) ≡ first (checks_in q (unset_in p.arrived (sides_in h)) n)
+  checks-same : first (checks call (plan_of q)) ≡ first (checks_in q (unset_in q.arrived (sides_in h)) n)
   unfolding checks further
-  checks-same = rw (flags_unset q (λ x. x.arrived) p.arrived (λ s. refl), lookup-named q (natural n), lookup-named q e.earlier)
+  checks-same = rw (flags_unset q (λ x. x.arrived) q.arrived (λ s. refl), lookup-named q (natural n), lookup-named q e.earlier)
 
   -- also by a count that is the plan's while a join is under way
-  checks_known : {missing : ℕ} → (T (active (mode_of h.mode)) → missing ≡ unset_in p.arrived (sides_in h)) → first (checks call (plan_of q)) ≡ first (checks_in q missing n)
+  checks_known : {missing : ℕ} → (T (active (mode_of h.mode)) → missing ≡ unset_in q.arrived (sides_in h)) → first (checks call (plan_of q)) ≡ first (checks_in q missing n)
   checks_known {missing = missing} k = checks-same ∙ cases (active (mode_of h.mode))
       (λ t. ap (λ m. first (checks_in q m n)) (sym (k (is_yes t))))
       (λ t. rw t)
@@ -123,7 +139,7 @@ module _ (p : State) (n : ℤ) where
   broken = cond lost 0 (broken_in (tested_in false) q.lower q.gap q.upper (min h.rules 64) e.measure ch vs)
 
   abbrev old : ℤ
-  old = get_or p.draft (point_of e.measure) (pos 0)
+  old = get_or q.draft (point_of e.measure) (pos 0)
 
   -- what it comes to
   found_as : outcome_in (tested_in false) q n ≡ cond b (Accepted (amount_of q e)) (Revoked (numbered broken))
@@ -132,25 +148,25 @@ module _ (p : State) (n : ℤ) where
 
   -- the draft, where the change takes effect on one of its measures and where not
   draft-long : length vs ≡ min h.drafted 32
-  draft-long = length-span 0 (min h.drafted 32) (λ i. get_or p.draft i (pos 0))
+  draft-long = length-span 0 (min h.drafted 32) (λ i. get_or q.draft i (pos 0))
 
-  draft_changed : length p.draft ≡ 32 → one_to (min h.drafted 32) e.measure ≡ true
-      → row (set p.draft (point_of e.measure) (applied ch (value vs e.measure))) 0 (min h.drafted 32) ≡ made e.measure ch vs
+  draft_changed : length q.draft ≡ 32 → one_to (min h.drafted 32) e.measure ≡ true
+      → row (set q.draft (point_of e.measure) (applied ch (value vs e.measure))) 0 (min h.drafted 32) ≡ made e.measure ch vs
   draft_changed l t =
       let r = range (min h.drafted 32) e.measure (is_yes t) in
       let f : point_of e.measure ≡ 0 + point_of e.measure = omega arith in
-      ap (λ i. row (set p.draft i (applied ch (value vs e.measure))) 0 (min h.drafted 32)) f
-      ∙ row-set p.draft 0 (min h.drafted 32) e.measure (applied ch (value vs e.measure)) r.0 r.1 (omega arith) (omega arith)
+      ap (λ i. row (set q.draft i (applied ch (value vs e.measure))) 0 (min h.drafted 32)) f
+      ∙ row-set q.draft 0 (min h.drafted 32) e.measure (applied ch (value vs e.measure)) r.0 r.1 (omega arith) (omega arith)
       ∙ sym (made_with e.measure ch vs)
 
-  draft-kept : row (set p.draft (point_of e.measure) old) 0 (min h.drafted 32) ≡ vs
-  draft-kept = ap (λ ws. row ws 0 (min h.drafted 32)) (set-get_or p.draft (point_of e.measure) (pos 0))
+  draft-kept : row (set q.draft (point_of e.measure) old) 0 (min h.drafted 32) ≡ vs
+  draft-kept = ap (λ ws. row ws 0 (min h.drafted 32)) (set-get_or q.draft (point_of e.measure) (pos 0))
 
   draft_out : one_to (min h.drafted 32) e.measure ≡ false → vs ≡ made e.measure ch vs
   unfolding made
   draft_out t = sym (modify_out e.measure (applied ch) vs (ap (λ k. one_to k e.measure) draft-long ∙ t))
 
-  draft-next : length p.draft ≡ 32 → row (draft_after p.draft (point_of e.measure) (cond b (Accepted (amount_of q e)) (Revoked (numbered broken)))) 0 (min h.drafted 32)
+  draft-next : length q.draft ≡ 32 → row (draft_after q.draft (point_of e.measure) (cond b (Accepted (amount_of q e)) (Revoked (numbered broken)))) 0 (min h.drafted 32)
       ≡ cond b (made e.measure ch vs) vs
   draft-next l = cases b
       (λ u. rw u (cases (one_to (min h.drafted 32) e.measure) (λ t. rw t (draft_changed l t)) (λ t. rw t (draft-kept ∙ draft_out t))))
@@ -171,70 +187,32 @@ module _ (p : State) (n : ℤ) where
   settled_as w f j m r s = ap (λ x. record (kept_at m r) { fate = x; place = j }) s
 
   abbrev kept : List model.Kept
-  kept = kept_of h p.edits
+  kept = kept_of h q.edits
 
-  kept_next : (i : ℕ) → length p.edits ≡ 256 → named_at h n ≡ suc i
-      → kept_of h (set p.edits i (settled_record (get_or p.edits i no_record) (outcome_fate found) (next_place kept))) ≡ update (natural n) (settled b (next_place kept)) kept
-  kept_next i l at = by (placed (end_in h) (kept_in h) (natural n) p.edits)
+  kept_next : (i : ℕ) → length q.edits ≡ 256 → named_at h n ≡ suc i
+      → kept_of h (set q.edits i (settled_record (get_or q.edits i no_record) (outcome_fate found) (next_place kept))) ≡ update (natural n) (settled b (next_place kept)) kept
+  kept_next i l at = by (placed (end_in h) (kept_in h) (natural n) q.edits)
     where
-      by : Placed (end_in h) (kept_in h) (natural n) p.edits
-          → kept_of h (set p.edits i (settled_record (get_or p.edits i no_record) (outcome_fate found) (next_place kept))) ≡ update (natural n) (settled b (next_place kept)) kept
+      by : Placed (end_in h) (kept_in h) (natural n) q.edits
+          → kept_of h (set q.edits i (settled_record (get_or q.edits i no_record) (outcome_fate found) (next_place kept))) ≡ update (natural n) (settled b (next_place kept)) kept
       by (inl r) = let z : suc i ≡ 0 = sym at ∙ r.0 in absurd (omega (arith, z))
       by (inr r) =
           let j : r.0 ≡ i = let z : suc r.0 ≡ suc i = sym r.2 ∙ at in omega (arith, z) in
           let few : i < kept_in h = let k = r.1 in omega (arith, k, j) in
           let g = settled b (next_place kept) in
-          log_modify (end_in h) (kept_in h) i p.edits (settled_record (get_or p.edits i no_record) (outcome_fate found) (next_place kept)) g few (omega arith)
-          (settled_as b (outcome_fate found) (next_place kept) _ (get_or p.edits i no_record) found-fate)
+          log_modify (end_in h) (kept_in h) i q.edits (settled_record (get_or q.edits i no_record) (outcome_fate found) (next_place kept)) g few (omega arith)
+          (settled_as b (outcome_fate found) (next_place kept) _ (get_or q.edits i no_record) found-fate)
           ∙ ap (λ k. modify (suc k) g kept) (sym j) ∙ sym (r.5 g)
 
   -- no more edits are settled than kept
   settled-few : count is_settled kept ≤ 256
   settled-few =
-      let l : length kept ≡ kept_in h = length-span 0 (kept_in h) (λ i. kept_at (end_in h - (kept_in h - i)) (get_or p.edits i no_record)) in
+      let l : length kept ≡ kept_in h = length-span 0 (kept_in h) (λ i. kept_at (end_in h - (kept_in h - i)) (get_or q.edits i no_record)) in
       let m = count_most is_settled kept in omega arith
 
-  pub replay_refused : {missing settled : ℕ} {index : Index} {sound : Bool} {r : Refusal} {a : Answer} → Trusted p missing settled index sound → a ≡ Err r
-      → refused (number_of r) ≡ first (checks_in q missing n) → Makes call p a p
-  replay_refused {missing = missing} {r = r} known a-is f =
-      let m = refuses {c = call} {p = q} (checks_in q missing n) r (checks_known known.missing) (sym f) in
-      subst (λ x. Makes call p x p) (sym a-is) (record { answer = m.answer; plan = m.plan; same = refl })
-
-  -- the state after it, where the checks pass
-  next_meets : {missing settled : ℕ} {index : Index} {sound : Bool} (i : ℕ) → length p.draft ≡ 32 → length p.edits ≡ 256 → Trusted p missing settled index sound
-      → first (checks_in q missing n) ≡ fine → seat (named_at h n) ≡ Some i → i < 256
-      → MeetsSpread call q (record { state = spread (settled_in p i found settled); answer = number (fate_number (fate_of (outcome_fate found))) })
-  unfolding gives after
-  next_meets {missing = missing} {settled = settled'} i draft-is edits-is known f at few =
-      let active-is = (fine_pass (checks_in q missing n) f).0 in
-      let there = named_at_place p n i at few in
-      let looked = lookup-named q (natural n) in
-      let place : min settled' 256 + 1 ≡ next_place kept = let s = known.settled active-is in let m = settled-few in omega (arith, s, m) in
-      accepts {c = call} {p = q} (checks_in q missing n) _ (checks_known known.missing) f
-      (λ t. rw effect (ap (λ k. ok (pos (fate_number k) ∷ [])) found-fate))
-      (λ t. plan-same refl refl refl refl
-      ((λ j. row (draft_after p.draft (point_of (there j).measure) found) 0 (min h.drafted 32)) ∙ draft-next draft-is
-      ∙ (λ j. cond (sym effect j) (made (sym looked j).edit.measure (sym looked j).edit.change vs) vs))
-      refl
-      ((λ j. kept_of h (set p.edits i (settled_record (get_or p.edits i no_record) (outcome_fate found) (place j)))) ∙ kept_next i edits-is (seat_some (named_at h n) i at)
-      ∙ (λ j. update (natural n) (settled (sym effect j) (next_place kept)) kept)))
-      tt
-
-  pub replay_meets : {missing settled : ℕ} {index : Index} {sound : Bool} (i : ℕ) {o : Outcome} → length p.draft ≡ 32 → length p.edits ≡ 256 → Trusted p missing settled index sound
-      → first (checks_in q missing n) ≡ fine → seat (named_at h n) ≡ Some i → i < 256 → o ≡ outcome_in (tested_by sound index) q n
-      → Makes call p (number (fate_number (fate_of (outcome_fate o)))) (settled_in p i o settled)
-  replay_meets {missing = missing} {settled = settled'} i draft-is edits-is known f at few o-is =
-      let active-is = (fine_pass (checks_in q missing n) f).0 in
-      let m = next_meets i draft-is edits-is known f at few in
-      subst (λ x. Makes call p (number (fate_number (fate_of (outcome_fate x)))) (settled_in p i x settled')) (sym (o-is ∙ replay_decided p e known active-is ∙ found_as))
-      (record { answer = m.answer; plan = m.plan; same = tt })
-
-  -- The rule that it names where it is settled is the one that the protocol's test of the draft gives (02, S-3); none where it was not tested.
-  pub replay-rule : let d = (plan_of q).content in let k = (lookup (natural n) d.kept).edit in
-      outcome_rule (outcome_in (tested_in false) q n)
-      ≡ numbered (cond (built_on_revoked d (natural n)) 0 (cond (fits k.measure k.change d.draft) (broken_rule d.rules (made k.measure k.change d.draft)) 0))
+  outcome-rule : outcome_rule (outcome_in (tested_in false) q n) ≡ numbered (broken_of (plan_of q).content (natural n))
   unfolding broken_in effective_in
-  replay-rule = rw (found_as, lookup-named q (natural n), lookup-named q e.earlier) (named
+  outcome-rule = rw (found_as, lookup-named q (natural n), lookup-named q e.earlier) (named
       ∙ ap (λ r. numbered (cond lost 0 (cond (fits e.measure ch vs) r 0))) (sym (tested_all q.lower q.gap q.upper q.firm (min h.rules 64) e.measure ch vs)))
     where
       by : (w : Bool) (k : ℕ) → outcome_rule (cond (w && is_none k) (Accepted (amount_of q e)) (Revoked (numbered (cond w k 0)))) ≡ numbered (cond w k 0)
@@ -244,3 +222,48 @@ module _ (p : State) (n : ℤ) where
 
       named : outcome_rule found ≡ numbered broken
       named = cases lost (λ t. rw t) (λ t. rw t (by (fits e.measure ch vs) (tested_in false e.measure q.lower q.gap q.upper (min h.rules 64) (applied ch (value vs e.measure)) vs)))
+
+  -- The rule that it names where it is settled is the one that the protocol's test of the draft gives (02, S-3); none where it was not tested, and where it is refused.
+  pub replay-rule : {missing : ℕ} (r : Result Outcome Refusal) → (T (active (mode_of h.mode)) → missing ≡ unset_in q.arrived (sides_in h))
+      → Decided (tested_in false) q n missing r → NamesRule (plan_of q) n r
+  replay-rule (Err x) known d = ap (λ v. numbered (rule_if_settled v (broken_of (plan_of q).content (natural n)))) (d.verdict ∙ sym (checks_known known))
+  replay-rule (Ok o) known d =
+      ap outcome_rule d.outcome ∙ outcome-rule
+      ∙ ap (λ v. numbered (rule_if_settled v (broken_of (plan_of q).content (natural n)))) (d.verdict ∙ sym (checks_known known))
+
+module _ (p : State) (n : ℤ) where
+  abbrev before : Spread
+  before = spread p
+
+  pub replay_refused : {missing settled : ℕ} {index : Index} {sound : Bool} {r : Refusal} {a : Answer} → Trusted p missing settled index sound → a ≡ Err r
+      → refused (number_of r) ≡ first (checks_in before missing n) → Makes (replay n) p a p
+  replay_refused {missing = missing} {r = r} known a-is f =
+      refused_makes a-is (refuses {c = replay n} {p = before} (checks_in before missing n) r (checks_known before n known.missing) (sym f))
+
+  -- the state after it, where the checks pass
+  next_meets : {missing settled : ℕ} {index : Index} {sound : Bool} (i : ℕ) → length p.draft ≡ 32 → length p.edits ≡ 256 → Trusted p missing settled index sound
+      → first (checks_in before missing n) ≡ fine → seat (named_at p.head n) ≡ Some i → i < 256
+      → MeetsSpread (replay n) before (record { state = spread (settled_in p i (found before n) settled); answer = number (fate_number (fate_of (outcome_fate (found before n)))) })
+  unfolding gives after
+  next_meets {missing = missing} {settled = settled'} i draft-is edits-is known f at few =
+      let active-is = (fine_pass (checks_in before missing n) f).0 in
+      let there = named_at_place p n i at few in
+      let looked = lookup-named before (natural n) in
+      let place : min settled' 256 + 1 ≡ next_place (kept before n) = let s = known.settled active-is in let m = settled-few before n in omega (arith, s, m) in
+      accepts {c = replay n} {p = before} (checks_in before missing n) _ (checks_known before n known.missing) f
+      (λ t. rw (effect before n) (ap (λ k. ok (pos (fate_number k) ∷ [])) (found-fate before n)))
+      (λ t. plan-same refl refl refl refl
+      ((λ j. row (draft_after p.draft (point_of (there j).measure) (found before n)) 0 (min p.head.drafted 32)) ∙ draft-next before n draft-is
+      ∙ (λ j. cond (sym (effect before n) j) (made (sym looked j).edit.measure (sym looked j).edit.change (draft_in p.head p.draft)) (draft_in p.head p.draft)))
+      refl
+      ((λ j. kept_of p.head (set p.edits i (settled_record (get_or p.edits i no_record) (outcome_fate (found before n)) (place j)))) ∙ kept_next before n i edits-is (seat_some (named_at p.head n) i at)
+      ∙ (λ j. update (natural n) (settled (sym (effect before n) j) (next_place (kept before n))) (kept before n))))
+      tt
+
+  pub replay_meets : {missing settled : ℕ} {index : Index} {sound : Bool} (i : ℕ) {o : Outcome} → length p.draft ≡ 32 → length p.edits ≡ 256 → Trusted p missing settled index sound
+      → first (checks_in before missing n) ≡ fine → seat (named_at p.head n) ≡ Some i → i < 256 → o ≡ outcome_in (tested_by sound index) before n
+      → Makes (replay n) p (number (fate_number (fate_of (outcome_fate o)))) (settled_in p i o settled)
+  replay_meets {missing = missing} {settled = settled'} i draft-is edits-is known f at few o-is =
+      let active-is = (fine_pass (checks_in before missing n) f).0 in
+      subst (λ x. Makes (replay n) p (number (fate_number (fate_of (outcome_fate x)))) (settled_in p i x settled')) (sym (o-is ∙ outcome_decided p (named_in before (natural n)) known active-is ∙ found_as before n))
+      (given_makes (next_meets i draft-is edits-is known f at few))

@@ -1,10 +1,11 @@
 -- Scaffolding: the checks of a replay from its parts, what it decides, the state after it, and what is known of a state beside it. Assumes nothing.
-use Rattle.std.specs.Prelude.{ℕ, ◌+◌, ◌-◌, min, Bool, true, cond, ◌&&◌, T, List, [], ◌∷◌, ℤ, pos, get_or, set, Option, None, Result, IfOk, IfErr, ◌≡◌}
+use Rattle.std.specs.Prelude.{ℕ, ◌+◌, ◌-◌, min, Bool, true, cond, ◌&&◌, T, List, [], ◌∷◌, ℤ, pos, get_or, set, Option, None, Result, IfOk, IfErr, ◌≡◌, Ok, Err}
 use Rattle.protocol.specs.Asked.{verdict_of}
 use Rattle.protocol.specs.Lists.{is_none, natural, one_to, count}
 use Rattle.protocol.specs.Plan as model
-use Rattle.protocol.specs.Plan.{active, holds, is_waiting, is_revoked, is_settled, fits, applied, value, fate_number, measure_limit, rule_limit, kept_limit}
-use Rattle.protocol.specs.Calls.{Check, ◌unless◌, ◌when◌, first}
+use Rattle.protocol.specs.Plan.{active, holds, is_waiting, is_revoked, is_settled, fits, made, applied, value, lookup, fate_number, measure_limit, rule_limit, kept_limit}
+use Rattle.protocol.specs.Broken.{broken_rule}
+use Rattle.protocol.specs.Calls.{replay, Check, ◌unless◌, ◌when◌, Verdict, fine, refused, first, checks, built_on_revoked}
 use Rattle.protocol.specs.Sizes.{last_measure}
 use Rattle.protocol.specs.declared.refusal.Refusal.{Refusal}
 use Rattle.change.specs.Change.{view_change}
@@ -88,6 +89,27 @@ pub record Decided (test : RuleTest) (p : Spread) (n : ℤ) (missing : ℕ) (r :
   pub verdict : verdict_of r ≡ first (checks_in p missing n)
   pub outcome : IfOk r (λ o. o ≡ outcome_in test p n)
 
+-- the rule that a decision names: none where the replay is refused
+abbrev pub decided_rule : Result Outcome Refusal → Option ℕ
+decided_rule (Ok o) = outcome_rule o
+decided_rule (Err r) = None
+
+-- the rule that the protocol's test of the draft with the change made finds broken; 0 if none, and where that is not tested: the edit is built on a revoked one, or the
+-- result is out of range (02, S-2 and S-3)
+abbrev pub broken_of : model.Content → ℕ → ℕ
+broken_of d n =
+    let e = (lookup n d.kept).edit in
+    cond (built_on_revoked d n) 0 (cond (fits e.measure e.change d.draft) (broken_rule d.rules (made e.measure e.change d.draft)) 0)
+
+-- the rule of a verdict: none where the replay is refused
+abbrev pub rule_if_settled : Verdict → ℕ → ℕ
+rule_if_settled fine rule = rule
+rule_if_settled (refused k) rule = 0
+
+-- a decision names the protocol's rule
+abbrev pub NamesRule : model.Plan → ℤ → Result Outcome Refusal → Type 0
+NamesRule p n r = decided_rule r ≡ numbered (rule_if_settled (first (checks (replay n) p)) (broken_of p.content (natural n)))
+
 -- ---- what is stored
 
 abbrev pub settled_record : EditRecord → Fate → ℕ → EditRecord
@@ -122,3 +144,7 @@ pub record Trusted (p : State) (first_logs places : ℕ) (index : Index) (sound 
   pub settled : T (active (mode_of p.head.mode)) → places ≡ count is_settled (kept_of p.head p.edits)
   pub indexed : T (active (mode_of p.head.mode)) → IndexedIf sound index (lowers p.table) (gaps p.table) (uppers p.table) (firms p.table) (min p.head.rules rule_limit)
   pub held : sound ≡ true → T (active (mode_of p.head.mode)) → holds (rules_of (spread p)) (draft_in p.head p.draft) ≡ true
+
+-- the same where nobody has counted the settled edits
+abbrev pub TrustedUncounted : State → ℕ → Index → Bool → Type 0
+TrustedUncounted p missing index sound = Trusted p missing (count is_settled (kept_of p.head p.edits)) index sound

@@ -9,10 +9,11 @@ ghost use Rattle.protocol.specs.Lists.{natural};
 ghost use Rattle.protocol.specs.Plan.{fate_is};
 ghost use Rattle.records.specs.Records.{fate_of, kept_at, no_record};
 ghost use Rattle.records.specs.declared.Fate.TheVariants.{Unsent};
-ghost use Rattle.replay.specs.Replays.{point_of, tried_of, outcome_fate, outcome_of, settled_record, settled_in, checks_in, Decided, Replayed, Trusted};
+ghost use Rattle.replay.specs.Replays.{point_of, tried_of, outcome_fate, outcome_of, settled_record, settled_in, checks_in, Decided, NamesRule, Replayed, Trusted, TrustedUncounted};
 ghost use Rattle.rules.specs.Index.{tested_by};
 ghost use Rattle.state.specs.Meets.{Makes};
 ghost use Rattle.state.specs.Spread.{spread, named_in};
+ghost use Rattle.state.specs.View.{view};
 
 use protocol::limit;
 use protocol::refusal::Refusal;
@@ -127,7 +128,8 @@ pub fn decide(
     index: &Index,
     sound: bool,
 ) -> Result<Outcome, Refusal>
-    ensures { Decided (tested_by sound index.now) (spread p.now) n missing result }
+    ensures exact { Decided (tested_by sound index.now) (spread p.now) n missing result }
+    ensures rule { TrustedUncounted p.now missing index.now sound → NamesRule (view p.now) n result }
 {
     let i = waiting(p, n, missing)?;
     Ok(trial(p, &p.edits[i], index, sound))

@@ -63,27 +63,3 @@ row_copied into values from to n h k l = span_moved to from n _ _ (λ i a. copie
 -- a row that is not copied to
 pub row_beside : (into values : List ℤ) (from to at n : ℕ) → n ≤ 32 → at + 32 ≤ to → row (copied_in into values from to 32) at n ≡ row into at n
 row_beside into values from to at n h k = span_same at n _ _ (λ j a b. copied-outside into values from to (min 32 (min (length into - to) (length values - from))) j (λ i c z. omega arith))
-
--- the same values from another array
-copied_alike : (into u v : List ℤ) (a b to n : ℕ) → ((i : ℕ) → i < n → get_or u (a + i) (pos 0) ≡ get_or v (b + i) (pos 0)) → copied into u a to n ≡ copied into v b to n
-unfolding copied
-copied_alike into u v a b to zero h = refl
-copied_alike into u v a b to (suc n) h = ap₂ (λ xs x. set xs (to + n) x) (copied_alike into u v a b to n (λ i k. h i (omega arith))) (h n (omega arith))
-
-through : (values room : List ℤ) (from to n m : ℕ) → m ≤ n → n ≤ length room → copied values (copied room values from 0 n) 0 to m ≡ copied values values from to m
-through values room from to n m a h = copied_alike values (copied room values from 0 n) values 0 from to m (λ i b. copied_inside room values from 0 n i (omega arith) (omega arith))
-
-out_all : (n x y z : ℕ) → x ≡ n → z + n ≤ y → min n (min (x - 0) (y - z)) ≡ n
-out_all n x y z e h = omega arith
-
-in_all : (n x y z w : ℕ) → y ≡ n → w + n ≤ z → min n (min x (y - 0)) ≡ min n (min x (z - w))
-in_all n x y z w e h = omega arith
-
-part_of : (n x : ℕ) → min n x ≤ n
-part_of n x = omega arith
-
--- n values copied out into a row of n, and in again
-pub copied_through : (values room : List ℤ) (from to n : ℕ) → length room ≡ n → from + n ≤ length values → copied_in values (copied_in room values from 0 n) 0 to n ≡ copied_in values values from to n
-copied_through values room from to n e h =
-    rw (out_all n (length room) (length values) from e h, in_all n (length values - to) _ (length values) from (length-copied room values from 0 n ∙ e) h)
-    (through values room from to n _ (part_of n _) (omega arith))

@@ -96,44 +96,7 @@ pub map-span : {A B : Type 0} (g : A → B) (i n : ℕ) (f : ℕ → A) → map 
 map-span g i zero f = refl
 map-span g i (suc n) f = ap {B = List _} (λ xs. g (f i) ∷ xs) (map-span g (suc i) n f)
 
--- ---- a walk over the first n: what is asked of all of them is what is asked of the rest
-
-pub record Walked {A B : Type 0} (g : List A → B) (f : ℕ → A) (n i : ℕ) : Type 0 where
-  pub rest : g (span 0 n f) ≡ g (span i (n - i) f)
-
-pub walk_begin : {A B : Type 0} (g : List A → B) (f : ℕ → A) (n : ℕ) → Walked g f n 0
-walk_begin g f n = record { rest = let e : n ≡ n - 0 = omega arith in ap (λ k. g (span 0 k f)) e }
-
-module _ {A : Type 0} (p : A → Bool) (f : ℕ → A) (n i : ℕ) where
-  pub all-next : Walked (all p) f n i → i < n → p (f i) ≡ true → Walked (all p) f n (i + 1)
-  all-next w h e = record { rest = w.rest ∙ rw (span-next i n f h, e) }
-
-  pub all-stop : Walked (all p) f n i → i < n → p (f i) ≡ false → false ≡ all p (span 0 n f)
-  all-stop w h e = sym (w.rest ∙ rw (span-next i n f h, e))
-
-  pub all-over : Walked (all p) f n i → n ≤ i → true ≡ all p (span 0 n f)
-  all-over w h = sym (w.rest ∙ rw (span-over i n f h))
-
-  pub any_next : Walked (any p) f n i → i < n → p (f i) ≡ false → Walked (any p) f n (i + 1)
-  any_next w h e = record { rest = w.rest ∙ rw (span-next i n f h, e) }
-
-  pub any-stop : Walked (any p) f n i → i < n → p (f i) ≡ true → true ≡ any p (span 0 n f)
-  any-stop w h e = sym (w.rest ∙ rw (span-next i n f h, e))
-
-  pub any-over : Walked (any p) f n i → n ≤ i → false ≡ any p (span 0 n f)
-  any-over w h = sym (w.rest ∙ rw (span-over i n f h))
-
--- further on, where all on the way pass
-pub all_skip : {A : Type 0} (p : A → Bool) (f : ℕ → A) (n i d : ℕ) → Walked (all p) f n i → i + d ≤ n → ((k : ℕ) → i ≤ k → k < i + d → p (f k) ≡ true) → Walked (all p) f n (i + d)
-all_skip p f n i zero w h e = let z : i ≡ i + 0 = omega arith in subst (Walked (all p) f n) z w
-all_skip p f n i (suc d) w h e =
-    let z : i + d + 1 ≡ i + suc d = omega arith in
-    subst (Walked (all p) f n) z (all-next p f n (i + d) (all_skip p f n i d w (omega arith) (λ k a b. e k a (omega arith))) (omega arith) (e (i + d) (omega arith) (omega arith)))
-
-pub all_to : {A : Type 0} (p : A → Bool) (f : ℕ → A) (n i j : ℕ) → Walked (all p) f n i → i ≤ j → j ≤ n → ((k : ℕ) → i ≤ k → k < j → p (f k) ≡ true) → Walked (all p) f n j
-all_to p f n i j w a b e =
-    let z : i + (j - i) ≡ j = omega arith in
-    subst (Walked (all p) f n) z (all_skip p f n i (j - i) w (omega arith) (λ k c d. e k c (omega arith)))
+-- ---- counts on the way
 
 -- k of the first i pass, and the rest are still to be counted
 pub record Counted {A : Type 0} (p : A → Bool) (f : ℕ → A) (n i k : ℕ) : Type 0 where
@@ -142,7 +105,7 @@ pub record Counted {A : Type 0} (p : A → Bool) (f : ℕ → A) (n i k : ℕ) :
 
 module _ {A : Type 0} (p : A → Bool) (f : ℕ → A) (n : ℕ) where
   pub count_begin : Counted p f n 0 0
-  count_begin = let e = (walk_begin (count p) f n).rest in record { most = omega arith; rest = omega arith }
+  count_begin = let z : n ≡ n - 0 = omega arith in let e = ap (λ k. count p (span 0 k f)) z in record { most = omega arith; rest = omega arith }
 
   pub count_next : (i k b : ℕ) → Counted p f n i k → i < n → b ≡ bit (p (f i)) → Counted p f n (i + 1) (k + b)
   count_next i k b c h e =

@@ -1,7 +1,7 @@
 // Counts, places and rows of values in arrays: capped, told to be of a range, copied.
 #![tactic(auto)]
 
-ghost use Rattle.std.specs.Prelude.{◌≡◌, ◌-◌, min};
+ghost use Rattle.std.specs.Prelude.{◌≡◌, min};
 ghost use Rattle.protocol.specs.Lists.{one_to};
 ghost use Rattle.rows.specs.Rows.{copied_in};
 
@@ -19,13 +19,6 @@ pub fn one_to(k: usize, n: u32) -> bool
 }
 
 // ---- rows copied
-
-// What an array of n has from a place on.
-pub fn rest(n: usize, at: usize) -> usize
-    ensures { result ≡ n - at }
-{
-    n.saturating_sub(at)
-}
 
 // Copies n values from a place to a place, as far as both arrays have them.
 pub fn copy(into: &mut [i32], values: &[i32], from: usize, to: usize, n: usize)

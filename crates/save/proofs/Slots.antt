@@ -56,22 +56,22 @@ marked-bytes : (next k : ℕ) (firm : Bool) → k < 4 → four_bytes (joined_wor
 marked-bytes next k firm h = joined_bytes next (mark k firm) ∙ ap (λ bs. two_bytes next ++ bs) (one_byte (mark k firm) (mark_below k firm h))
 
 -- each sort of slot, from its words
-pub zero-words : (first a b next check count : ℕ) → first ≡ joined_word a b → count < 65_536
+pub zero_words : (first a b next check count : ℕ) → first ≡ joined_word a b → count < 65_536
     → bytes_of (record { first = first; second = next; third = check; fourth = count }) ≡ slot_zero a b next check count
 unfolding slot_zero
-zero-words first a b next check count e h = rw (e, joined_bytes a b, small_bytes count h) (simp append_assoc)
+zero_words first a b next check count e h = rw (e, joined_bytes a b, small_bytes count h) (simp append_assoc)
 
-pub measure-words : (next first second : ℕ) (v : ℤ) → first ≡ joined_word next (mark measure_kind false) → second ≡ complement v
+pub measure_words : (next first second : ℕ) (v : ℤ) → first ≡ joined_word next (mark measure_kind false) → second ≡ complement v
     → bytes_of (record { first = first; second = second; third = 0; fourth = 0 }) ≡ measure_slot next v
 unfolding measure_slot four_bytes two_bytes
-measure-words next first second v p q =
+measure_words next first second v p q =
     ap₂ (λ a b. bytes_of (record { first = a; second = b; third = 0; fourth = 0 })) p q
     ∙ ap (λ bs. bs ++ (four_bytes (complement v) ++ (four_bytes 0 ++ four_bytes 0))) (marked-bytes next measure_kind false (omega arith))
 
-pub rule-words : (next first second third : ℕ) (r : Rule) → first ≡ joined_word next (mark rule_kind r.firm) → second ≡ joined_word r.lower r.upper → third ≡ complement r.gap
+pub rule_words : (next first second third : ℕ) (r : Rule) → first ≡ joined_word next (mark rule_kind r.firm) → second ≡ joined_word r.lower r.upper → third ≡ complement r.gap
     → bytes_of (record { first = first; second = second; third = third; fourth = 0 }) ≡ rule_slot next r
 unfolding rule_slot four_bytes two_bytes
-rule-words next first second third r p q s =
+rule_words next first second third r p q s =
     (λ i. bytes_of (record { first = p i; second = q i; third = s i; fourth = 0 }))
     ∙ ap₂ (λ bs cs. bs ++ (cs ++ (four_bytes (complement r.gap) ++ four_bytes 0))) (marked-bytes next rule_kind r.firm (omega arith)) (joined_bytes r.lower r.upper)
 

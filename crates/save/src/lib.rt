@@ -31,6 +31,7 @@ fn link(k: usize, end: usize) -> u32
 }
 
 // Slot 0 of a plan with n measures and m rules.
+#[tactic(auto, using(crate::proofs::Slots::zero_words))]
 fn heading(n: usize, m: usize, next: u32, check: u32) -> Slot
     requires { (n ≤ 32) × (m ≤ 64) }
     ensures { bytes_of result ≡ head_of n m next check }
@@ -44,6 +45,7 @@ fn heading(n: usize, m: usize, next: u32, check: u32) -> Slot
     }
 }
 
+#[tactic(auto, using(crate::proofs::Slots::measure_words), unfolding(file::specs::Bytes::kind_bits))]
 fn measure_slot(next: u32, v: i32) -> Slot
     ensures { bytes_of result ≡ measure_slot next v }
 {
@@ -56,6 +58,7 @@ fn measure_slot(next: u32, v: i32) -> Slot
     }
 }
 
+#[tactic(auto, using(crate::proofs::Slots::rule_words), unfolding(file::specs::Bytes::kind_bits))]
 fn rule_slot(next: u32, rule: &Rule) -> Slot
     ensures { bytes_of result ≡ rule_slot next (rule_of rule.now) }
 {
@@ -104,6 +107,7 @@ fn file_size(n: usize, m: usize) -> usize
 }
 
 // What is to stand in place of a 0 so that all words add up to 0.
+#[tactic(auto, using(crate::proofs::Slots::balanced))]
 fn check_word(f: &[u8]) -> u32
     ensures { result ≡ balancing (total (take (16 * slots f.now) f.now)) }
 {

@@ -7,11 +7,11 @@
 
 ghost use Rattle.std.specs.Prelude.{◌+◌, ◌-◌, ◌*◌, ◌<◌, ◌≤◌, length};
 
-use edit::Ruling;
-use plan::{Answer, Answered, State};
-use protocol::call;
+use plan::{Answer, Answered, Given, Refusal, State};
+use protocol::call::{Call, Edit};
 use reader::Line;
 use replay::Outcome;
+use rules::Index;
 use std::io::Read;
 
 // A text is written out as it comes, and a write that fails ends nothing.
@@ -22,113 +22,110 @@ fn put(rt: &impl Print, bytes: &[u8]) {
 // The line of an answer and of a row of values behind it, as on a sheet, but for its first bytes.
 fn tell(rt: &impl Print, answer: Answer, row: &[i32], from: usize) {
     let mut space = [0u8; 128];
-    let end = writer::put(answer, row, &mut space);
-    let area = &space[..];
-    if from <= end && end <= area.len() {
-        put(rt, &area[from..end]);
+    if let Some(end) = writer::put(answer, row, &mut space) {
+        put(rt, space.get(from..end).unwrap_or(b""));
     }
 }
 
 // show into the front of 8 numbers that are all 77: the refusal with the part handed back, and the whole buffer after it.
 fn show(rt: &impl Print, p: State, s: i32, room: u32) {
-    let mut space = [77i32; 8];
-    let buffer: &mut [i32] = &mut space;
+    let mut buffer = [77i32; 8];
     let n = rows::capped(room, buffer.len());
     let mut refusal: u32 = 99;
-    let part = plan::show(p, s, &mut buffer[0..n], &mut refusal);
+    let part = plan::show(p, s, &mut buffer[..n], &mut refusal);
     put(rt, b"  refusal and part");
-    tell(rt, Answer::Given(1, refusal, 0, 0), part, 2);
+    tell(rt, Ok(Given::One(refusal)), part, 2);
     put(rt, b"  buffer");
-    tell(rt, Answer::Given(0, 0, 0, 0), buffer, 2);
+    tell(rt, Ok(Given::Nothing), &buffer, 2);
 }
 
-// Any call but show.
-fn call(p: State, l: Line) -> Answered {
-    let op = l.op;
-    match op {
-        call::MEASURE => plan::measure(p, l.a),
-        call::RULE => plan::rule(p, l.a, l.b, l.c, l.d),
-        call::OPEN => plan::open_plan(p),
-        call::SPLIT => plan::split(p, l.a),
-        call::EDIT => plan::edit(p, l.a, l.b, l.c, l.d, l.e, l.f),
-        call::JOIN => plan::join(p),
-        call::SEND => plan::send(p, l.a),
-        call::REPLAY => plan::replay(p, l.a),
-        call::STOP => plan::stop(p),
-        call::CONFIRM => plan::confirm(p, l.a),
-        call::INSTALL => plan::install(p),
-        call::FATE => plan::fate(p, l.a),
-        _ => plan::left(p),
+// Any call; a show changes nothing, and what it gives is written out elsewhere.
+fn call(p: State, call: Call) -> Answered {
+    match call {
+        Call::Measure(v) => plan::measure(p, v),
+        Call::Rule {
+            lower,
+            gap,
+            upper,
+            firm,
+        } => plan::rule(p, lower, gap, upper, firm),
+        Call::Open => plan::open_plan(p),
+        Call::Split(s) => plan::split(p, s),
+        Call::Edit(e) => plan::edit(p, e.side, e.client, e.after, e.measure, e.kind, e.constant),
+        Call::Join => plan::join(p),
+        Call::Send(s) => plan::send(p, s),
+        Call::Replay(n) => plan::replay(p, n),
+        Call::Stop => plan::stop(p),
+        Call::Confirm(s) => plan::confirm(p, s),
+        Call::Install => plan::install(p),
+        Call::Fate(n) => plan::fate(p, n),
+        Call::Left | Call::Show(_) => plan::left(p),
     }
 }
 
-// The rule for which an edit is refused, as what it decides has it (02, S-3; no call gives it before S-7); 0 for none.
-fn broken_by_edit(p: State, l: Line) -> u32 {
-    let h = p.head;
-    let named = calls::first_look(l, h);
-    let slot = heads::slot(named);
-    let seen = p.edits[slot];
-    let index = [0i32; 512];
-    let ruling = edit::decide_edit(l, h, &p.table, &index, &p.values, named, seen, false);
-    match ruling {
-        Ruling::Refused(_) => 0,
-        Ruling::Broken(rule) => rule,
-        Ruling::Granted(_, _) => 0,
+// The rule for which an edit is refused, as what decides has it (02, S-3; no call gives it before S-7).
+fn broken_by_edit(p: &State, e: Edit) -> Option<u32> {
+    match edit::decide(p, e, &Index::new(), false) {
+        Err(Refusal::RuleBroken(rule)) => Some(rule),
+        _ => None,
     }
 }
 
 // The same of a replay that is accepted: no first log is missing.
-fn broken_by_replay(p: State, l: Line) -> u32 {
-    let h = p.head;
-    let named = calls::first_look(l, h);
-    let first_slot = heads::slot(named);
-    let standing = p.edits[first_slot];
-    let next = calls::second_look(l, h, named, standing);
-    let second_slot = heads::slot(next);
-    let seen = p.edits[second_slot];
-    let index = [0i32; 512];
-    let outcome = replay::decide_replay(
-        h, &p.table, &index, &p.draft, 0, named, standing, next, seen, false,
-    );
-    match outcome {
-        Outcome::Refused(_) => 0,
-        Outcome::Settled(_, _, rule) => rule,
+fn broken_by_replay(p: &State, n: i32) -> Option<u32> {
+    match replay::decide(p, n, 0, &Index::new(), false) {
+        Ok(Outcome::Revoked(rule)) => rule,
+        _ => None,
     }
 }
 
-fn broken(p: State, l: Line, accepted: bool) -> u32 {
-    if l.op == call::EDIT {
-        return broken_by_edit(p, l);
+fn broken(p: &State, call: Call, accepted: bool) -> Option<u32> {
+    match call {
+        Call::Edit(e) => broken_by_edit(p, e),
+        Call::Replay(n) if accepted => broken_by_replay(p, n),
+        _ => None,
     }
-    if l.op == call::REPLAY && accepted {
-        return broken_by_replay(p, l);
-    }
-    0
 }
 
 // A title, or a call with its answer, and with the rule if it breaks one.
-fn trial(rt: &impl Print, p: State, l: Line, n: u32) -> State {
-    if l.op == 0 {
-        put(rt, b"\n");
-        return plan::blank();
+fn trial(rt: &impl Print, p: State, asked: Option<Call>, n: u32) -> State {
+    match asked {
+        None => {
+            put(rt, b"\n");
+            plan::blank()
+        }
+        Some(Call::Show(s)) => {
+            show(rt, p, s, n);
+            p
+        }
+        Some(asked) => {
+            let made = call(p, asked);
+            put(rt, b"  ");
+            tell(rt, made.answer, &[], 0);
+            if let Some(rule) = broken(&p, asked, made.answer.is_ok()) {
+                put(rt, b"  rule");
+                tell(rt, Ok(Given::One(rule)), &[], 2);
+            }
+            made.state
+        }
     }
-    if l.op == call::SHOW {
-        show(rt, p, l.a, n);
-        return p;
-    }
-    let r = call(p, l);
-    let answer = r.answer;
-    put(rt, b"  ");
-    tell(rt, answer, &[], 0);
-    let rule = broken(p, l, state::accepted(answer));
-    if rule != 0 {
-        put(rt, b"  rule");
-        tell(rt, Answer::Given(1, rule, 0, 0), &[], 2);
-    }
-    r.state
 }
 
-// What a line leaves: the plan, the number for the next line, and where that begins.
+// The first number of a line's call; 0 if it has none.
+fn first_number(call: Option<Call>) -> u32 {
+    let Some(call) = call else {
+        return 0;
+    };
+    exact::number(match call {
+        Call::Measure(n) | Call::Split(n) | Call::Send(n) | Call::Replay(n) => n,
+        Call::Confirm(n) | Call::Show(n) | Call::Fate(n) => n,
+        Call::Rule { lower, .. } => lower,
+        Call::Edit(e) => e.side,
+        Call::Open | Call::Join | Call::Stop | Call::Install | Call::Left => 0,
+    })
+}
+
+// Where a run stands: the plan, the number for the next line, and where that begins.
 #[derive(Clone, Copy)]
 struct Turn {
     state: State,
@@ -143,52 +140,49 @@ fn read(text: &[u8]) -> Line
     reader::read_line(text)
 }
 
-// The line at a place. A call that is to be made again is made here once, and its line comes next with a number less by one: what is
+// The next line. A call that is to be made again is made here once, and its line comes next with a number less by one: what is
 // left, the number and 1,000,000 for each byte, falls with every turn.
-fn line(rt: &impl Print, p: State, n: u32, text: &[u8], at: usize) -> Turn
-    requires { at < length text.now }
-    ensures { result.n + 1000000 * (length text.now - result.at) < n + 1000000 * (length text.now - at) }
+fn next(rt: &impl Print, turn: Turn, text: &[u8]) -> Turn
+    requires { turn.at < length text.now }
+    ensures { result.n + 1000000 * (length text.now - result.at) < turn.n + 1000000 * (length text.now - turn.at) }
 {
-    let rest = &text[at..];
-    let l = read(rest);
-    if 1 < n && l.op != call::SHOW {
-        let r = call(p, l);
-        let state = r.state;
-        return Turn {
-            state,
-            n: n - 1,
-            at,
-        };
+    let rest = &text[turn.at..];
+    let line = read(rest);
+    if let Some(asked) = line.call {
+        if 1 < turn.n && !matches!(asked, Call::Show(_)) {
+            return Turn {
+                state: call(turn.state, asked).state,
+                n: turn.n - 1,
+                ..turn
+            };
+        }
     }
-    let end = l.end;
-    put(rt, &rest[0..end]);
-    if rest[0] == 42 {
+    put(rt, &rest[..line.end]);
+    let at = turn.at + line.end + 1;
+    if rest[0] == b'*' {
         put(rt, b"\n");
-        let m = reader::read_line(&rest[1..]);
+        let named = reader::read_line(&rest[1..]);
         return Turn {
-            state: p,
-            n: exact::number(m.a) % 1000000,
-            at: at + end + 1,
+            n: first_number(named.call) % 1000000,
+            at,
+            ..turn
         };
     }
-    let state = trial(rt, p, l, n);
     Turn {
-        state,
+        state: trial(rt, turn.state, line.call, turn.n),
         n: 0,
-        at: at + end + 1,
+        at,
     }
 }
 
 fn run(rt: &impl Print, text: &[u8]) {
-    let mut p = plan::blank();
-    let mut n: u32 = 0;
-    let mut at: usize = 0;
-    while at < text.len() {
-        let t = line(rt, p, n, text, at);
-        let q = t.state;
-        p = q;
-        n = t.n;
-        at = t.at;
+    let mut turn = Turn {
+        state: plan::blank(),
+        n: 0,
+        at: 0,
+    };
+    while turn.at < text.len() {
+        turn = next(rt, turn, text);
     }
 }
 
@@ -199,9 +193,8 @@ fn read_text(input: &mut impl Read, text: &mut [u8]) -> usize
     let mut done: usize = 0;
     while done < text.len() {
         match input.read(&mut text[done..]) {
-            Ok(0) => return done,
+            Ok(0) | Err(_) => return done,
             Ok(n) => done += n,
-            Err(_) => return done,
         }
     }
     done

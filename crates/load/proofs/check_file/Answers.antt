@@ -23,8 +23,8 @@ returns-then-not-is_chained c =
     let s = sym c.has_size.ensures ∙ c.if-not-has_size.false in
     let b = sym (balanced-is f (is_yes s) _ c.sum.ensures) ∙ eq-eqb _ _ c.if-sum-ne0.false in
     elim c.then-not-is_chained.branch [
-      then-not-is_chained-via-then-not-is_chained w ↦ first_46 f h u s b (λ z. sym w.if-not-is_chained.true ∙ c.is_chained.ensures.1 z)
-    | then-not-is_chained-via-else-not-is_chained+then-not-has_number w ↦
+      | then-not-is_chained-via-then-not-is_chained w ↦ first_46 f h u s b (λ z. sym w.if-not-is_chained.true ∙ c.is_chained.ensures.1 z)
+      | then-not-is_chained-via-else-not-is_chained+then-not-has_number w ↦
           first-unnumbered f h u s b (c.is_chained.ensures.0 w.if-not-is_chained.false)
           (sym (w.has_number.ensures (sized-parts f (is_yes s)).1) ∙ w.if-not-has_number.true)
     ]

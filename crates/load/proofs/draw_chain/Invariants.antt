@@ -1,5 +1,5 @@
 use Rattle.load.proofs.Drawing.{Along}
 use Rattle.load.proofs.draw_chain.Given as goal
 
-abbrev pub invariant-loop-i : goal.invariant-loop-i
-invariant-loop-i l = Along l.f l.kind l.start l.initial.p l.p l.k l.i
+abbrev pub invariant-loop : goal.invariant-loop
+invariant-loop l = Along l.f l.kind l.start l.initial.p l.p l.k l.counter

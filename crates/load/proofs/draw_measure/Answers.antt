@@ -1,4 +1,4 @@
-use Rattle.std.proofs.Common.{List, ℕ, ◌≡◌, sym, ap, ◌∙◌, rules, Err, to_z-of_z}
+use Rattle.std.proofs.Common.{◌≡◌, ap, ◌∙◌, rules, Err, to_z-of_z}
 use Rattle.protocol.specs.Calls.{measure}
 use Rattle.exact.proofs.Ints.{fits32}
 use Rattle.file.specs.Bytes.{signed, signed_at}

@@ -9,9 +9,9 @@ returns-then-k-eq0-clause-walks c = let a = c.args in walks_ended a.f.now a.kind
 pub returns-then-count-k-clause-walks : goal.returns-then-count-k-clause-walks
 returns-then-count-k-clause-walks c = let a = c.args in
     elim c.then-count-k.branch [
-      then-count-k-via-then-count-k w ↦
+      | then-count-k-via-then-count-k w ↦
           stop-outside a.f.now a.kind a.start a.met a.seen.now _ _ _ c.loop-i.invariant c.if-k-eq0.false _ c.loop-i-test.true w.if-count-k.true
-    | then-count-k-via-else-count-k+then-seen-k w ↦
+      | then-count-k-via-else-count-k+then-seen-k w ↦
           stop_again a.f.now a.kind a.start a.met a.seen.now _ _ _ c.loop-i.invariant c.if-k-eq0.false _ c.loop-i-test.true w.if-count-k.false c.requires.0 w.if-seen-k.true
     ]
 

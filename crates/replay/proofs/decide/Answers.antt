@@ -1,15 +1,26 @@
+use mathlib.Core.Bool.{false}
 use mathlib.Core.Path.{sym, ap, ◌∙◌}
 use mir.Facts.{to_z-of_z}
 use Rattle.protocol.specs.Calls.{first}
 use Rattle.heads.specs.Heads.{named_at, seat}
+use borrow.Author.Rules.{rules}
+use Rattle.rules.specs.Rules.{tested_in}
 use Rattle.rules.specs.Index.{tested_by}
 use Rattle.state.specs.Spread.{spread}
 use Rattle.replay.specs.Replays.{checks_in, outcome_of}
 use Rattle.replay.proofs.Checks.{named_at_place}
+use Rattle.replay.proofs.Replays.{decided_refused, replay_decided, replay-rule}
 use Rattle.replay.proofs.decide.Goals as goal
 
-pub returns : goal.returns
-returns c =
+pub returns-in_err-i-clause-rule : goal.returns-in_err-i-clause-rule
+returns-in_err-i-clause-rule c =
+    let a = c.args in
+    let q = spread a.p.now in
+    let refusal = c.in_err-i.ensures.0 ∙ ap (λ n. first (checks_in q a.missing n)) (to_z-of_z c.ranges.n) in
+    λ known. replay-rule q a.n c.from_residual.result known.missing (decided_refused (tested_in false) q a.n (search rules) refusal)
+
+pub returns-clause-exact : goal.returns-clause-exact
+returns-clause-exact c =
     let a = c.args in
     let p = a.p.now in
     let test = tested_by a.sound a.index.now in
@@ -19,3 +30,9 @@ returns c =
       verdict = c.in_ok-i.ensures.0 ∙ ap (λ n. first (checks_in (spread p) a.missing n)) number;
       outcome = c.trial.ensures ∙ ap (outcome_of test (spread p)) (named_at_place p a.n c.in_ok-i.i (ap (λ n. seat (named_at p.head n)) (sym number) ∙ there.1) there.0);
     }
+
+pub returns-clause-rule : goal.returns-clause-rule
+returns-clause-rule c =
+    let a = c.args in
+    let p = a.p.now in
+    λ known. replay-rule (spread p) a.n _ known.missing (replay_decided p a.n _ known (returns-clause-exact c))
