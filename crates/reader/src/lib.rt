@@ -252,7 +252,9 @@ fn read_call(sheet: &[u8]) -> Result<Found<Call>, usize>
         if byte_at(sheet, at) == b'\n' {
             return Err(at);
         }
-        let number = read_number(sheet, at + 1).ok_or(at)?;
+        let Some(number) = read_number(sheet, at + 1) else {
+            return Err(at);
+        };
         numbers[k] = number.value;
         at = number.next;
     }

@@ -44,14 +44,12 @@ read_number-requires c =
     let g = goes c.args.sheet.now l.at c.byte_at.result l.invariant.0 c.byte_at.ensures c.if-byte_at-eq10.false in
     omega (arith, g)
 
-pub returns-in_err-number : goal.returns-in_err-number
-returns-in_err-number c =
+pub returns-in_default : goal.returns-in_default
+returns-in_default c =
     let line = first_line c.args.sheet.now in
     let l = c.loop-k in
     let g = goes c.args.sheet.now l.at c.byte_at.result l.invariant.0 c.byte_at.ensures c.if-byte_at-eq10.false in
-    let f = failed_at c.read_number.result l.at _ c.ok_or-in-loop-k.result c.ok_or-in-loop-k.ensures.value c.in_err-number.was in
-    taken_err line c.from_residual-in_err-number.result _ c.from_residual-in_err-number.ensures.0 c.from_residual-in_err-number.ensures.1
-    (λ at e. (listing_unread line _ l.k l.numbers l.at l.invariant.1 g (sym c.read_number.ensures ∙ f.0), omega (arith, e, f.1, l.invariant.0)))
+    (listing_unread line _ l.k l.numbers l.at l.invariant.1 g (sym c.read_number.ensures ∙ c.in_default.is), l.invariant.0)
 
 pub returns-then-byte_at-eq10 : goal.returns-then-byte_at-eq10
 returns-then-byte_at-eq10 c =
@@ -69,10 +67,10 @@ pub loop-k-preserved : goal.loop-k-preserved
 loop-k-preserved c =
     let line = first_line c.args.sheet.now in
     let l = c.loop-k in
-    let x = c.in_ok-number.number.value in
-    let n = c.in_ok-number.number.next in
+    let x = c.in-Some.number.value in
+    let n = c.in-Some.number.next in
     let g = goes c.args.sheet.now l.at c.byte_at.result l.invariant.0 c.byte_at.ensures c.if-byte_at-eq10.false in
-    let e = sym c.read_number.ensures ∙ c.ok_or-in-loop-k.ensures.ok_part ∙ ap result_ok c.in_ok-number.was in
+    let e = sym c.read_number.ensures ∙ c.in-Some.is in
     let s : SFits w32 x = search rules in
     (found_within line l.at x n g e, rw (to_z-of_z s) (listing_next line _ l.k l.numbers l.at l.invariant.1 x n g e (λ z. omega (arith, z, c.count-k-end.ensures, c.loop-k-test.true))))
 
