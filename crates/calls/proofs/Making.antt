@@ -114,12 +114,12 @@ noted-after (Fate n) p t g = refl
 noted-after Left p t g = refl
 
 module _ (c : Call) {p q : State} {a : Answer} (m : Makes (asked c) p a q) (t : Tallies) (h : Tallied t (view p)) where
-  pub tallied-accepted : length t.unsent ≡ 8 → is_ok a ≡ true → Tallied (noted c p.head (get_or p.arrived (index_of (side_named c)) false) t) (view q)
-  tallied-accepted long y =
+  pub tallied-accepted : is_ok a ≡ true → Tallied (noted c p.head (get_or p.arrived (index_of (side_named c)) false) t) (view q)
+  tallied-accepted y =
       let s = if_accepted m y in
       let few : length (view p).content.sides ≤ 8 = (let l = sides-length (spread p) in let n = sides_most p.head in omega arith) in
       subst (λ u. Tallied u (view q)) (sym (noted-after c p t s.0))
-      (subst (Tallied (tally_after (asked c) (view p) t)) (sym s.1) (tallied-after t (view p) long (kept_most (spread p)) few h (asked c) s.0))
+      (subst (Tallied (tally_after (asked c) (view p) t)) (sym s.1) (tallied-after t (view p) (kept_most (spread p)) few h (asked c) s.0))
 
   pub tallied-refused : is_ok a ≡ false → Tallied t (view q)
   tallied-refused n = subst (Tallied t) (sym (if_refused m n)) h
@@ -218,7 +218,7 @@ module _ (c : Call) {p q : State} {a : Answer} {b b' : Beside} (w : Changes c p 
     bare = λ e. refl;
     same = w.makes.same;
     tallied = λ h. subst (λ t. Tallied t (view q)) (sym (n.counts ∙ ap (noted c p.head (get_or p.arrived (index_of (side_named c)) false)) w.counts))
-        (tallied-accepted c w.makes b.counts h (ap (λ t. length t.unsent) (sym w.counts) ∙ n.sides) y);
+        (tallied-accepted c w.makes b.counts h y);
     indexed = λ x. cases (is_draw c)
         (λ d made. absurd (is_yes (sym (n.stale d) ∙ made)))
         (λ d. let r = w.rules d in subst (ReadyIn (spread q)) (sym (n.index d)) (ready_still p q r.0 r.1 (w.indexed x)));

@@ -1,8 +1,8 @@
 -- Scaffolding: what every call promises, made on a plan and on what its owner keeps beside it: where that is true, the answer and the plan are the protocol's, what is
 -- kept stays true, and a refusal leaves the plan as it was. Assumes nothing.
-use Rattle.std.specs.Prelude.{ℕ, min, ◌≡◌, Bool, true, false, List, [], length, ℤ, Option, Some, None}
+use Rattle.std.specs.Prelude.{ℕ, min, ◌≡◌, Bool, true, false, List, [], ℤ, Option, Some, None}
 use Rattle.protocol.specs.Lists.{natural}
-use Rattle.protocol.specs.Plan.{rule_limit, side_limit}
+use Rattle.protocol.specs.Plan.{rule_limit}
 use Rattle.protocol.specs.Asked.{asked}
 use Rattle.protocol.specs.declared.call.Call.{Call}
 use Rattle.protocol.specs.declared.call.Call.TheVariants.{Measure, Rule, Open, Split, Edit, Join, Send, Replay, Stop, Confirm, Install, Show, Fate, Left}
@@ -156,7 +156,6 @@ side_named Left = 0
 
 -- an accepted call noted: the counts, and that the index is no longer the rules' after a drawing
 pub record Noted (c : Call) (h : Head) (arrived : Bool) (b b' : Beside) : Type 0 where
-  pub sides : length b.counts.unsent ≡ side_limit
   pub counts : b'.counts ≡ noted c h arrived b.counts
   pub sound : b'.sound ≡ b.sound
   pub stale : is_draw c ≡ true → is_made b'.index ≡ false

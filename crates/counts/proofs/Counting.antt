@@ -191,9 +191,9 @@ tally_after (fate_of_edit n) p t = t
 tally_after left p t = t
 
 -- an edit in a plan that is split or joining
-tallied-edit : (t : Tallies) (m : Mode) (d : Content) (e : Edit) (r : Bool) → length t.unsent ≡ 8 → length d.kept < 256 → length d.sides ≤ 8 → T (one_to (length d.sides) e.side) → Tallied t (plan m d)
+tallied-edit : (t : Tallies) (m : Mode) (d : Content) (e : Edit) (r : Bool) → length d.kept < 256 → length d.sides ≤ 8 → T (one_to (length d.sides) e.side) → Tallied t (plan m d)
     → Tallied (one_unsent e.side (side_at d e.side).arrived t) (plan m (edit_to d e r))
-tallied-edit t m d e r long room few has h =
+tallied-edit t m d e r room few has h =
     let n = length d.sides in
     let s = e.side in
     let i = range n s has in
@@ -203,22 +203,24 @@ tallied-edit t m d e r long room few has h =
     let late = ap (λ u. bit ((side_at d s).arrived && is_none u)) (h.counted.unsent s i.0 q) ∙ raised (side_at d s).arrived (unsent_of s d.kept) in
     let same = length-modify s (on_values (made e.measure e.change)) d.sides in
     record {
-      counted = counted-snoc t d.kept (new_kept e r) long room i.0 q h.counted _ refl;
+      long = length-set t.unsent (index_of s) _ ∙ h.long;
+      counted = counted-snoc t d.kept (new_kept e r) h.long room i.0 q h.counted _ refl;
       left = λ a. let l = h.left a in rw same (omega arith);
       missing = λ a. h.missing a ∙ sym (missing-same d (edit_to d e r) same (arrived-edited d e r));
     }
 
 -- a call that takes one off the number left and leaves the kept edits and the logs
-tallied_less : (t : Tallies) (k : Mode) (e : Content) → Counted t e.kept → (T (active k) → t.left - 1 ≡ left_of k e) → (T (active k) → t.missing ≡ missing_of e)
+tallied_less : (t : Tallies) (k : Mode) (e : Content) → length t.unsent ≡ 8 → Counted t e.kept → (T (active k) → t.left - 1 ≡ left_of k e) → (T (active k) → t.missing ≡ missing_of e)
     → Tallied (one_less t) (plan k e)
-tallied_less t k e same fewer there = record { counted = record { unsent = same.unsent; waiting = same.waiting; settled = same.settled }; left = fewer; missing = there }
+tallied_less t k e long same fewer there = record { long = long; counted = record { unsent = same.unsent; waiting = same.waiting; settled = same.settled }; left = fewer; missing = there }
 
-module _ (t : Tallies) (m : Mode) (d : Content) (long : length t.unsent ≡ 8) (room : length d.kept ≤ 256) (few : length d.sides ≤ 8) (h : Tallied t (plan m d)) where
+module _ (t : Tallies) (m : Mode) (d : Content) (room : length d.kept ≤ 256) (few : length d.sides ≤ 8) (h : Tallied t (plan m d)) where
   tallied-send : (s : ℕ) → T (one_to (length d.sides) s) → T (pending d s) → Tallied (all_sent s (side_at d s).arrived t) (plan m (send_to d s))
   tallied-send s has owes =
       let i = range (length d.sides) s has in
       record {
-        counted = counted-sent t d.kept s (side_at d s).arrived long room i.0 (omega (arith, i.1, few)) h.counted;
+        long = length-set t.unsent (index_of s) 0 ∙ h.long;
+        counted = counted-sent t d.kept s (side_at d s).arrived h.long room i.0 (omega (arith, i.1, few)) h.counted;
         left = λ a. fallen m m d (send_to d s) t.left (length-modify s has_arrived d.sides) (send-sum d s m has owes) (h.left a);
         missing = λ a. ap (λ n. cond (side_at d s).arrived n (n - 1)) (h.missing a) ∙ missing-sent d s has;
       }
@@ -226,6 +228,7 @@ module _ (t : Tallies) (m : Mode) (d : Content) (long : length t.unsent ≡ 8) (
   tallied-replay : (n : ℕ) → T (is_waiting (lookup n d.kept)) → Tallied (one_settled t) (plan m (replay_to d n))
   tallied-replay n waits =
       record {
+        long = h.long;
         counted = counted-settled t d.kept n (replayable d n) (next_place d.kept) room waits h.counted;
         left = λ a. fallen m m d (replay_to d n) t.left refl (replay-sum d n m waits (length d.sides)) (h.left a);
         missing = h.missing;
@@ -234,6 +237,7 @@ module _ (t : Tallies) (m : Mode) (d : Content) (long : length t.unsent ≡ 8) (
   tallied-join : Tallied (begun (length d.sides) (length d.kept) t) (plan joining (join_to d))
   tallied-join =
       record {
+        long = h.long;
         counted = record { unsent = h.counted.unsent; waiting = h.counted.waiting; settled = h.counted.settled };
         left = λ a.
             let sum = join-sum d (length d.sides) in
@@ -245,36 +249,36 @@ module _ (t : Tallies) (m : Mode) (d : Content) (long : length t.unsent ≡ 8) (
 
   by_call : (c : Call) → Pass (checks c (plan m d)) → Tallied (tally_after c (plan m d) t) (after c m d)
   unfolding after checks further
-  by_call (measure v) g = record { counted = h.counted; left = λ a. absurd (rw (only blank m g.0) at a); missing = λ a. absurd (rw (only blank m g.0) at a) }
-  by_call (rule a c b f) g = record { counted = h.counted; left = h.left; missing = h.missing }
-  by_call open_plan g = record { counted = h.counted; left = λ a. absurd a; missing = λ a. absurd a }
+  by_call (measure v) g = record { long = h.long; counted = h.counted; left = λ a. absurd (rw (only blank m g.0) at a); missing = λ a. absurd (rw (only blank m g.0) at a) }
+  by_call (rule a c b f) g = record { long = h.long; counted = h.counted; left = h.left; missing = h.missing }
+  by_call open_plan g = record { long = h.long; counted = h.counted; left = λ a. absurd a; missing = λ a. absurd a }
   by_call (split-side s) g = cases (is whole m)
-      (λ e. rw e (record { counted = counted_none; left = λ a. absurd a; missing = λ a. absurd a }))
-      (λ e. rw e (record { counted = h.counted; left = λ a. absurd a; missing = λ a. absurd a }))
+      (λ e. rw e (record { long = refl; counted = counted_none; left = λ a. absurd a; missing = λ a. absurd a }))
+      (λ e. rw e (record { long = h.long; counted = h.counted; left = λ a. absurd a; missing = λ a. absurd a }))
   by_call (edit s client n x kind k) g = cases (is whole m)
       (λ e.
       let none : T (active m) → ⊥ = λ a. absurd (rw (only whole m (is_yes e)) at a) in
-      rw e (record { counted = h.counted; left = λ a. absurd (none a); missing = λ a. absurd (none a) }))
+      rw e (record { long = h.long; counted = h.counted; left = λ a. absurd (none a); missing = λ a. absurd (none a) }))
       (λ e.
       let a = which (is whole m) (apart m) g.0 (λ y. absurd (subst T e y)) (λ y. y) in
       let f : T (not (leb kept_limit (length d.kept))) = (rw (yes_is (apart m) a) at g).1.1.1.1.1.1.1.0 in
-      rw e (tallied-edit t m d (edit_of d.next s client n x kind k) (is split m) long (nleb→lt kept_limit (length d.kept) f) few g.1.0 h))
+      rw e (tallied-edit t m d (edit_of d.next s client n x kind k) (is split m) (nleb→lt kept_limit (length d.kept) f) few g.1.0 h))
   by_call join g = tallied-join
   by_call (send s) g = tallied-send (natural s) g.1.0 g.1.1.0
   by_call (replay n) g = tallied-replay (natural n) g.1.1.0
   by_call stop g =
       let was = rw (only joining m g.0) at h in
-      tallied_less t closing d h.counted (λ a. fallen joining closing d d t.left refl (stop-sum d (length d.sides)) (was.left tt)) (λ a. was.missing tt)
+      tallied_less t closing d h.long h.counted (λ a. fallen joining closing d d t.left refl (stop-sum d (length d.sides)) (was.left tt)) (λ a. was.missing tt)
   by_call (confirm s) g =
       let longer = length-modify (natural s) has_confirmed d.sides in
-      tallied_less t m (confirm_to d (natural s)) h.counted
+      tallied_less t m (confirm_to d (natural s)) h.long h.counted
       (λ a. fallen m m d (confirm_to d (natural s)) t.left longer (confirm-sum d m (natural s) g.1.0 g.1.1.0) (h.left a))
       (λ a. h.missing a ∙ sym (missing-same d (confirm_to d (natural s)) longer (arrived-confirmed d (natural s))))
-  by_call install g = tallied_less t whole _ h.counted (λ a. absurd a) (λ a. absurd a)
+  by_call install g = tallied_less t whole _ h.long h.counted (λ a. absurd a) (λ a. absurd a)
   by_call (show s room) g = h
   by_call (fate_of_edit n) g = h
   by_call left g = h
 
-pub tallied-after : (t : Tallies) (p : Plan) → length t.unsent ≡ 8 → length p.content.kept ≤ 256 → length p.content.sides ≤ 8 → Tallied t p → (c : Call) → Pass (checks c p)
+pub tallied-after : (t : Tallies) (p : Plan) → length p.content.kept ≤ 256 → length p.content.sides ≤ 8 → Tallied t p → (c : Call) → Pass (checks c p)
     → Tallied (tally_after c p t) (after c p.mode p.content)
-tallied-after t p long room few h c g = by_call t p.mode p.content long room few h c g
+tallied-after t p room few h c g = by_call t p.mode p.content room few h c g

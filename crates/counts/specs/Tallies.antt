@@ -1,5 +1,5 @@
 -- Scaffolding: counts of the kept edits, the number left and the first logs that are missing, and how the calls move them. Assumes nothing.
-use Rattle.std.specs.Prelude.{ℕ, suc, ◌+◌, ◌*◌, ◌-◌, ◌<◌, ◌≤◌, min, ◌≡◌, Bool, not, cond, ◌&&◌, List, T, get_or, set, replicate}
+use Rattle.std.specs.Prelude.{ℕ, suc, ◌+◌, ◌*◌, ◌-◌, ◌<◌, ◌≤◌, min, ◌≡◌, Bool, not, cond, ◌&&◌, List, T, length, get_or, set, replicate}
 use Rattle.protocol.specs.Lists.{bit, is_none, count, natural}
 use Rattle.protocol.specs.Plan.{Kept, is_waiting, is_settled, Plan, whole, is, active, side_at, unsent_of, sides_that, side_limit, kept_limit}
 use Rattle.protocol.specs.Calls.{left_of}
@@ -23,6 +23,7 @@ pub record Counted (t : Tallies) (ks : List Kept) : Type 0 where
 
 -- and of a plan
 pub record Tallied (t : Tallies) (p : Plan) : Type 0 where
+  pub long : length t.unsent ≡ side_limit
   pub counted : Counted t p.content.kept
   pub left : T (active p.mode) → t.left ≡ left_of p.mode p.content
   pub missing : T (active p.mode) → t.missing ≡ sides_that (λ s. not (side_at p.content s).arrived) p.content

@@ -2,7 +2,7 @@
 // how many are settled; the number left and how many first logs are missing, which are the plan's while it is joining or closing.
 #![tactic(auto)]
 
-ghost use Rattle.std.specs.Prelude.{◌-◌, ◌≤◌, length, ◌≡◌};
+ghost use Rattle.std.specs.Prelude.{◌-◌, ◌≤◌, ◌≡◌};
 ghost use Rattle.counts.specs.Tallies.{raise, no_tallies, one_unsent, all_sent, one_settled, begun, one_less, noted};
 ghost use Rattle.heads.specs.Heads.{kept_in, sides_in};
 
@@ -93,8 +93,7 @@ impl Tallies {
 
     // A call is accepted: from the head before it, and whether the first log of the side that it names was there.
     pub fn note(&mut self, call: Call, h: &Head, arrived: bool)
-        ensures noted { self.new ≡ noted call h.now arrived self.old }
-        ensures sides { length self.old.unsent ≡ 8 }
+        ensures { self.new ≡ noted call h.now arrived self.old }
     {
         match call {
             Call::Split(_) => {

@@ -147,6 +147,7 @@ tallies_right p t u w s e m =
     let rest : min (kept_in p.head - t.settled) 256 ≡ count is_open ks = omega arith in
     let sides : (x : ℕ) → 0 < x → x ≤ 8 → get_or t.unsent (index_of x) 0 ≡ unsent_of x ks = λ x a b. ap (λ xs. get_or xs (index_of x) 0) u ∙ counts_side p.head p.edits x a b in
     record {
+      long = ap length u ∙ counts_length p.head p.edits 8;
       counted = record { unsent = sides; waiting = w; settled = s };
       left = λ a. e ∙ ap (left_number p.head p.arrived p.confirmed t.unsent) rest ∙ left_by p t.unsent sides ∙ rw (yes_is (active (mode_of p.head.mode)) a);
       missing = λ a. m ∙ sym (flags_unset p (λ x. x.arrived) p.arrived (λ s. refl));

@@ -1,9 +1,9 @@
 // The calls that only read (01, "The calls"): show, fate, left; and the counts of the kept edits.
 #![tactic(auto)]
 
-ghost use Rattle.std.specs.Prelude.{cond, ◌≤◌, min, ◌+◌, length, drop, ◌++◌, ◌≡◌, IfOk, IsOk};
+ghost use Rattle.std.specs.Prelude.{cond, ◌≤◌, min, ◌+◌, ◌-◌, length, drop, ◌++◌, ◌≡◌, IfOk, IsOk};
 ghost use Rattle.counts.specs.Tallies.{Tallied};
-ghost use Rattle.heads.specs.Heads.{mode_of};
+ghost use Rattle.heads.specs.Heads.{mode_of, sides_in, kept_in, unset_in};
 ghost use Rattle.protocol.specs.Asked.{verdict_of};
 ghost use Rattle.protocol.specs.Calls.{first, shown, step, fate_of_edit, fate_in, left, ok};
 ghost use Rattle.protocol.specs.Lists.{natural};
@@ -11,7 +11,7 @@ ghost use Rattle.protocol.specs.Plan.{active, measure_limit};
 ghost use Rattle.query.specs.Reads.{fate_answer, show_checks, pending_in, unsent_counts, left_number};
 ghost use Rattle.records.specs.Records.{kept_of};
 ghost use Rattle.rows.specs.Rows.{row};
-ghost use Rattle.state.specs.Meets.{answer_of};
+ghost use Rattle.state.specs.Meets.{answer_of, number};
 ghost use Rattle.state.specs.View.{view};
 
 use counts::Tallies;
@@ -85,7 +85,8 @@ fn steps_left(mode: Mode, left: u32) -> u32
 
 // From the number left that is kept beside the state.
 pub fn left(p: &State, counts: &Tallies) -> Answer
-    ensures { (Tallied counts.now (view p.now) → answer_of result ≡ (step left (view p.now)).answer) × IsOk result }
+    ensures exact { result ≡ number (cond (active (mode_of p.now.head.mode)) counts.now.left 0) }
+    ensures step { Tallied counts.now (view p.now) → answer_of result ≡ (step left (view p.now)).answer }
 {
     Ok(Given::One(steps_left(p.head.mode, counts.left)))
 }
@@ -103,7 +104,9 @@ fn unsent_counts(edits: &[EditRecord; limit::EDITS], h: &Head) -> [u32; limit::S
 
 // The counts of kept edits, from the records, the number left and how many first logs are missing.
 pub fn tallies(p: &State) -> Tallies
-    ensures { Tallied result (view p.now) }
+    ensures tallied { Tallied result (view p.now) }
+    ensures left { result.left ≡ left_number p.now.head p.now.arrived p.now.confirmed result.unsent (min (kept_in p.now.head - result.settled) 256) }
+    ensures missing { result.missing ≡ unset_in p.now.arrived (sides_in p.now.head) }
 {
     let unsent = unsent_counts(&p.edits, &p.head);
     let waiting = records::count(&p.edits, &p.head, Test::Waiting);

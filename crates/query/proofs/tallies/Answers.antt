@@ -5,9 +5,12 @@ use Rattle.query.specs.Reads.{left_number}
 use Rattle.query.proofs.Readings.{tallies_right}
 use Rattle.query.proofs.tallies.Goals as goal
 
-pub returns : goal.returns
-returns c =
+pub returns-clause-left : goal.returns-clause-left
+returns-clause-left c =
     let p = c.args.p.now in
-    tallies_right (spread p) _ c.unsent_counts-unsent.ensures c.count-waiting.ensures.0 c.count-settled.ensures.0
-    (c.left_number.ensures ∙ ap (λ k. left_number p.head p.arrived p.confirmed c.unsent_counts-unsent.result (min k 256)) c.unsettled-unsettled.ensures.0)
-    c.unset.ensures.0
+    c.left_number.ensures ∙ ap (λ k. left_number p.head p.arrived p.confirmed c.unsent_counts-unsent.result (min k 256)) c.unsettled-unsettled.ensures.0
+
+pub returns-clause-tallied : goal.returns-clause-tallied
+returns-clause-tallied c =
+    let p = c.args.p.now in
+    tallies_right (spread p) _ c.unsent_counts-unsent.ensures c.count-waiting.ensures.0 c.count-settled.ensures.0 (returns-clause-left c) c.unset.ensures.0
