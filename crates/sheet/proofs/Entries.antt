@@ -147,6 +147,20 @@ module _ (q : Plan) (buffer after : List ℕ) (f : after ≡ save_into q buffer)
       let e : ◌≡◌ {A = model.Answer} (ok (numbers_of g)) (ok (pos (length (saved q)) ∷ [])) = x ∙ save-given q (length buffer) (numbers_of g) (sym x) in
       subst (λ z. ◌≡◌ {A = Outcome} (Ok (handed_back (size_of g) after)) (saved_as z q buffer)) x (ap₂ (λ m b. Ok (handed_back m b)) (one_given g (length (saved q)) e) f)
 
+-- ---- what is wanted
+
+answers_on : (w : Wanted) → saves w ≡ false → (sheet buffer : List ℕ) (p : Plan) {s : Screened} → s ≡ screen p sheet buffer → ◌≡◌ {A = Outcome} (Ok s) (served_on w sheet buffer p)
+answers_on Answers e sheet buffer p j = ap Ok j
+answers_on Saved e sheet buffer p j = cc
+
+saves_on : (w : Wanted) → saves w ≡ true → (sheet buffer : List ℕ) (p : Plan) {s : Outcome} → s ≡ served_on Saved sheet buffer p → s ≡ served_on w sheet buffer p
+saves_on Answers e sheet buffer p j = cc
+saves_on Saved e sheet buffer p j = j
+
+pub long_answers : (w : Wanted) → saves w ≡ false → (buffer : List ℕ) {s : Screened} → s ≡ screened (fitted (length buffer) (text (no 52) ∷ [])) buffer → ◌≡◌ {A = Outcome} (Ok s) (long_as w buffer)
+long_answers Answers e buffer j = ap Ok j
+long_answers Saved e buffer j = cc
+
 -- ---- the run of an entry, in front of the buffer
 
 pub room_most : (saves : Bool) (n len : ℕ) → n ≡ cond saves 0 len → n ≤ len
@@ -157,12 +171,12 @@ room_most false n len e = omega (arith, e)
 pub back_length : (front : List ℕ) (room : ℕ) (area : List ℕ) → room ≤ length area → length front ≡ length (take room area) → length (front ++ drop room area) ≡ length area
 back_length front room area h e = let a = length-append front (drop room area) in let t = length-take room area in let d = length-drop room area in omega (arith, a, t, d, e)
 
-module _ (saves : Bool) (sheet area : List ℕ) (p : Plan) (room : ℕ) (room-is : room ≡ cond saves 0 (length area)) (q : Plan) (next written : ℕ) (ended : Bool) (front : List ℕ)
-    (h : Advanced saves 0 sheet 0 p (take room area) q next written ended front) where
+module _ (w : Wanted) (sheet area : List ℕ) {p : Plan} {on : Bool} (on-is : on ≡ saves w) {room : ℕ} (room-is : room ≡ cond (saves w) 0 (length area)) {q : Plan} {next written : ℕ} {ended : Bool}
+    {front : List ℕ} (h : Advanced on 0 sheet 0 p (take room area) q next written ended front) where
   -- one that answers has the whole of it
-  module _ (e : saves ≡ false) where
+  module _ (e : on ≡ false) where
     all_room : room ≡ length area
-    all_room = room-is ∙ ap (λ b. cond b 0 (length area)) e
+    all_room = room-is ∙ ap (λ b. cond b 0 (length area)) (sym on-is ∙ e)
 
     lent_all : take room area ≡ area
     lent_all = ap (λ n. take n area) all_room ∙ take_all (length area) area (omega arith)
@@ -176,17 +190,17 @@ module _ (saves : Bool) (sheet area : List ℕ) (p : Plan) (room : ℕ) (room-is
     pub run_small : Narrow p.content → length sheet ≤ 65536 → (n : ℕ) → n ≡ 2 * written + bit ended → n < 4294967296
     run_small g l n k = number_small (length area) p sheet g l written (written_is p sheet area front q next written ended answered) ended n k
 
-    pub run-served : length sheet ≤ 65536 → (n : ℕ) → n ≡ 2 * written + bit ended → handed_back n (front ++ drop room area) ≡ screen p sheet area
+    pub run-served : length sheet ≤ 65536 → (n : ℕ) → n ≡ 2 * written + bit ended → ◌≡◌ {A = Outcome} (Ok (handed_back n (front ++ drop room area))) (served_on w sheet area p)
     run-served l n k =
         let s = screened-is p sheet area front q next written ended answered n k (le-ltb 65536 (length sheet) l) in
         let none : drop room area ≡ [] = drop_of_length-le area {i = room} (omega (arith, all_room)) in
         let b : front ++ drop room area ≡ front = ap (λ xs. front ++ xs) none ∙ append-nil front in
-        ap (handed_back n) b ∙ s
+        answers_on w (sym on-is ∙ e) sheet area p (ap (handed_back n) b ∙ s)
 
   -- one that saves has none
-  module _ (e : saves ≡ true) where
+  module _ (e : on ≡ true) where
     no_room : room ≡ 0
-    no_room = room-is ∙ ap (λ b. cond b 0 (length area)) e
+    no_room = room-is ∙ ap (λ b. cond b 0 (length area)) (sym on-is ∙ e)
 
     played_on : Advanced true 0 sheet 0 p [] q next written ended front
     played_on = subst (λ n. Advanced true 0 sheet 0 p (take n area) q next written ended front) no_room
@@ -200,22 +214,8 @@ module _ (saves : Bool) (sheet area : List ℕ) (p : Plan) (room : ℕ) (room-is
         let none : front ≡ [] = played_on.buffer ∙ ap (λ (r : Ran). in_front r.bytes []) (played p (lines sheet)) in
         ap₂ (λ xs n. xs ++ drop n area) none no_room
 
-    pub save-served : length sheet ≤ 65536 → (s : Outcome) → s ≡ plan_saved q (front ++ drop room area) → s ≡ served_on Saved sheet area p
-    save-served l s k = let short = le-ltb 65536 (length sheet) l in rw short (k ∙ ap₂ plan_saved plan-is untouched)
-
--- ---- what is wanted
-
-pub answers_on : (w : Wanted) → saves w ≡ false → (sheet buffer : List ℕ) (p : Plan) {s : Screened} → s ≡ screen p sheet buffer → ◌≡◌ {A = Outcome} (Ok s) (served_on w sheet buffer p)
-answers_on Answers e sheet buffer p j = ap Ok j
-answers_on Saved e sheet buffer p j = cc
-
-pub saves_on : (w : Wanted) → saves w ≡ true → (sheet buffer : List ℕ) (p : Plan) {s : Outcome} → s ≡ served_on Saved sheet buffer p → s ≡ served_on w sheet buffer p
-saves_on Answers e sheet buffer p j = cc
-saves_on Saved e sheet buffer p j = j
-
-pub long_answers : (w : Wanted) → saves w ≡ false → (buffer : List ℕ) {s : Screened} → s ≡ screened (fitted (length buffer) (text (no 52) ∷ [])) buffer → ◌≡◌ {A = Outcome} (Ok s) (long_as w buffer)
-long_answers Answers e buffer j = ap Ok j
-long_answers Saved e buffer j = cc
+    pub save-served : length sheet ≤ 65536 → {s : Outcome} → s ≡ plan_saved q (front ++ drop room area) → s ≡ served_on w sheet area p
+    save-served l k = let short = le-ltb 65536 (length sheet) l in saves_on w (sym on-is ∙ e) sheet area p (rw short (k ∙ ap₂ plan_saved plan-is untouched))
 
 -- a sheet that is too long
 pub long-served : (w : Wanted) (sheet area : List ℕ) (p : Plan) → 65536 < length sheet → long_as w area ≡ served_on w sheet area p

@@ -123,12 +123,7 @@ fn save_plan(p: &State, area: &mut [u8]) -> Result<u64, Refusal>
 // All entries: on a blank plan or that of a file, a sheet is run and answered, or its answers are dropped and the plan that it leaves is saved. One function for
 // all owns the plan, and lends it to the loading, the run and the saving: they are compiled into it, and nothing is copied on the way. Of a blank plan and of a
 // loaded one it is known that every rule holds.
-fn serve(
-    file: Option<&[u8]>,
-    wanted: Wanted,
-    sheet: &[u8],
-    area: &mut [u8],
-) -> Result<u64, Refusal>
+fn serve(file: Option<&[u8]>, wanted: Wanted, sheet: &[u8], area: &mut [u8]) -> Result<u64, Refusal>
     ensures outcome { outcome_of result area.new ≡ served (option_copied file.entry) wanted sheet.now area.old }
     ensures small { IfOk result (λ n. n < 4294967296) }
 {
