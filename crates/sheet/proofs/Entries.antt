@@ -15,7 +15,7 @@ use Rattle.protocol.specs.Calls as model
 use Rattle.protocol.specs.Calls.{Call, Verdict, fine, refused, first, no, ok, Stepped, following, start}
 use Rattle.protocol.proofs.Laws.{cases, range, bit_most}
 use Rattle.format.specs.Lines.{line_feed, lines, grow}
-use Rattle.format.specs.Sheets.{text, line_step, answer_lines, leaves, fitted, in_front, replies, too_long, screen}
+use Rattle.format.specs.Sheets.{text, line_step, answer_lines, leaves, fitted, in_front, replies, too_long, Screened, screened, screen}
 use Rattle.format.specs.Longest.{longest_answer}
 use Rattle.format.proofs.Longest.{Narrow, short, narrow_step, narrow_line, longest}
 use Rattle.file.specs.Saved.{saved, save, save_into, save_by, save_checks, filled_by}
@@ -26,9 +26,15 @@ use Rattle.guarantee.proofs.Holding.{holding_step, holding_start}
 use Rattle.protocol.specs.declared.refusal.Refusal.{Refusal}
 use Rattle.run.specs.Progress.{Ran, ran, Advanced}
 use Rattle.std.specs.Prelude.{Option, Some, None, Result, Ok, Err}
-use Rattle.std.specs.Result.{result_unwrap_or}
+use Rattle.state.specs.declared.State.{State}
+use Rattle.state.specs.declared.Given.{Given}
+use Rattle.state.specs.declared.Given.TheVariants.{Nothing, One, Two, Three}
+use Rattle.state.specs.Spread.{spread}
+use Rattle.state.specs.View.{view, blank_state}
+use Rattle.state.specs.Meets.{answer_of, numbers_of}
+use Rattle.calls.specs.Makes.{SoundIn}
 use Rattle.sheet.specs.Runs.{handed_back}
-use Rattle.sheet.specs.Served.{begun_as, Outcome, outcome_of, entry_number, entry_of, saved_as, plan_saved, long_as, served_on, served_in, served}
+use Rattle.sheet.specs.Served.{Begun, begun_as, saves, size_of, Outcome, outcome_of, entry_number, entry_of, saved_as, plan_saved, long_as, served_on, served_in, served}
 use Rattle.sheet.specs.declared.Wanted.{Wanted}
 use Rattle.sheet.specs.declared.Wanted.TheVariants.{Answers, Saved}
 use Rattle.sheet.proofs.Runs.{written_is, written_most, screened-is}
@@ -124,17 +130,36 @@ refused-buffer : (q : Plan) (buffer : List ℕ) (k : ℕ) → (save (length buff
 unfolding save_into
 refused-buffer q buffer k e = ap (λ x. filled_by x (saved q) buffer) e
 
+one_given : (g : Given) (n : ℕ) → ◌≡◌ {A = model.Answer} (ok (numbers_of g)) (ok (pos n ∷ [])) → size_of g ≡ n
+one_given Nothing n e = cc
+one_given (One a) n e = cc
+one_given (Two a b) n e = cc
+one_given (Three a b c) n e = cc
+
 module _ (q : Plan) (buffer after : List ℕ) (f : after ≡ save_into q buffer) where
   -- a refusal leaves the buffer
   pub saved_refused : (k : ℕ) → no k ≡ (save (length buffer) q).answer → ◌≡◌ {A = Outcome} (Err (refused_with k after)) (plan_saved q buffer)
   saved_refused k x = subst (λ z. ◌≡◌ {A = Outcome} (Err (refused_with k after)) (saved_as z q buffer)) x (ap (λ b. Err (refused_with k b)) (f ∙ refused-buffer q buffer k (sym x)))
 
   -- an acceptance gives the length, and nothing else
-  pub saved_number : (n : ℕ) → ok (pos n ∷ []) ≡ (save (length buffer) q).answer → ◌≡◌ {A = Outcome} (Ok (handed_back n after)) (plan_saved q buffer)
-  saved_number n x =
-      let e : ◌≡◌ {A = model.Answer} (ok (pos n ∷ [])) (ok (pos (length (saved q)) ∷ [])) = x ∙ save-given q (length buffer) (pos n ∷ []) (sym x) in
-      let len : n ≡ length (saved q) = cc in
-      subst (λ z. ◌≡◌ {A = Outcome} (Ok (handed_back n after)) (saved_as z q buffer)) x (ap₂ (λ m b. Ok (handed_back m b)) len f)
+  pub saved_given : (g : Given) → answer_of (Ok g) ≡ (save (length buffer) q).answer → ◌≡◌ {A = Outcome} (Ok (handed_back (size_of g) after)) (plan_saved q buffer)
+  saved_given g x =
+      let e : ◌≡◌ {A = model.Answer} (ok (numbers_of g)) (ok (pos (length (saved q)) ∷ [])) = x ∙ save-given q (length buffer) (numbers_of g) (sym x) in
+      subst (λ z. ◌≡◌ {A = Outcome} (Ok (handed_back (size_of g) after)) (saved_as z q buffer)) x (ap₂ (λ m b. Ok (handed_back m b)) (one_given g (length (saved q)) e) f)
+
+-- ---- what is wanted
+
+answers_on : (w : Wanted) → saves w ≡ false → (sheet buffer : List ℕ) (p : Plan) {s : Screened} → s ≡ screen p sheet buffer → ◌≡◌ {A = Outcome} (Ok s) (served_on w sheet buffer p)
+answers_on Answers e sheet buffer p j = ap Ok j
+answers_on Saved e sheet buffer p j = cc
+
+saves_on : (w : Wanted) → saves w ≡ true → (sheet buffer : List ℕ) (p : Plan) {s : Outcome} → s ≡ served_on Saved sheet buffer p → s ≡ served_on w sheet buffer p
+saves_on Answers e sheet buffer p j = cc
+saves_on Saved e sheet buffer p j = j
+
+pub long_answers : (w : Wanted) → saves w ≡ false → (buffer : List ℕ) {s : Screened} → s ≡ screened (fitted (length buffer) (text (no 52) ∷ [])) buffer → ◌≡◌ {A = Outcome} (Ok s) (long_as w buffer)
+long_answers Answers e buffer j = ap Ok j
+long_answers Saved e buffer j = cc
 
 -- ---- the run of an entry, in front of the buffer
 
@@ -146,12 +171,12 @@ room_most false n len e = omega (arith, e)
 pub back_length : (front : List ℕ) (room : ℕ) (area : List ℕ) → room ≤ length area → length front ≡ length (take room area) → length (front ++ drop room area) ≡ length area
 back_length front room area h e = let a = length-append front (drop room area) in let t = length-take room area in let d = length-drop room area in omega (arith, a, t, d, e)
 
-module _ (saves : Bool) (sheet area : List ℕ) (p : Plan) (room : ℕ) (room-is : room ≡ cond saves 0 (length area)) (q : Plan) (next written : ℕ) (ended : Bool) (front : List ℕ)
-    (h : Advanced saves 0 sheet 0 p (take room area) q next written ended front) where
+module _ (w : Wanted) (sheet area : List ℕ) {p : Plan} {on : Bool} (on-is : on ≡ saves w) {room : ℕ} (room-is : room ≡ cond (saves w) 0 (length area)) {q : Plan} {next written : ℕ} {ended : Bool}
+    {front : List ℕ} (h : Advanced on 0 sheet 0 p (take room area) q next written ended front) where
   -- one that answers has the whole of it
-  module _ (e : saves ≡ false) where
+  module _ (e : on ≡ false) where
     all_room : room ≡ length area
-    all_room = room-is ∙ ap (λ b. cond b 0 (length area)) e
+    all_room = room-is ∙ ap (λ b. cond b 0 (length area)) (sym on-is ∙ e)
 
     lent_all : take room area ≡ area
     lent_all = ap (λ n. take n area) all_room ∙ take_all (length area) area (omega arith)
@@ -165,17 +190,17 @@ module _ (saves : Bool) (sheet area : List ℕ) (p : Plan) (room : ℕ) (room-is
     pub run_small : Narrow p.content → length sheet ≤ 65536 → (n : ℕ) → n ≡ 2 * written + bit ended → n < 4294967296
     run_small g l n k = number_small (length area) p sheet g l written (written_is p sheet area front q next written ended answered) ended n k
 
-    pub run-served : length sheet ≤ 65536 → (n : ℕ) → n ≡ 2 * written + bit ended → handed_back n (front ++ drop room area) ≡ screen p sheet area
+    pub run-served : length sheet ≤ 65536 → (n : ℕ) → n ≡ 2 * written + bit ended → ◌≡◌ {A = Outcome} (Ok (handed_back n (front ++ drop room area))) (served_on w sheet area p)
     run-served l n k =
         let s = screened-is p sheet area front q next written ended answered n k (le-ltb 65536 (length sheet) l) in
         let none : drop room area ≡ [] = drop_of_length-le area {i = room} (omega (arith, all_room)) in
         let b : front ++ drop room area ≡ front = ap (λ xs. front ++ xs) none ∙ append-nil front in
-        ap (handed_back n) b ∙ s
+        answers_on w (sym on-is ∙ e) sheet area p (ap (handed_back n) b ∙ s)
 
   -- one that saves has none
-  module _ (e : saves ≡ true) where
+  module _ (e : on ≡ true) where
     no_room : room ≡ 0
-    no_room = room-is ∙ ap (λ b. cond b 0 (length area)) e
+    no_room = room-is ∙ ap (λ b. cond b 0 (length area)) (sym on-is ∙ e)
 
     played_on : Advanced true 0 sheet 0 p [] q next written ended front
     played_on = subst (λ n. Advanced true 0 sheet 0 p (take n area) q next written ended front) no_room
@@ -189,31 +214,39 @@ module _ (saves : Bool) (sheet area : List ℕ) (p : Plan) (room : ℕ) (room-is
         let none : front ≡ [] = played_on.buffer ∙ ap (λ (r : Ran). in_front r.bytes []) (played p (lines sheet)) in
         ap₂ (λ xs n. xs ++ drop n area) none no_room
 
-    pub save-served : length sheet ≤ 65536 → (s : Outcome) → s ≡ plan_saved q (front ++ drop room area) → s ≡ served_on Saved sheet area p
-    save-served l s k = let short = le-ltb 65536 (length sheet) l in rw short (k ∙ ap₂ plan_saved plan-is untouched)
+    pub save-served : length sheet ≤ 65536 → {s : Outcome} → s ≡ plan_saved q (front ++ drop room area) → s ≡ served_on w sheet area p
+    save-served l k = let short = le-ltb 65536 (length sheet) l in saves_on w (sym on-is ∙ e) sheet area p (rw short (k ∙ ap₂ plan_saved plan-is untouched))
 
 -- a sheet that is too long
-pub long-served : (wanted : Wanted) (sheet area : List ℕ) (p : Plan) → 65536 < length sheet → long_as wanted area ≡ served_on wanted sheet area p
+pub long-served : (w : Wanted) (sheet area : List ℕ) (p : Plan) → 65536 < length sheet → long_as w area ≡ served_on w sheet area p
 unfolding screen replies
 long-served Answers sheet area p h = let t = lt-ltb 65536 (length sheet) h in rw t
 long-served Saved sheet area p h = let t = lt-ltb 65536 (length sheet) h in rw t
 
 -- ---- on the plan that an entry begins on
 
-module _ (l : Stepped) (buffer : List ℕ) (g : Plan → Outcome) where
-  -- a file that is refused
-  pub turned : (k : ℕ) → l.answer ≡ no k → ◌≡◌ {A = Outcome} (Err (refused_with k buffer)) (served_in l buffer g)
-  turned k e = subst (λ y. ◌≡◌ {A = Outcome} (Err (refused_with k buffer)) (served_in (record { answer = y; plan = l.plan }) buffer g)) (sym e) refl
+pub begun_from : {file : Option (List ℕ)} {p : State} {r : Result (Unit {0}) Refusal} {q : Plan} → Begun file (view p) r q → p ≡ blank_state → Begun file start r q
+begun_from {file = file} {r = r} {q = q} b e = subst (λ s. Begun file (view s) r q) e b
 
-  -- one that loads, or none
-  pub taken : l.answer ≡ ok [] → (q : Plan) → q ≡ l.plan → (s : Outcome) → s ≡ g q → s ≡ served_in l buffer g
-  taken a q e s j = j ∙ ap g e ∙ subst (λ y. g l.plan ≡ served_in (record { answer = y; plan = l.plan }) buffer g) (sym a) refl
+-- a file that loads, or none
+module _ (file : Option (List ℕ)) (u : Unit {0}) (p : State) (b : Begun file start (Ok u) (view p)) where
+  pub begun_holds : SoundIn true (spread p)
+  begun_holds e = subst (λ (q : Plan). Holding q.mode q.content) (sym b.plan) (holding_begun file)
+
+  pub begun_narrow : Narrow (view p).content
+  begun_narrow = subst (λ (q : Plan). Narrow q.content) (sym b.plan) (narrow_begun file)
+
+  pub served_from : (w : Wanted) (sheet buffer : List ℕ) {s : Outcome} → s ≡ served_on w sheet buffer (view p) → s ≡ served file w sheet buffer
+  served_from w sheet buffer j =
+      let l = begun_as file in
+      let g : Plan → Outcome = served_on w sheet buffer in
+      j ∙ ap g b.plan ∙ subst (λ y. g l.plan ≡ served_in (record { answer = y; plan = l.plan }) buffer g) (sym b.answer) refl
 
 -- ---- each entry from all
 
-pub number_of_entry : (v : Result ℕ Refusal) (buffer : List ℕ) → handed_back (entry_number v) buffer ≡ entry_of (outcome_of v buffer)
-number_of_entry (Ok n) buffer = refl
-number_of_entry (Err r) buffer = refl
+pub entry_handed : (v : Result ℕ Refusal) (buffer : List ℕ) {n : ℕ} {s : Outcome} → n ≡ entry_number v → outcome_of v buffer ≡ s → handed_back n buffer ≡ entry_of s
+entry_handed (Ok m) buffer e j = ap (λ k. handed_back k buffer) e ∙ ap entry_of j
+entry_handed (Err r) buffer e j = ap (λ k. handed_back k buffer) e ∙ ap entry_of j
 
 pub run_on_entry : (file sheet buffer : List ℕ) → entry_of (served (Some file) Answers sheet buffer) ≡ load_entry file sheet buffer
 unfolding load_entry
@@ -246,8 +279,3 @@ save_on_of_entry file sheet buffer = by (load file start).answer
         ≡ on_loaded (record { answer = a; plan = (load file start).plan }) buffer (λ p. save_from p sheet buffer)
     by (no k) = refl
     by (ok xs) = saving-entry sheet buffer (load file start).plan
-
--- the entry that is never refused gives the number itself
-pub whole_run : (v : Result ℕ Refusal) (sheet buffer after : List ℕ) → outcome_of v after ≡ served None Answers sheet buffer → handed_back (result_unwrap_or v 0) after ≡ screen start sheet buffer
-whole_run (Ok n) sheet buffer after e = cc
-whole_run (Err r) sheet buffer after e = cc

@@ -7,6 +7,8 @@ use Rattle.protocol.specs.declared.refusal.Refusal.{Refusal}
 use Rattle.format.specs.Sheets.{text, fitted, too_long, Screened, screened, screen}
 use Rattle.file.specs.Saved.{saved, save, save_into}
 use Rattle.file.specs.Loaded.{load}
+use Rattle.state.specs.declared.Given.{Given}
+use Rattle.state.specs.declared.Given.TheVariants.{Nothing, One, Two, Three}
 use Rattle.load.specs.Drawing.{load_answer}
 use Rattle.sheet.specs.Runs.{handed_back}
 use Rattle.sheet.specs.Entries.{refused_with, giving, plan_of}
@@ -49,6 +51,13 @@ entry_number (Err r) = number_of r
 abbrev pub entry_of : Outcome → Screened
 entry_of (Ok s) = giving s
 entry_of (Err s) = s
+
+-- the one number that saving gives
+abbrev pub size_of : Given → ℕ
+size_of Nothing = 0
+size_of (One n) = n
+size_of (Two a b) = 0
+size_of (Three a b c) = 0
 
 -- a plan saved: the value is the count of bytes written
 abbrev pub saved_as : Answer → Plan → List ℕ → Outcome

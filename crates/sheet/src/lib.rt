@@ -9,7 +9,7 @@ ghost use Rattle.state.specs.View.{view};
 ghost use Rattle.writer.specs.Writes.{put_in, put_count};
 ghost use Rattle.sheet.specs.Runs.{handed_back};
 ghost use Rattle.sheet.specs.Entries.{load_entry, save_entry, save_on_entry};
-ghost use Rattle.sheet.specs.Served.{alone, Begun, outcome_of, entry_number, saves, long_as, plan_saved, served};
+ghost use Rattle.sheet.specs.Served.{alone, Begun, outcome_of, entry_number, saves, size_of, long_as, plan_saved, served};
 ghost use Rattle.sheet.specs.Pieces.{Pieced};
 
 use protocol::refusal::Refusal;
@@ -101,26 +101,29 @@ fn refuse_long(wanted: Wanted, area: &mut [u8]) -> Result<u64, Refusal>
     })
 }
 
+// How many bytes were saved, which is the one number that saving gives.
+fn size(given: Given) -> u64
+    ensures { (result ≡ size_of given) × (result < 4294967296) }
+{
+    match given {
+        Given::One(n) => u64::from(n),
+        _ => 0,
+    }
+}
+
 // Saves a plan, and gives how many bytes that takes.
 fn save_plan(p: &State, area: &mut [u8]) -> Result<u64, Refusal>
     ensures outcome { outcome_of result area.new ≡ plan_saved (view p.now) area.old }
     ensures small { IfOk result (λ n. n < 4294967296) }
 {
-    match save::save_in(p, area)? {
-        Given::One(n) => Ok(u64::from(n)),
-        _ => Ok(0),
-    }
+    let given = save::save_in(p, area)?;
+    Ok(size(given))
 }
 
 // All entries: on a blank plan or that of a file, a sheet is run and answered, or its answers are dropped and the plan that it leaves is saved. One function for
 // all owns the plan, and lends it to the loading, the run and the saving: they are compiled into it, and nothing is copied on the way. Of a blank plan and of a
 // loaded one it is known that every rule holds.
-fn serve(
-    file: Option<&[u8]>,
-    wanted: Wanted,
-    sheet: &[u8],
-    area: &mut [u8],
-) -> Result<u64, Refusal>
+fn serve(file: Option<&[u8]>, wanted: Wanted, sheet: &[u8], area: &mut [u8]) -> Result<u64, Refusal>
     ensures outcome { outcome_of result area.new ≡ served (option_copied file.entry) wanted sheet.now area.old }
     ensures small { IfOk result (λ n. n < 4294967296) }
 {
@@ -129,15 +132,16 @@ fn serve(
     if LIMIT < sheet.len() {
         return refuse_long(wanted, area);
     }
+    let saves = wanted.saves();
     let way = Way {
         from: 0,
         reserve: 0,
-        on: wanted.saves(),
+        on: saves,
         sound: true,
     };
     let room = wanted.room(area.len());
     let r = run::advance(&mut p, way, sheet, &mut area[..room]);
-    if wanted.saves() {
+    if saves {
         return save_plan(&p, area);
     }
     Ok(handed(r.written, r.ended))
