@@ -26,6 +26,7 @@ enum Failure {
     // an error on the way, after which nobody knows how the sheet goes on
     Unread(Error),
     Unwritten(Error),
+    // a write that took nothing, and named no error
     Untaken,
 }
 
