@@ -10,12 +10,11 @@ ghost use Rattle.std.specs.Prelude.{OnOk};
 ghost use Rattle.std.specs.Io.{ReadsAtMost};
 ghost use Rattle.std.specs.Io.KnownBytes.{Appends};
 
+use sheet::Piece;
 use std::env::{Env, FillError};
-use std::fmt;
-use std::fmt::Display;
 use std::io::{Error, ErrorKind, Read, Write};
-use std::str;
 use std::time::{Clock, Duration};
+use std::{fmt, str};
 
 // A proved loop has to end, and nothing says that the other end of a pipe ever does something. So the loops below count their turns, up to a
 // number that no run uses up.
@@ -27,11 +26,11 @@ enum Failure {
     // an error on the way, after which nobody knows how the sheet goes on
     Unread(Error),
     Unwritten(Error),
-    // A write that takes nothing and names no error might do so for ever.
+    // a write that took nothing, and named no error
     Untaken,
 }
 
-impl Display for Failure {
+impl fmt::Display for Failure {
     fn fmt<W: fmt::Write>(&self, f: &mut fmt::Formatter<W>) -> fmt::Result {
         let mut space = [0u8; 256];
         match self {
@@ -39,7 +38,11 @@ impl Display for Failure {
                 write!(f, "the sheet cannot be read: {}", reason(error, &mut space))
             }
             Failure::Unwritten(error) => {
-                write!(f, "the answers cannot be written: {}", reason(error, &mut space))
+                write!(
+                    f,
+                    "the answers cannot be written: {}",
+                    reason(error, &mut space)
+                )
             }
             Failure::Untaken => write!(f, "the answers cannot be written: nothing was taken"),
         }
@@ -53,7 +56,8 @@ fn reason<'a>(error: &Error, space: &'a mut [u8; 256]) -> &'a str {
     let left = rest.len();
     let n = space.len().saturating_sub(left);
     let said = str::from_utf8(&space[..n]).unwrap_or("");
-    said.split_once(" (os error ").map_or(said, |(words, _)| words)
+    said.split_once(" (os error ")
+        .map_or(said, |(words, _)| words)
 }
 
 // Lets another read or write follow one that failed where a signal came in between, or where the other end of the pipe is not ready: it is given about a
@@ -70,11 +74,7 @@ fn try_again(rt: &impl Clock, error: Error) -> Result<(), Error> {
 }
 
 // Reads until the input ends or `sheet` is full, and gives how many bytes were read.
-fn read_sheet(
-    rt: &impl Clock,
-    input: &mut impl Read,
-    sheet: &mut [u8],
-) -> Result<usize, Failure>
+fn read_sheet(rt: &impl Clock, input: &mut impl Read, sheet: &mut [u8]) -> Result<usize, Failure>
     ensures { ReadsAtMost result sheet.new }
 {
     let mut done: usize = 0;
@@ -82,8 +82,7 @@ fn read_sheet(
         if sheet.len() <= done {
             return Ok(done);
         }
-        let part = &mut sheet[done..];
-        match input.read(part) {
+        match input.read(&mut sheet[done..]) {
             Ok(0) => return Ok(done),
             Ok(n) => done += n,
             Err(error) => try_again(rt, error).map_err(Failure::Unread)?,
@@ -92,12 +91,8 @@ fn read_sheet(
     Err(Failure::Unread(Error::from(ErrorKind::TimedOut)))
 }
 
-// Writes all of `answers`.
-fn write_answers<W: Write>(
-    rt: &impl Clock,
-    output: &mut W,
-    answers: &[u8],
-) -> Result<(), Failure>
+// Writes all of `answers`. A write that takes nothing and names no error might do so for ever, and so counts as a failure.
+fn write_answers<W: Write>(rt: &impl Clock, output: &mut W, answers: &[u8]) -> Result<(), Failure>
     ensures { OnOk result (Appends (W.contents output.old) (W.contents output.new) answers.now) }
 {
     let mut rest = answers;
@@ -114,8 +109,19 @@ fn write_answers<W: Write>(
     Err(Failure::Unwritten(Error::from(ErrorKind::TimedOut)))
 }
 
+// Writes the answers to a sheet: piece by piece, each from where the one before it ended, until the sheet is over.
 fn answer(rt: &impl Clock, output: &mut impl Write, sheet: &[u8]) -> Result<(), Failure> {
-    write_answers(rt, output, sheet)
+    let mut out = [0u8; 65536];
+    let mut piece = Piece {
+        state: state::blank(),
+        next: 0,
+        written: 0,
+    };
+    while piece.next < sheet.len() {
+        piece = sheet::next_piece(piece.state, sheet, piece.next, &mut out);
+        write_answers(rt, output, &out[..piece.written])?;
+    }
+    Ok(())
 }
 
 // Reads a sheet and writes its answers.

@@ -12,9 +12,8 @@ ghost use Rattle.state.specs.Meets.{Meets};
 ghost use Rattle.calls.specs.Makes.{Known, is_show};
 
 use calls::Beside;
-use protocol::call::{Call, Edit};
-
 pub use load::load;
+use protocol::call::{Call, Edit};
 pub use protocol::refusal::Refusal;
 pub use query::{show, show_in};
 pub use save::save;

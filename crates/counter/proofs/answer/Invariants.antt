@@ -1,5 +1,5 @@
 use Rattle.std.proofs.Common.{◌-◌, length}
 use Rattle.counter.proofs.answer.Given as goal
 
-abbrev pub decreases-loop-from : goal.decreases-loop-from
-decreases-loop-from g l = length l.sheet - l.from
+abbrev pub decreases-loop-piece : goal.decreases-loop-piece
+decreases-loop-piece g l = length l.sheet - l.piece.next

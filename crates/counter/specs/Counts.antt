@@ -1,6 +1,0 @@
--- Scaffolding: how many bytes of a buffer were filled. Assumes nothing.
-use Rattle.std.specs.Prelude.{ℕ, List, ◌≡◌, ◌≤◌, length, take}
-
--- The first n bytes of xs are there, and are n.
-abbrev pub IsPrefixLen : ℕ → List ℕ → Type 0
-IsPrefixLen n xs = (n ≤ length xs) × (n ≡ length (take n xs))
