@@ -9,7 +9,7 @@ use lib.IntN.{ℤ, pos}
 use lib.Dec.{T, T_not, leb, nltb→le, eqb→eq}
 use lib.ListN.{length, get_or, set}
 use borrow.Author.Tests.{leb-false}
-use Rattle.std.specs.Prelude.{Result, Ok, Err}
+use Rattle.std.specs.Prelude.{Option, is_some, Result, Ok, Err}
 use Rattle.protocol.specs.Lists.{is_none, natural, one_to, modify, snoc}
 use Rattle.protocol.specs.Asked.{verdict_of}
 use Rattle.protocol.specs.Plan as model
@@ -24,7 +24,7 @@ use Rattle.rows.specs.Rows.{span, row}
 use Rattle.rows.proofs.Spans.{length-span, row_most}
 use Rattle.rules.specs.declared.Index.{Index}
 use Rattle.rules.specs.Rules.{RuleTest, tested_in, firm_in}
-use Rattle.rules.specs.Index.{FirmTest, tested_by, firm_by}
+use Rattle.rules.specs.Index.{FirmTest, tested_with, firm_with}
 use Rattle.rules.proofs.Rules.{tested_all, tested_none, tested_sound, firm-is, made_with, row-set, row_apart}
 use Rattle.rules.proofs.Namings.{tested_indexed, firm-indexed}
 use Rattle.heads.specs.declared.Head.{Head}
@@ -277,7 +277,7 @@ refusal_is : (r x : Refusal) → ◌≡◌ {A = Answer} (Err r) (Err x) → r �
 refusal_is r x q = cc
 
 -- where all rules held on the side's row, it is enough to test those that name the measure, and an index that is theirs has those
-module _ (sound : Bool) (index : Index) (p : State) (e : Edit) where
+module _ (asked : Option Index) (p : State) (e : Edit) where
   abbrev lists : Spread
   lists = spread p
 
@@ -288,22 +288,22 @@ module _ (sound : Bool) (index : Index) (p : State) (e : Edit) where
       (λ d o. tested_sound lists.lower lists.gap lists.upper lists.firm (min p.head.rules 64) (natural e.measure) _ _ (few lists e) (held refl d o)) (λ d a b. refl) v
   by_held false held v = v
 
-  pub ruled-plain : {r : Result Granted Refusal} → Trusted sound index p e → Ruled (tested_by sound index) (firm_by sound index) lists e r → Ruled (tested_in false) firm_in lists e r
-  ruled-plain t w = by_held sound t.held (ruled_as lists e (tested_by sound index) (tested_in sound) (firm_by sound index) firm_in
-      (λ d o. tested_indexed sound index (natural e.measure) lists.lower lists.gap lists.upper lists.firm _ _ _ (few lists e) (t.indexed d))
-      (λ d a b. firm-indexed sound index lists.lower lists.gap lists.upper lists.firm _ (natural e.measure) a b (t.indexed d)) w)
+  pub ruled-plain : {r : Result Granted Refusal} → Trusted asked p e → Ruled (tested_with asked) (firm_with asked) lists e r → Ruled (tested_in false) firm_in lists e r
+  ruled-plain t w = by_held (is_some asked) t.held (ruled_as lists e (tested_with asked) (tested_in (is_some asked)) (firm_with asked) firm_in
+      (λ d o. tested_indexed asked (natural e.measure) lists.lower lists.gap lists.upper lists.firm _ _ _ (few lists e) (t.indexed d))
+      (λ d a b. firm-indexed asked lists.lower lists.gap lists.upper lists.firm _ (natural e.measure) a b (t.indexed d)) w)
 
-module _ (sound : Bool) (index : Index) (p : State) (e : Edit) (t : Trusted sound index p e) where
+module _ (asked : Option Index) (p : State) (e : Edit) (t : Trusted asked p e) where
   abbrev By : Result Granted Refusal → Type 0
-  By r = Ruled (tested_by sound index) (firm_by sound index) (spread p) e r
+  By r = Ruled (tested_with asked) (firm_with asked) (spread p) e r
 
   pub edit_refuses : (r : Refusal) → By (Err r) → Makes (edit e.side e.client e.after e.measure e.kind e.constant) p (Err r) p
-  edit_refuses r w = refused_makes refl (refuses (spread p) e r (ruled-plain sound index p e t w))
+  edit_refuses r w = refused_makes refl (refuses (spread p) e r (ruled-plain asked p e t w))
 
   pub edit_names : (r : Refusal) → By (Err r) → (k : ℕ) → ◌≡◌ {A = Answer} (Err r) (Err (RuleBroken k))
       → k ≡ broken_rule (plan_of (spread p)).content.rules (made (natural e.measure) (asks e) (side_at (plan_of (spread p)).content (natural e.side)).values)
-  edit_names r w k q = edit-rule (spread p) e (ruled-plain sound index p e t w) k (ap Err (refusal_is r (RuleBroken k) q))
+  edit_names r w k q = edit-rule (spread p) e (ruled-plain asked p e t w) k (ap Err (refusal_is r (RuleBroken k) q))
 
   pub edit_accepts : (g : Granted) → By (Ok g) → length p.values ≡ 256 → (is whole (mode_of p.head.mode) ≡ false → length p.edits ≡ 256)
       → Makes (edit e.side e.client e.after e.measure e.kind e.constant) p (Ok (One p.head.next)) (edited p e g)
-  edit_accepts g w long wide = given_makes (accepts (spread p) e g (ruled-plain sound index p e t w) long wide)
+  edit_accepts g w long wide = given_makes (accepts (spread p) e g (ruled-plain asked p e t w) long wide)

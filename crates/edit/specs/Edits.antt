@@ -1,5 +1,5 @@
 -- Scaffolding: the checks of an edit from its parts, what it decides, and the state after the stores. Assumes nothing.
-use Rattle.std.specs.Prelude.{ℕ, ◌+◌, ◌-◌, ◌%◌, min, Bool, true, not, cond, ◌&&◌, ◌||◌, List, [], ◌∷◌, leb, ℤ, length, set, T, ◌≡◌, Some, Result, Err, IfOk}
+use Rattle.std.specs.Prelude.{ℕ, ◌+◌, ◌-◌, ◌%◌, min, Bool, true, not, cond, ◌&&◌, ◌||◌, List, [], ◌∷◌, leb, ℤ, length, set, T, ◌≡◌, Option, Some, IsSome, Result, Err, IfOk}
 use Rattle.protocol.specs.Lists.{is_none, natural, one_to}
 use Rattle.protocol.specs.Plan as model
 use Rattle.protocol.specs.Plan.{is, blank, whole, split, applied, value, holds, made, side_at, kept_limit, rule_limit, number_limit}
@@ -14,7 +14,7 @@ use Rattle.change.specs.Change.{made_of}
 use Rattle.rows.specs.Rows.{row}
 use Rattle.rules.specs.Rules.{RuleTest}
 use Rattle.rules.specs.declared.Index.{Index}
-use Rattle.rules.specs.Index.{FirmTest, IndexedIf}
+use Rattle.rules.specs.Index.{FirmTest, IndexedIfAsked}
 use Rattle.records.specs.declared.EditRecord.{EditRecord}
 use Rattle.records.specs.declared.Fate.TheVariants.{Unsent}
 use Rattle.heads.specs.declared.Head.{Head}
@@ -75,11 +75,11 @@ pub record Ruled (test : RuleTest) (firmly : FirmTest) (p : Spread) (e : Edit) (
 
 -- ---- what is known of a plan beside it
 
--- Where it is said that all rules hold, the index is theirs, and every rule holds on the row of the side that the edit names.
-pub record Trusted (sound : Bool) (index : Index) (p : State) (e : Edit) : Type 0 where
+-- If an index is asked, it is that of the rules, and every rule holds on the row of the side that the edit names.
+pub record Trusted (asked : Option Index) (p : State) (e : Edit) : Type 0 where
   pub indexed : T (not (is blank (mode_of p.head.mode)))
-      → IndexedIf sound index (spread p).lower (spread p).gap (spread p).upper (spread p).firm (min p.head.rules rule_limit)
-  pub held : sound ≡ true → T (not (is blank (mode_of p.head.mode))) → T (one_to (sides_in p.head) (natural e.side)) → holds (rules_of (spread p)) (row_of (spread p) e) ≡ true
+      → IndexedIfAsked asked (spread p).lower (spread p).gap (spread p).upper (spread p).firm (min p.head.rules rule_limit)
+  pub held : IsSome asked → T (not (is blank (mode_of p.head.mode))) → T (one_to (sides_in p.head) (natural e.side)) → holds (rules_of (spread p)) (row_of (spread p) e) ≡ true
 
 -- ---- what is stored
 

@@ -1,14 +1,14 @@
 // What an edit decides (01, "The calls"), and what it stores where it is granted.
 #![tactic(auto)]
 
-ghost use Rattle.std.specs.Prelude.{min, ◌<◌, ◌||◌, ◌≡◌, false, set, length};
+ghost use Rattle.std.specs.Prelude.{min, ◌<◌, ◌||◌, ◌≡◌, false, set, length, option_copied};
 ghost use Rattle.edit.specs.Edits.{place_checks, room_checks, Ruled, Trusted, BrokenNamed, StaysIfRefused, edited, spot_of};
 ghost use Rattle.heads.specs.Heads.{mode_of};
 ghost use Rattle.protocol.specs.Asked.{verdict_of};
 ghost use Rattle.protocol.specs.Calls.{apart, no22, no25, first, edit};
 ghost use Rattle.protocol.specs.Plan.{is, whole};
 ghost use Rattle.records.specs.Records.{kept_at, looked};
-ghost use Rattle.rules.specs.Index.{tested_by, firm_by};
+ghost use Rattle.rules.specs.Index.{tested_with, firm_with};
 ghost use Rattle.rules.specs.Table.{lowers, uppers, firms};
 ghost use Rattle.state.specs.Meets.{Makes, SameRules};
 ghost use Rattle.state.specs.Spread.{spread};
@@ -78,15 +78,14 @@ fn place_check(h: &Head, side: u32, client: i32, measure: u32) -> Result<(), Ref
 fn room_check(
     h: &Head,
     table: &Table,
-    index: &Index,
+    index: Option<&Index>,
     measure: u32,
-    sound: bool,
 ) -> Result<(), Refusal>
-    ensures { verdict_of result ≡ first (room_checks h.now (firm_by sound index.now (lowers table.now) (uppers table.now)
+    ensures { verdict_of result ≡ first (room_checks h.now (firm_with (option_copied index.entry) (lowers table.now) (uppers table.now)
         (firms table.now) (min h.now.rules 64) measure)) }
 {
     let apart = is_apart(h.mode);
-    if apart && rules::firm_in(table, h.rules, index, measure, sound) {
+    if apart && rules::firm_in(table, h.rules, index, measure) {
         return Err(Refusal::Frozen);
     }
     if apart && limit::KEPT <= h.kept {
@@ -105,9 +104,9 @@ fn spot(side: u32, measure: u32) -> usize
     heads::offset(side) + rows::capped(measure.saturating_sub(1), limit::LAST_MEASURE)
 }
 
-// The checks of an edit, in 01's order. A caller that knows that all rules hold on the side's row says so (`sound`), and lends their index.
-pub fn decide(p: &State, e: Edit, index: &Index, sound: bool) -> Result<Granted, Refusal>
-    ensures { Ruled (tested_by sound index.now) (firm_by sound index.now) (spread p.now) e result }
+// The checks of an edit, in 01's order. A caller that knows that all rules hold on the side's row lends their index.
+pub fn decide(p: &State, e: Edit, index: Option<&Index>) -> Result<Granted, Refusal>
+    ensures { Ruled (tested_with (option_copied index.entry)) (firm_with (option_copied index.entry)) (spread p.now) e result }
 {
     let side = exact::number(e.side);
     let measure = exact::number(e.measure);
@@ -120,7 +119,7 @@ pub fn decide(p: &State, e: Edit, index: &Index, sound: bool) -> Result<Granted,
     ) {
         return Err(Refusal::NoSuchEarlier);
     }
-    room_check(&p.head, &p.table, index, measure, sound)?;
+    room_check(&p.head, &p.table, index, measure)?;
     let old = p.values[spot(side, measure)];
     let value = change.apply(old).ok_or(Refusal::ResultOutOfRange)?;
     if let Some(rule) = rules::broken(
@@ -132,7 +131,6 @@ pub fn decide(p: &State, e: Edit, index: &Index, sound: bool) -> Result<Granted,
         p.head.measures,
         measure,
         value,
-        sound,
     ) {
         return Err(Refusal::RuleBroken(rule));
     }
@@ -172,14 +170,14 @@ fn store(p: &mut State, e: Edit, granted: Granted)
     }
 }
 
-// The call. The index counts only where all rules are known to hold (`sound`).
-pub fn edit(p: &mut State, e: Edit, index: &Index, sound: bool) -> Answer
-    ensures step { Trusted sound index.now p.old e → Makes (edit e.side e.client e.after e.measure e.kind e.constant) p.old result p.new }
-    ensures rule { Trusted sound index.now p.old e → BrokenNamed p.old e result }
+// The call. An index is lent only where all rules are known to hold.
+pub fn edit(p: &mut State, e: Edit, index: Option<&Index>) -> Answer
+    ensures step { Trusted (option_copied index.entry) p.old e → Makes (edit e.side e.client e.after e.measure e.kind e.constant) p.old result p.new }
+    ensures rule { Trusted (option_copied index.entry) p.old e → BrokenNamed p.old e result }
     ensures same { StaysIfRefused p.old result p.new }
     ensures rules { SameRules p.old p.new }
 {
-    let granted = decide(p, e, index, sound)?;
+    let granted = decide(p, e, index)?;
     let number = p.head.next;
     store(p, e, granted);
     Ok(Given::One(number))

@@ -9,7 +9,7 @@ use lib.Dec.{T, eqb-suc-zero}
 use lib.IntN.{ℤ, pos}
 use lib.ListN.{length, get_or, set}
 use lib.Seq.{set-get_or}
-use Rattle.std.specs.Prelude.{Option, None, Some, Result, Ok, Err}
+use Rattle.std.specs.Prelude.{Option, None, Some, is_some, Result, Ok, Err}
 use Rattle.protocol.specs.Asked.{number_of}
 use Rattle.protocol.specs.Lists.{is_none, natural, one_to, count, modify}
 use Rattle.protocol.specs.Plan as model
@@ -22,7 +22,7 @@ use Rattle.rows.specs.Rows.{row}
 use Rattle.rows.proofs.Spans.{length-span, row_most}
 use Rattle.rules.specs.Rules.{RuleTest, tested_in, numbered}
 use Rattle.rules.specs.declared.Index.{Index}
-use Rattle.rules.specs.Index.{tested_by}
+use Rattle.rules.specs.Index.{tested_with}
 use Rattle.rules.proofs.Rules.{made_with, modify_out, tested_all, tested_none, tested_sound, row-set}
 use Rattle.rules.proofs.Namings.{tested_indexed}
 use Rattle.records.specs.declared.EditRecord.{EditRecord}
@@ -78,21 +78,21 @@ pub replay_sound : (p : Spread) (n : ℤ) {missing : ℕ} (r : Result Outcome Re
 replay_sound p n r h = decided_same (tested_in true) (tested_in false) p n r (λ t. outcome_sound p (named_in p (natural n)) (h t))
 
 -- what the code finds, with the rules' own index, is what the test of all rules finds
-outcome_decided : (p : State) (e : EditRecord) {missing settled : ℕ} {index : Index} {sound : Bool} → Trusted p missing settled index sound → T (active (mode_of p.head.mode))
-    → outcome_of (tested_by sound index) (spread p) e ≡ outcome_of (tested_in false) (spread p) e
-outcome_decided p e {index = index} {sound = sound} known t =
+outcome_decided : (p : State) (e : EditRecord) {missing settled : ℕ} {asked : Option Index} → Trusted p missing settled asked → T (active (mode_of p.head.mode))
+    → outcome_of (tested_with asked) (spread p) e ≡ outcome_of (tested_in false) (spread p) e
+outcome_decided p e {asked = asked} known t =
     let q = spread p in
-    outcome_same (tested_by sound index) (tested_in sound) q e (tested_indexed sound index _ q.lower q.gap q.upper q.firm _ _ _ (draft-length q) (known.indexed t)) ∙ held sound known.held
+    outcome_same (tested_with asked) (tested_in (is_some asked)) q e (tested_indexed asked _ q.lower q.gap q.upper q.firm _ _ _ (draft-length q) (known.indexed t)) ∙ held (is_some asked) known.held
   where
     held : (sound : Bool) → (sound ≡ true → T (active (mode_of p.head.mode)) → holds (rules_of (spread p)) (draft_in p.head p.draft) ≡ true)
         → outcome_of (tested_in sound) (spread p) e ≡ outcome_of (tested_in false) (spread p) e
     held true h = outcome_sound (spread p) e (h refl t)
     held false h = refl
 
-pub replay_decided : (p : State) (n : ℤ) {missing settled : ℕ} {index : Index} {sound : Bool} (r : Result Outcome Refusal) → Trusted p missing settled index sound
-    → Decided (tested_by sound index) (spread p) n missing r → Decided (tested_in false) (spread p) n missing r
-replay_decided p n {index = index} {sound = sound} r known =
-    decided_same (tested_by sound index) (tested_in false) (spread p) n r (outcome_decided p (named_in (spread p) (natural n)) known)
+pub replay_decided : (p : State) (n : ℤ) {missing settled : ℕ} {asked : Option Index} (r : Result Outcome Refusal) → Trusted p missing settled asked
+    → Decided (tested_with asked) (spread p) n missing r → Decided (tested_in false) (spread p) n missing r
+replay_decided p n {asked = asked} r known =
+    decided_same (tested_with asked) (tested_in false) (spread p) n r (outcome_decided p (named_in (spread p) (natural n)) known)
 
 module _ (q : Spread) (n : ℤ) where
   abbrev h : Head
@@ -235,13 +235,13 @@ module _ (p : State) (n : ℤ) where
   abbrev before : Spread
   before = spread p
 
-  pub replay_refused : {missing settled : ℕ} {index : Index} {sound : Bool} {r : Refusal} {a : Answer} → Trusted p missing settled index sound → a ≡ Err r
+  pub replay_refused : {missing settled : ℕ} {asked : Option Index} {r : Refusal} {a : Answer} → Trusted p missing settled asked → a ≡ Err r
       → refused (number_of r) ≡ first (checks_in before missing n) → Makes (replay n) p a p
   replay_refused {missing = missing} {r = r} known a-is f =
       refused_makes a-is (refuses {c = replay n} {p = before} (checks_in before missing n) r (checks_known before n known.missing) (sym f))
 
   -- the state after it, where the checks pass
-  next_meets : {missing settled : ℕ} {index : Index} {sound : Bool} (i : ℕ) → length p.draft ≡ 32 → length p.edits ≡ 256 → Trusted p missing settled index sound
+  next_meets : {missing settled : ℕ} {asked : Option Index} (i : ℕ) → length p.draft ≡ 32 → length p.edits ≡ 256 → Trusted p missing settled asked
       → first (checks_in before missing n) ≡ fine → seat (named_at p.head n) ≡ Some i → i < 256
       → MeetsSpread (replay n) before (record { state = spread (settled_in p i (found before n) settled); answer = number (fate_number (fate_of (outcome_fate (found before n)))) })
   unfolding gives after
@@ -260,8 +260,8 @@ module _ (p : State) (n : ℤ) where
       ∙ (λ j. update (natural n) (settled (sym (effect before n) j) (next_place (kept before n))) (kept before n))))
       tt
 
-  pub replay_meets : {missing settled : ℕ} {index : Index} {sound : Bool} (i : ℕ) {o : Outcome} → length p.draft ≡ 32 → length p.edits ≡ 256 → Trusted p missing settled index sound
-      → first (checks_in before missing n) ≡ fine → seat (named_at p.head n) ≡ Some i → i < 256 → o ≡ outcome_in (tested_by sound index) before n
+  pub replay_meets : {missing settled : ℕ} {asked : Option Index} (i : ℕ) {o : Outcome} → length p.draft ≡ 32 → length p.edits ≡ 256 → Trusted p missing settled asked
+      → first (checks_in before missing n) ≡ fine → seat (named_at p.head n) ≡ Some i → i < 256 → o ≡ outcome_in (tested_with asked) before n
       → Makes (replay n) p (number (fate_number (fate_of (outcome_fate o)))) (settled_in p i o settled)
   replay_meets {missing = missing} {settled = settled'} i draft-is edits-is known f at few o-is =
       let active-is = (fine_pass (checks_in before missing n) f).0 in

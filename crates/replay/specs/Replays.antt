@@ -1,5 +1,5 @@
 -- Scaffolding: the checks of a replay from its parts, what it decides, the state after it, and what is known of a state beside it. Assumes nothing.
-use Rattle.std.specs.Prelude.{ℕ, ◌+◌, ◌-◌, min, Bool, true, cond, ◌&&◌, T, List, [], ◌∷◌, ℤ, pos, get_or, set, Option, None, Result, IfOk, IfErr, ◌≡◌, Ok, Err}
+use Rattle.std.specs.Prelude.{ℕ, ◌+◌, ◌-◌, min, Bool, true, cond, ◌&&◌, T, List, [], ◌∷◌, ℤ, pos, get_or, set, Option, None, IsSome, Result, IfOk, IfErr, ◌≡◌, Ok, Err}
 use Rattle.protocol.specs.Asked.{verdict_of}
 use Rattle.protocol.specs.Lists.{is_none, natural, one_to, count}
 use Rattle.protocol.specs.Plan as model
@@ -12,7 +12,7 @@ use Rattle.change.specs.Change.{view_change}
 use Rattle.rows.specs.Rows.{row}
 use Rattle.rules.specs.Rules.{RuleTest, numbered}
 use Rattle.rules.specs.declared.Index.{Index}
-use Rattle.rules.specs.Index.{IndexedIf}
+use Rattle.rules.specs.Index.{IndexedIfAsked}
 use Rattle.rules.specs.Table.{lowers, gaps, uppers, firms}
 use Rattle.records.specs.declared.EditRecord.{EditRecord}
 use Rattle.records.specs.declared.Fate.{Fate}
@@ -138,13 +138,13 @@ pub record Replayed (test : RuleTest) (p : State) (n : ℤ) (missing settled : �
 
 -- ---- what is known of a state beside it
 
--- While a join is under way the owner's counts are the plan's; and where all rules are said to hold (`sound`) they hold on the draft, and the index is theirs.
-pub record Trusted (p : State) (first_logs places : ℕ) (index : Index) (sound : Bool) : Type 0 where
+-- While a join is under way the owner's counts are the plan's; and if an index is asked, it is that of the rules, and they hold on the draft.
+pub record Trusted (p : State) (first_logs places : ℕ) (asked : Option Index) : Type 0 where
   pub missing : T (active (mode_of p.head.mode)) → first_logs ≡ unset_in p.arrived (sides_in p.head)
   pub settled : T (active (mode_of p.head.mode)) → places ≡ count is_settled (kept_of p.head p.edits)
-  pub indexed : T (active (mode_of p.head.mode)) → IndexedIf sound index (lowers p.table) (gaps p.table) (uppers p.table) (firms p.table) (min p.head.rules rule_limit)
-  pub held : sound ≡ true → T (active (mode_of p.head.mode)) → holds (rules_of (spread p)) (draft_in p.head p.draft) ≡ true
+  pub indexed : T (active (mode_of p.head.mode)) → IndexedIfAsked asked (lowers p.table) (gaps p.table) (uppers p.table) (firms p.table) (min p.head.rules rule_limit)
+  pub held : IsSome asked → T (active (mode_of p.head.mode)) → holds (rules_of (spread p)) (draft_in p.head p.draft) ≡ true
 
 -- the same where nobody has counted the settled edits
-abbrev pub TrustedUncounted : State → ℕ → Index → Bool → Type 0
-TrustedUncounted p missing index sound = Trusted p missing (count is_settled (kept_of p.head p.edits)) index sound
+abbrev pub TrustedUncounted : State → ℕ → Option Index → Type 0
+TrustedUncounted p missing asked = Trusted p missing (count is_settled (kept_of p.head p.edits)) asked

@@ -1,7 +1,7 @@
 // What a replay decides and stores (01, "The calls"): its checks, its trial on the draft, and the edit that it settles.
 #![tactic(auto)]
 
-ghost use Rattle.std.specs.Prelude.{◌+◌, ◌<◌, ◌≡◌, ◌≢◌, IfOk, min, length, set, get_or, Some};
+ghost use Rattle.std.specs.Prelude.{◌+◌, ◌<◌, ◌≡◌, ◌≢◌, IfOk, min, length, set, get_or, Some, option_copied};
 ghost use Rattle.heads.specs.Heads.{named_at, seat};
 ghost use Rattle.protocol.specs.Asked.{verdict_of};
 ghost use Rattle.protocol.specs.Calls.{first, replay};
@@ -10,7 +10,7 @@ ghost use Rattle.protocol.specs.Plan.{fate_is};
 ghost use Rattle.records.specs.Records.{fate_of, kept_at, no_record};
 ghost use Rattle.records.specs.declared.Fate.TheVariants.{Unsent};
 ghost use Rattle.replay.specs.Replays.{point_of, tried_of, outcome_fate, outcome_of, settled_record, settled_in, checks_in, Decided, NamesRule, Replayed, Trusted, TrustedUncounted};
-ghost use Rattle.rules.specs.Index.{tested_by};
+ghost use Rattle.rules.specs.Index.{tested_with};
 ghost use Rattle.state.specs.Meets.{Makes};
 ghost use Rattle.state.specs.Spread.{spread, named_in};
 ghost use Rattle.state.specs.View.{view};
@@ -81,10 +81,10 @@ fn waiting(p: &State, n: i32, missing: u32) -> Result<usize, Refusal>
 
 // ---- its trial
 
-// The change of an edit tried on the draft. A caller that knows that all rules hold on the draft says so (`sound`): then the index that is lent is asked, which, if
-// it is the rules', has those that name the measure, and the number is the same.
-fn try_draft(p: &State, e: &EditRecord, index: &Index, sound: bool) -> Outcome
-    ensures { result ≡ tried_of (tested_by sound index.now) (spread p.now) e.now }
+// The change of an edit tried on the draft. A caller that knows that all rules hold on the draft lends an index: then that is asked, which, if it is the rules', has
+// those that name the measure, and the number is the same.
+fn try_draft(p: &State, e: &EditRecord, index: Option<&Index>) -> Outcome
+    ensures { result ≡ tried_of (tested_with (option_copied index.entry)) (spread p.now) e.now }
 {
     let m = u32::from(e.measure);
     let here = rows::one_to(rows::capped(p.head.drafted, limit::MEASURES), m);
@@ -101,7 +101,6 @@ fn try_draft(p: &State, e: &EditRecord, index: &Index, sound: bool) -> Outcome
         p.head.drafted,
         m,
         x,
-        sound,
     );
     if let Some(rule) = broken {
         return Outcome::Revoked(Some(rule));
@@ -110,13 +109,13 @@ fn try_draft(p: &State, e: &EditRecord, index: &Index, sound: bool) -> Outcome
 }
 
 // What an edit comes to. One built on a revoked edit is revoked, untested, and the draft stays (02, S-2).
-fn trial(p: &State, e: &EditRecord, index: &Index, sound: bool) -> Outcome
-    ensures { result ≡ outcome_of (tested_by sound index.now) (spread p.now) e.now }
+fn trial(p: &State, e: &EditRecord, index: Option<&Index>) -> Outcome
+    ensures { result ≡ outcome_of (tested_with (option_copied index.entry)) (spread p.now) e.now }
 {
     if earlier_is(p, e, Fate::Revoked) {
         Outcome::Revoked(None)
     } else {
-        try_draft(p, e, index, sound)
+        try_draft(p, e, index)
     }
 }
 
@@ -125,14 +124,13 @@ pub fn decide(
     p: &State,
     n: i32,
     missing: u32,
-    index: &Index,
-    sound: bool,
+    index: Option<&Index>,
 ) -> Result<Outcome, Refusal>
-    ensures exact { Decided (tested_by sound index.now) (spread p.now) n missing result }
-    ensures rule { TrustedUncounted p.now missing index.now sound → NamesRule (view p.now) n result }
+    ensures exact { Decided (tested_with (option_copied index.entry)) (spread p.now) n missing result }
+    ensures rule { TrustedUncounted p.now missing (option_copied index.entry) → NamesRule (view p.now) n result }
 {
     let i = waiting(p, n, missing)?;
-    Ok(trial(p, &p.edits[i], index, sound))
+    Ok(trial(p, &p.edits[i], index))
 }
 
 // ---- what it stores
@@ -166,16 +164,15 @@ pub fn replay(
     n: i32,
     missing: u32,
     settled: u32,
-    index: &Index,
-    sound: bool,
+    index: Option<&Index>,
 ) -> Answer
-    ensures exact { Replayed (tested_by sound index.now) p.old n missing settled result p.new }
-    ensures step { Trusted p.old missing settled index.now sound → Makes (replay n) p.old result p.new }
+    ensures exact { Replayed (tested_with (option_copied index.entry)) p.old n missing settled result p.new }
+    ensures step { Trusted p.old missing settled (option_copied index.entry) → Makes (replay n) p.old result p.new }
     ensures rules { (p.new.table ≡ p.old.table) × (p.new.head ≡ p.old.head) }
 {
     let i = waiting(p, n, missing)?;
     let e = p.edits[i];
-    let outcome = trial(p, &e, index, sound);
+    let outcome = trial(p, &e, index);
     settle(p, i, outcome, settled);
     Ok(Given::One(outcome.fate().number()))
 }

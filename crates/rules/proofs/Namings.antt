@@ -11,6 +11,7 @@ use lib.IntN.{ℤ, pos, ◌+ℤ◌}
 use lib.ListN.{length, get_or, take}
 use lib.Seq.{take_all}
 use lib.Signed.{lt_z}
+use Rattle.std.specs.Prelude.{Option, Some, None, is_some}
 use Rattle.protocol.specs.Lists.{one_to, snoc, passing, first_not}
 use Rattle.protocol.specs.Plan.{Rule, value, rule_holds}
 use Rattle.protocol.specs.Broken.{rule_at, last_first, first_broken}
@@ -22,7 +23,7 @@ use Rattle.rules.proofs.Rules.{value_in_lem, value_past, value_out, with_other, 
 use Rattle.rules.specs.declared.Other.TheVariants.{Above, Below}
 use Rattle.rules.specs.declared.Naming.{Naming}
 use Rattle.rules.specs.declared.Index.{Index}
-use Rattle.rules.specs.Index.{place_of, other_of, other_at, naming_of, namings_of, naming_holds, number_of, side_holds, naming_at, first_at, last_at, namings_in, flag_in, Indexed, IndexedIf, listed_as, indexed_in, tested_by, firm_by}
+use Rattle.rules.specs.Index.{place_of, other_of, other_at, naming_of, namings_of, naming_holds, number_of, side_holds, naming_at, first_at, last_at, namings_in, flag_in, Indexed, IndexedIfAsked, listed_as, indexed_in, tested_with, firm_with}
 
 -- ---- what passes a test
 
@@ -142,28 +143,28 @@ module _ (lower : List ℕ) (gap : List ℤ) (upper : List ℕ) (n : ℕ) where
       none-due : leb m 32 ≡ false → first_broken rules (with_value m x vs) (passing (λ k. is_due m (rule_at rules k)) (last_first n)) ≡ 0
       none-due t = rw (t, and-false (ltb 0 m), none-passing (last_first n))
 
-pub tested_indexed : (sound : Bool) (index : Index) (m : ℕ) (lower : List ℕ) (gap : List ℤ) (upper : List ℕ) (firm : List Bool) (n : ℕ) (x : ℤ) (vs : List ℤ) → length vs ≤ 32
-    → IndexedIf sound index lower gap upper firm n → tested_by sound index m lower gap upper n x vs ≡ tested_in sound m lower gap upper n x vs
-unfolding tested_by
-tested_indexed true index m lower gap upper firm n x vs l w = indexed-is lower gap upper n index firm m x vs l (w refl)
-tested_indexed false index m lower gap upper firm n x vs l w = refl
+pub tested_indexed : (asked : Option Index) (m : ℕ) (lower : List ℕ) (gap : List ℤ) (upper : List ℕ) (firm : List Bool) (n : ℕ) (x : ℤ) (vs : List ℤ) → length vs ≤ 32
+    → IndexedIfAsked asked lower gap upper firm n → tested_with asked m lower gap upper n x vs ≡ tested_in (is_some asked) m lower gap upper n x vs
+unfolding tested_with
+tested_indexed (Some index) m lower gap upper firm n x vs l w = indexed-is lower gap upper n index firm m x vs l w
+tested_indexed None m lower gap upper firm n x vs l w = refl
 
--- a caller that asks the index where all held before, and tests all rules else, tests by what it knows
-module _ (sound : Bool) (index : Index) (m : ℕ) (lower : List ℕ) (gap : List ℤ) (upper : List ℕ) (n : ℕ) {x x' : ℤ} {vs vs' : List ℤ} (x-is : x' ≡ x) (vs-is : vs' ≡ vs) where
-  pub asked_index : sound ≡ true → length vs ≤ 32 → indexed_in index m x' (take 32 vs') ≡ tested_by sound index m lower gap upper n x vs
-  unfolding tested_by
-  asked_index e l = rw e ((λ j. indexed_in index m (x-is j) (take 32 (vs-is j))) ∙ ap (indexed_in index m x) (take_all 32 vs l))
+-- asking an index, and testing all rules where none is asked
+module _ (m : ℕ) (lower : List ℕ) (gap : List ℤ) (upper : List ℕ) (n : ℕ) {x x' : ℤ} {vs vs' : List ℤ} (x-is : x' ≡ x) (vs-is : vs' ≡ vs) where
+  pub asked_index : (index : Index) → length vs ≤ 32 → indexed_in index m x' (take 32 vs') ≡ tested_with (Some index) m lower gap upper n x vs
+  unfolding tested_with
+  asked_index index l = (λ j. indexed_in index m (x-is j) (take 32 (vs-is j))) ∙ ap (indexed_in index m x) (take_all 32 vs l)
 
-  pub asked-all : sound ≡ false → tested_in false m lower gap upper n x' vs' ≡ tested_by sound index m lower gap upper n x vs
-  unfolding tested_by
-  asked-all e = rw e (λ j. tested_in false m lower gap upper n (x-is j) (vs-is j))
+  pub asked-none : tested_in false m lower gap upper n x' vs' ≡ tested_with None m lower gap upper n x vs
+  unfolding tested_with
+  asked-none = λ j. tested_in false m lower gap upper n (x-is j) (vs-is j)
 
 -- and of the 32 measures it says whether a firm rule names them
-pub firm-indexed : (sound : Bool) (index : Index) (lower : List ℕ) (gap : List ℤ) (upper : List ℕ) (firm : List Bool) (n m : ℕ) → 0 < m → m ≤ 32
-    → IndexedIf sound index lower gap upper firm n → firm_by sound index lower upper firm n m ≡ firm_in lower upper firm n m
-unfolding firm_by
-firm-indexed true index lower gap upper firm n m p q w = ap (flag_in index) (listed-is m q) ∙ (w refl).firmly m p q
-firm-indexed false index lower gap upper firm n m p q w = refl
+pub firm-indexed : (asked : Option Index) (lower : List ℕ) (gap : List ℤ) (upper : List ℕ) (firm : List Bool) (n m : ℕ) → 0 < m → m ≤ 32
+    → IndexedIfAsked asked lower gap upper firm n → firm_with asked lower upper firm n m ≡ firm_in lower upper firm n m
+unfolding firm_with
+firm-indexed (Some index) lower gap upper firm n m p q w = ap (flag_in index) (listed-is m q) ∙ w.firmly m p q
+firm-indexed None lower gap upper firm n m p q w = refl
 
 -- ---- a walk along the namings of a measure, from their end
 

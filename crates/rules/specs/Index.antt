@@ -1,5 +1,5 @@
 -- Scaffolding: the index: from a measure to the rules that name it, as namings put one behind another; and the tests that use it. Assumes nothing.
-use Rattle.std.specs.Prelude.{ℕ, suc, ◌+◌, ◌-◌, ◌<◌, ◌≤◌, min, Bool, true, false, cond, List, map, reverse, ◌≡◌, eqb, leb, ℤ, pos, ◌+ℤ◌, length, get_or}
+use Rattle.std.specs.Prelude.{ℕ, suc, ◌+◌, ◌-◌, ◌<◌, ◌≤◌, min, Bool, true, false, cond, List, map, reverse, Option, Some, None, IfSome, ◌≡◌, eqb, leb, ℤ, pos, ◌+ℤ◌, length, get_or}
 use Rattle.std.specs.Int.Signed.{lt_z}
 use Rattle.protocol.specs.Lists.{one_to, count, passing, first_not}
 use Rattle.protocol.specs.Plan as model
@@ -75,9 +75,13 @@ pub record Indexed (index : Index) (lower : List ℕ) (gap : List ℤ) (upper : 
   pub named : (m : ℕ) → m ≤ measure_limit → namings_in index m ≡ namings_of lower gap upper n m
   pub firmly : (m : ℕ) → 0 < m → m ≤ measure_limit → flag_in index m ≡ firm_in lower upper firm n m
 
--- it is theirs where a flag says so: that all rules are known to hold (`sound`), or that it was made
+-- it is theirs where a flag says so: that it was made
 abbrev pub IndexedIf : Bool → Index → List ℕ → List ℤ → List ℕ → List Bool → ℕ → Type 0
 IndexedIf b index lower gap upper firm n = b ≡ true → Indexed index lower gap upper firm n
+
+-- and if one is asked, it is theirs
+abbrev pub IndexedIfAsked : Option Index → List ℕ → List ℤ → List ℕ → List Bool → ℕ → Type 0
+IndexedIfAsked asked lower gap upper firm n = IfSome asked (λ index. Indexed index lower gap upper firm n)
 
 -- ---- namings put one behind another
 
@@ -103,13 +107,15 @@ unfoldable pub indexed_in : Index → ℕ → ℤ → List ℤ → ℕ
 unfolding model.value
 indexed_in index m x vs = first_not (naming_holds (model.value vs) (model.value (with_value m x vs) m)) number_of (reverse (namings_in index (listed_as m)))
 
--- What is tested with an index at hand, be it the rules' own or not: what it has for the measure, where all rules held before (`sound`), else all rules.
-unfoldable pub tested_by : Bool → Index → RuleTest
-tested_by sound index m lower gap upper n x vs = cond sound (indexed_in index m x vs) (tested_in false m lower gap upper n x vs)
+-- What is tested with the index that is asked, be it the rules' own or not: what it has for the measure; where none is asked, all rules.
+unfoldable pub tested_with : Option Index → RuleTest
+tested_with (Some index) m lower gap upper n x vs = indexed_in index m x vs
+tested_with None m lower gap upper n x vs = tested_in false m lower gap upper n x vs
 
--- whether a firm rule of three arrays, among the first n, names measure m; and what is found with an index at hand
+-- whether a firm rule of three arrays, among the first n, names measure m; and what is found with the index that is asked, if one is
 abbrev pub FirmTest : Type 0
 FirmTest = List ℕ → List ℕ → List Bool → ℕ → ℕ → Bool
 
-unfoldable pub firm_by : Bool → Index → FirmTest
-firm_by sound index lower upper firm n m = cond sound (flag_in index (listed_as m)) (firm_in lower upper firm n m)
+unfoldable pub firm_with : Option Index → FirmTest
+firm_with (Some index) lower upper firm n m = flag_in index (listed_as m)
+firm_with None lower upper firm n m = firm_in lower upper firm n m

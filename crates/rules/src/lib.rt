@@ -2,7 +2,7 @@
 // Everything is lent.
 #![tactic(auto)]
 
-ghost use Rattle.std.specs.Prelude.{◌≡◌, true, false, cond, ◌&&◌, ◌+◌, ◌-◌, ◌<◌, ◌≤◌, min, pos, ◌+ℤ◌, eqb, length, get_or, take};
+ghost use Rattle.std.specs.Prelude.{◌≡◌, true, false, cond, ◌&&◌, ◌+◌, ◌-◌, ◌<◌, ◌≤◌, min, pos, ◌+ℤ◌, eqb, length, get_or, take, option_copied};
 ghost use Rattle.std.specs.Int.Signed.{lt_z};
 ghost use Rattle.std.specs.List.{list_any};
 ghost use Rattle.protocol.specs.Lists.{natural, count};
@@ -10,7 +10,7 @@ ghost use Rattle.protocol.specs.Plan.{value};
 ghost use Rattle.rows.specs.Rows.{span, row};
 ghost use Rattle.rules.specs.Table.{lowers, gaps, uppers, firms, with_rule, top_of};
 ghost use Rattle.rules.specs.Rules.{numbered, with_value, pair_holds, names_pair, names_firmly, names_at, tested_in, firm_in};
-ghost use Rattle.rules.specs.Index.{place_of, other_of, naming_holds, is_made, NoneAbove, Added, Indexed, listed_as, indexed_in, tested_by, firm_by};
+ghost use Rattle.rules.specs.Index.{place_of, other_of, naming_holds, is_made, NoneAbove, Added, Indexed, listed_as, indexed_in, tested_with, firm_with};
 
 use protocol::limit;
 
@@ -333,29 +333,27 @@ pub fn broken_of_all(table: &Table, k: u32, row: &[i32], m: u32, x: i32) -> Opti
 }
 
 // The number of a broken rule, where measure m counts as x, on the row of n measures, 32 at most, that begins at a place of an array; beyond the array's end there is
-// no row. A caller that knows that all rules hold on the row says so (`sound`): then the index that is lent is asked, which, if it is the rules', has those that
-// name the measure, and the number is the same.
+// no row. A caller that knows that all rules hold on the row lends an index: then that is asked, which, if it is the rules', has those that name the measure, and the
+// number is the same.
 pub fn broken<const N: usize>(
     table: &Table,
     k: u32,
-    index: &Index,
+    index: Option<&Index>,
     values: &[i32; N],
     at: usize,
     n: u32,
     m: u32,
     x: i32,
-    sound: bool,
 ) -> Option<u32>
-    ensures { at + min n 32 ≤ N → result ≡ numbered (tested_by sound index.now m (lowers table.now) (gaps table.now) (uppers table.now)
+    ensures { at + min n 32 ≤ N → result ≡ numbered (tested_with (option_copied index.entry) m (lowers table.now) (gaps table.now) (uppers table.now)
         (min k 64) x (row values.now at (min n 32))) }
 {
     let vs = &values[..];
     let end = at.saturating_add(rows::capped(n, limit::MEASURES)).min(N);
     let row = &vs[at.min(end)..end];
-    if sound {
-        broken_by_index(index, row, m, x)
-    } else {
-        broken_of_all(table, k, row, m, x)
+    match index {
+        Some(index) => broken_by_index(index, row, m, x),
+        None => broken_of_all(table, k, row, m, x),
     }
 }
 
@@ -378,13 +376,12 @@ fn firm_below(table: &Table, k: u32, top: u32, m: u32) -> bool
     m <= top && firm_named(table, k, m)
 }
 
-// The same from an index that a caller lends, where it knows that all rules hold (`sound`): the rules' own (`Indexed`) says the same.
-pub fn firm_in(table: &Table, k: u32, index: &Index, m: u32, sound: bool) -> bool
-    ensures { result ≡ firm_by sound index.now (lowers table.now) (uppers table.now) (firms table.now) (min k 64) m }
+// The same, from an index that a caller lends if it knows that all rules hold: the rules' own (`Indexed`) says the same.
+pub fn firm_in(table: &Table, k: u32, index: Option<&Index>, m: u32) -> bool
+    ensures { result ≡ firm_with (option_copied index.entry) (lowers table.now) (uppers table.now) (firms table.now) (min k 64) m }
 {
-    if sound {
-        index.firm[listed(m)]
-    } else {
-        firm_named(table, k, m)
+    match index {
+        Some(index) => index.firm[listed(m)],
+        None => firm_named(table, k, m),
     }
 }

@@ -1,7 +1,7 @@
 use mathlib.Core.Path.{◌≡◌, sym, ◌∙◌}
 use borrow.Author.Rules.{rules}
 use lib.ListN.{length}
-use Rattle.std.specs.Prelude.{Err}
+use Rattle.std.specs.Prelude.{Err, option_copied}
 use Rattle.edit.proofs.Edits.{edit_refuses, edit_names, edit_accepts}
 use Rattle.edit.proofs.edit.Goals as goal
 
@@ -9,15 +9,15 @@ pub returns-in_err-granted-clause-step : goal.returns-in_err-granted-clause-step
 returns-in_err-granted-clause-step c = let a = c.args in
     let r = c.in_err-granted.field-0.0 in
     let e : c.from_residual.result ≡ Err r = search rules in
-    λ t. rw e (edit_refuses a.sound a.index.now a.p.now a.e t r c.in_err-granted.ensures)
+    λ t. rw e (edit_refuses (option_copied a.index) a.p.now a.e t r c.in_err-granted.ensures)
 
 pub returns-in_err-granted-clause-rule : goal.returns-in_err-granted-clause-rule
 returns-in_err-granted-clause-rule c = let a = c.args in
     let r = c.in_err-granted.field-0.0 in
     let e : c.from_residual.result ≡ Err r = search rules in
-    λ t k q. edit_names a.sound a.index.now a.p.now a.e t r c.in_err-granted.ensures k (sym e ∙ q)
+    λ t k q. edit_names (option_copied a.index) a.p.now a.e t r c.in_err-granted.ensures k (sym e ∙ q)
 
 pub returns-clause-step : goal.returns-clause-step
 returns-clause-step c = let a = c.args in
     let long : length a.p.now.values ≡ 256 = search rules in
-    λ t. rw c.store.ensures.0 (edit_accepts a.sound a.index.now a.p.now a.e t c.in_ok-granted.granted c.in_ok-granted.ensures long c.store.ensures.1)
+    λ t. rw c.store.ensures.0 (edit_accepts (option_copied a.index) a.p.now a.e t c.in_ok-granted.granted c.in_ok-granted.ensures long c.store.ensures.1)

@@ -1,11 +1,12 @@
 use mathlib.Core.Bool.{false}
 use mathlib.Core.Path.{sym, ap, ◌∙◌}
 use mir.Facts.{to_z-of_z}
+use Rattle.std.specs.Prelude.{option_copied}
 use Rattle.protocol.specs.Calls.{first}
 use Rattle.heads.specs.Heads.{named_at, seat}
 use borrow.Author.Rules.{rules}
 use Rattle.rules.specs.Rules.{tested_in}
-use Rattle.rules.specs.Index.{tested_by}
+use Rattle.rules.specs.Index.{tested_with}
 use Rattle.state.specs.Spread.{spread}
 use Rattle.replay.specs.Replays.{checks_in, outcome_of}
 use Rattle.replay.proofs.Checks.{named_at_place}
@@ -23,7 +24,7 @@ pub returns-clause-exact : goal.returns-clause-exact
 returns-clause-exact c =
     let a = c.args in
     let p = a.p.now in
-    let test = tested_by a.sound a.index.now in
+    let test = tested_with (option_copied a.index) in
     let number = to_z-of_z c.ranges.n in
     let there = c.in_ok-i.ensures.1 in
     record {

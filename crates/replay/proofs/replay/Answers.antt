@@ -5,13 +5,13 @@ use mir.Syntax.{w32}
 use mir.Val.{to_z, of_z}
 use mir.Facts.{to_z-of_z}
 use borrow.Author.Rules.{rules}
-use Rattle.std.specs.Prelude.{Some}
+use Rattle.std.specs.Prelude.{Some, option_copied}
 use Rattle.protocol.specs.Plan.{fate_number}
 use Rattle.protocol.specs.Calls.{fine, first}
 use Rattle.heads.specs.Heads.{named_at, named_slot, slot_at, seat}
 use Rattle.heads.proofs.Positions.{seat_some, slot_suc}
 use Rattle.records.specs.Records.{fate_of}
-use Rattle.rules.specs.Index.{tested_by}
+use Rattle.rules.specs.Index.{tested_with}
 use Rattle.state.specs.declared.State.{State}
 use Rattle.state.specs.Meets.{number}
 use Rattle.state.specs.Spread.{spread}
@@ -51,8 +51,8 @@ module _ (c : After-number) where
   at = ap (λ n. seat (named_at p.head n)) (sym number_is) ∙ c.in_ok-i.ensures.1.1
 
   -- what it comes to
-  comes : c.trial-outcome.result ≡ outcome_in (tested_by c.args.sound c.args.index.now) (spread p) c.args.n
-  comes = c.trial-outcome.ensures ∙ ap (outcome_of (tested_by c.args.sound c.args.index.now) (spread p)) (named_at_place p c.args.n i at few)
+  comes : c.trial-outcome.result ≡ outcome_in (tested_with (option_copied c.args.index)) (spread p) c.args.n
+  comes = c.trial-outcome.ensures ∙ ap (outcome_of (tested_with (option_copied c.args.index)) (spread p)) (named_at_place p c.args.n i at few)
 
   gives : c.number.result ≡ fate_number (fate_of (outcome_fate c.trial-outcome.result))
   gives = c.number.ensures ∙ ap (λ f. fate_number (fate_of f)) c.fate.ensures

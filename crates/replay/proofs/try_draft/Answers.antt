@@ -8,10 +8,11 @@ use lib.ListN.{get_or}
 use mir.Syntax.{w32}
 use mir.Val.{to_z, of_z}
 use borrow.Author.Rules.{rules}
+use Rattle.std.specs.Prelude.{option_copied}
 use Rattle.protocol.specs.Lists.{one_to}
 use Rattle.protocol.specs.Plan.{value, applied}
 use Rattle.change.specs.Change.{view_change, ranged_of}
-use Rattle.rules.specs.Index.{tested_by}
+use Rattle.rules.specs.Index.{tested_with}
 use Rattle.rules.specs.Rules.{numbered}
 use Rattle.rules.specs.Table.{lowers, gaps, uppers}
 use Rattle.state.specs.Spread.{spread}
@@ -60,7 +61,7 @@ module _ (c : After-broken) where
   test m x =
       let a = c.args in
       let t = a.p.now.table in
-      tested_by a.sound a.index.now m (lowers t) (gaps t) (uppers t) (min a.p.now.head.rules 64) x (draft_in a.p.now.head a.p.now.draft)
+      tested_with (option_copied a.index) m (lowers t) (gaps t) (uppers t) (min a.p.now.head.rules 64) x (draft_in a.p.now.head a.p.now.draft)
 
   tested : c.broken-broken.result ≡ numbered (test c.args.e.now.measure c.in-Some.x)
   tested = c.broken-broken.ensures (omega arith) ∙ (λ i. numbered (test (c.from-m.ensures i) (kept i)))
@@ -68,24 +69,24 @@ module _ (c : After-broken) where
 pub returns-in_default : goal.returns-in_default
 returns-in_default c =
     let a = c.args in
-    tried-out (tested_by a.sound a.index.now) (spread a.p.now) a.e.now (sym c.in_default.is ∙ gives c.before.before)
+    tried-out (tested_with (option_copied a.index)) (spread a.p.now) a.e.now (sym c.in_default.is ∙ gives c.before.before)
 
 pub returns-in-Some-broken : goal.returns-in-Some-broken
 returns-in-Some-broken c =
     let a = c.args in
-    tried-broken (tested_by a.sound a.index.now) (spread a.p.now) a.e.now c.in-Some.x c.in-Some-broken.rule (sym c.in-Some.is ∙ gives c.before.before.before.before)
+    tried-broken (tested_with (option_copied a.index)) (spread a.p.now) a.e.now c.in-Some.x c.in-Some-broken.rule (sym c.in-Some.is ∙ gives c.before.before.before.before)
     (sym c.in-Some-broken.is ∙ tested c.before.before)
 
 pub returns-then-here-2 : goal.returns-then-here-2
 returns-then-here-2 c =
     let a = c.args in
     let t = c.before.before.before.before.before in
-    tried-passes (tested_by a.sound a.index.now) (spread a.p.now) a.e.now c.in-Some.x (sym c.in-Some.is ∙ gives t)
+    tried-passes (tested_with (option_copied a.index)) (spread a.p.now) a.e.now c.in-Some.x (sym c.in-Some.is ∙ gives t)
     (sym c.in_default-broken.is ∙ tested c.before.before.before) (rw (sym (here t) ∙ c.if-here-2.true) (kept c.before.before.before))
 
 pub returns-else-here-2 : goal.returns-else-here-2
 returns-else-here-2 c =
     let a = c.args in
     let t = c.before.before.before.before.before in
-    tried-passes (tested_by a.sound a.index.now) (spread a.p.now) a.e.now c.in-Some.x (sym c.in-Some.is ∙ gives t)
+    tried-passes (tested_with (option_copied a.index)) (spread a.p.now) a.e.now c.in-Some.x (sym c.in-Some.is ∙ gives t)
     (sym c.in_default-broken.is ∙ tested c.before.before.before) (rw (sym (here t) ∙ c.if-here-2.false) (read t ∙ old t))
