@@ -2,15 +2,15 @@
 // place. How many edits a side has unsent and how many wait, the plan's owner counts.
 #![tactic(auto)]
 
-ghost use Rattle.std.specs.Prelude.{map, ◌≡◌};
-ghost use Rattle.heads.specs.Heads.{mode_of};
+ghost use Rattle.std.specs.Prelude.{true, false, map, get_or, set, OnOk, ◌≡◌};
+ghost use Rattle.heads.specs.Heads.{mode_of, index_of};
 ghost use Rattle.moves.specs.Moves.{split_checks, send_checks, turn_checks, confirm_checks, first_head, split_base, Waiting, Unsent};
 ghost use Rattle.protocol.specs.Asked.{number_of, verdict_of};
 ghost use Rattle.protocol.specs.Calls.{split-side, join, send, first, mark_sent, stop, confirm, install};
 ghost use Rattle.protocol.specs.Lists.{natural};
 ghost use Rattle.protocol.specs.Plan.{mode_number};
 ghost use Rattle.records.specs.Records.{kept_of};
-ghost use Rattle.state.specs.Meets.{Makes, SameRules};
+ghost use Rattle.state.specs.Meets.{Makes, SameRules, IfRefused, number};
 
 use heads::{Head, Mode};
 use protocol::limit;
@@ -123,6 +123,7 @@ fn begin(p: &mut State)
 
 pub fn split(p: &mut State, s: i32) -> Answer
     ensures step { Makes (split-side s) p.old result p.new }
+    ensures same { IfRefused result (p.new ≡ p.old) }
     ensures rules { SameRules p.old p.new }
     ensures edits { p.new.edits ≡ p.old.edits }
 {
@@ -144,6 +145,7 @@ pub fn split(p: &mut State, s: i32) -> Answer
 
 pub fn join(p: &mut State) -> Answer
     ensures step { Makes join p.old result p.new }
+    ensures same { IfRefused result (p.new ≡ p.old) }
     ensures rules { SameRules p.old p.new }
     ensures edits { p.new.edits ≡ p.old.edits }
 {
@@ -160,6 +162,9 @@ pub fn join(p: &mut State) -> Answer
 
 pub fn send(p: &mut State, s: i32, unsent: u32) -> Answer
     ensures step { Unsent p.old (natural s) unsent → Makes (send s) p.old result p.new }
+    ensures verdict { verdict_of result ≡ first (send_checks p.old.head (natural s) (get_or p.old.arrived (index_of (natural s)) false) unsent) }
+    ensures accepted { OnOk result ((result ≡ number unsent) × (p.new ≡ record p.old { arrived = set p.old.arrived (index_of (natural s)) true; edits = p.new.edits })) }
+    ensures same { IfRefused result (p.new ≡ p.old) }
     ensures rules { SameRules p.old p.new }
 {
     let side = exact::number(s);
@@ -172,6 +177,7 @@ pub fn send(p: &mut State, s: i32, unsent: u32) -> Answer
 
 pub fn stop(p: &mut State, waiting: u32) -> Answer
     ensures step { Waiting p.old waiting → Makes stop p.old result p.new }
+    ensures same { IfRefused result (p.new ≡ p.old) }
     ensures rules { SameRules p.old p.new }
     ensures edits { p.new.edits ≡ p.old.edits }
 {
@@ -189,6 +195,7 @@ pub fn stop(p: &mut State, waiting: u32) -> Answer
 
 pub fn confirm(p: &mut State, s: i32, unsent: u32) -> Answer
     ensures step { Unsent p.old (natural s) unsent → Makes (confirm s) p.old result p.new }
+    ensures same { IfRefused result (p.new ≡ p.old) }
     ensures rules { SameRules p.old p.new }
     ensures edits { p.new.edits ≡ p.old.edits }
 {
@@ -202,6 +209,7 @@ pub fn confirm(p: &mut State, s: i32, unsent: u32) -> Answer
 // The draft becomes side 1's measures. The kept edits' numbers go on ending below the next number of now.
 pub fn install(p: &mut State, waiting: u32) -> Answer
     ensures step { Waiting p.old waiting → Makes install p.old result p.new }
+    ensures same { IfRefused result (p.new ≡ p.old) }
     ensures rules { SameRules p.old p.new }
     ensures edits { p.new.edits ≡ p.old.edits }
 {
