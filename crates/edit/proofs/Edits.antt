@@ -276,7 +276,19 @@ module _ (p : Spread) (e : Edit) where
 refusal_is : (r x : Refusal) → ◌≡◌ {A = Answer} (Err r) (Err x) → r ≡ x
 refusal_is r x q = cc
 
--- where all rules held on the side's row, it is enough to test those that name the measure, and an index that is theirs has those
+-- where all rules held on the side's row, it is enough to test those that name the measure: what is decided is the same
+pub edit_sound : (p : Spread) (e : Edit) {r : Result Granted Refusal}
+    → (T (not (is blank (mode_of p.head.mode))) → T (one_to (sides_in p.head) (natural e.side)) → holds (rules_of p) (row_of p e) ≡ true)
+    → (Ruled (tested_in true) firm_in p e r → Ruled (tested_in false) firm_in p e r) × (Ruled (tested_in false) firm_in p e r → Ruled (tested_in true) firm_in p e r)
+edit_sound p e held = (
+  ruled_as p e (tested_in true) (tested_in false) firm_in firm_in same (λ d a b. refl),
+  ruled_as p e (tested_in false) (tested_in true) firm_in firm_in (λ d o. sym (same d o)) (λ d a b. refl),
+)
+  where
+    same : T (not (is blank (mode_of p.head.mode))) → T (one_to (sides_in p.head) (natural e.side)) → rule_by (tested_in true) p e ≡ rule_by (tested_in false) p e
+    same d o = tested_sound p.lower p.gap p.upper p.firm (min p.head.rules 64) (natural e.measure) _ _ (few p e) (held d o)
+
+-- and an index that is theirs has those
 module _ (asked : Option Index) (p : State) (e : Edit) where
   abbrev lists : Spread
   lists = spread p
@@ -284,8 +296,7 @@ module _ (asked : Option Index) (p : State) (e : Edit) where
   by_held : (b : Bool) {r : Result Granted Refusal}
       → (b ≡ true → T (not (is blank (mode_of p.head.mode))) → T (one_to (sides_in p.head) (natural e.side)) → holds (rules_of lists) (row_of lists e) ≡ true)
       → Ruled (tested_in b) firm_in lists e r → Ruled (tested_in false) firm_in lists e r
-  by_held true held v = ruled_as lists e (tested_in true) (tested_in false) firm_in firm_in
-      (λ d o. tested_sound lists.lower lists.gap lists.upper lists.firm (min p.head.rules 64) (natural e.measure) _ _ (few lists e) (held refl d o)) (λ d a b. refl) v
+  by_held true held v = (edit_sound lists e (held refl)).0 v
   by_held false held v = v
 
   pub ruled-plain : {r : Result Granted Refusal} → Trusted asked p e → Ruled (tested_with asked) (firm_with asked) lists e r → Ruled (tested_in false) firm_in lists e r

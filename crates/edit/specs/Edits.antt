@@ -1,5 +1,5 @@
 -- Scaffolding: the checks of an edit from its parts, what it decides, and the state after the stores. Assumes nothing.
-use Rattle.std.specs.Prelude.{ℕ, ◌+◌, ◌-◌, ◌%◌, min, Bool, true, not, cond, ◌&&◌, ◌||◌, List, [], ◌∷◌, leb, ℤ, length, set, T, ◌≡◌, Option, Some, IsSome, Result, Err, IfOk}
+use Rattle.std.specs.Prelude.{ℕ, ◌+◌, ◌-◌, ◌%◌, min, Bool, true, not, cond, ◌&&◌, ◌||◌, List, [], ◌∷◌, leb, ℤ, length, set, T, ◌≡◌, Option, Some, IsSome, Result, Ok, Err, IfOk}
 use Rattle.protocol.specs.Lists.{is_none, natural, one_to}
 use Rattle.protocol.specs.Plan as model
 use Rattle.protocol.specs.Plan.{is, blank, whole, split, applied, value, holds, made, side_at, kept_limit, rule_limit, number_limit}
@@ -22,7 +22,7 @@ use Rattle.heads.specs.Heads.{mode_of, sides_in, measures_in, offset_of, kept_in
 use Rattle.records.specs.Records.{kept_at}
 use Rattle.state.specs.declared.State.{State}
 use Rattle.state.specs.Spread.{Spread, spread, rules_of, named_in}
-use Rattle.state.specs.Meets.{Answer, IfRefused}
+use Rattle.state.specs.Meets.{Answer, IfRefused, number, refusal}
 use Rattle.state.specs.View.{view}
 use Rattle.edit.specs.declared.Granted.{Granted}
 
@@ -122,3 +122,14 @@ BrokenNamed p e a =
 
 abbrev pub StaysIfRefused : State → Answer → State → Type 0
 StaysIfRefused p a q = IfRefused a (q ≡ p)
+
+-- a decision carried out: a refusal leaves the state
+abbrev pub CarriedOut : State → Edit → Result Granted Refusal → Answer → State → Type 0
+CarriedOut p e (Ok g) a q = (a ≡ number p.head.next) × (q ≡ edited p e g)
+CarriedOut p e (Err r) a q = (a ≡ refusal r) × (q ≡ p)
+
+-- what the call comes to, whatever is known of the rules
+pub record Edited (test : RuleTest) (firmly : FirmTest) (p : State) (e : Edit) (a : Answer) (q : State) : Type 0 where
+  pub decided : Result Granted Refusal
+  pub ruled : Ruled test firmly (spread p) e decided
+  pub carried : CarriedOut p e decided a q

@@ -2,7 +2,7 @@
 #![tactic(auto)]
 
 ghost use Rattle.std.specs.Prelude.{min, ◌<◌, ◌||◌, ◌≡◌, false, set, length, option_copied};
-ghost use Rattle.edit.specs.Edits.{place_checks, room_checks, Ruled, Trusted, BrokenNamed, StaysIfRefused, edited, spot_of};
+ghost use Rattle.edit.specs.Edits.{place_checks, room_checks, Ruled, Trusted, BrokenNamed, StaysIfRefused, Edited, edited, spot_of};
 ghost use Rattle.heads.specs.Heads.{mode_of};
 ghost use Rattle.protocol.specs.Asked.{verdict_of};
 ghost use Rattle.protocol.specs.Calls.{apart, no22, no25, first, edit};
@@ -172,6 +172,7 @@ fn store(p: &mut State, e: Edit, granted: Granted)
 
 // The call. An index is lent only where all rules are known to hold.
 pub fn edit(p: &mut State, e: Edit, index: Option<&Index>) -> Answer
+    ensures exact { Edited (tested_with (option_copied index.entry)) (firm_with (option_copied index.entry)) p.old e result p.new }
     ensures step { Trusted (option_copied index.entry) p.old e → Makes (edit e.side e.client e.after e.measure e.kind e.constant) p.old result p.new }
     ensures rule { Trusted (option_copied index.entry) p.old e → BrokenNamed p.old e result }
     ensures same { StaysIfRefused p.old result p.new }

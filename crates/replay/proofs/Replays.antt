@@ -72,10 +72,12 @@ pub decided_refused : (test : RuleTest) (p : Spread) (n : ℤ) {missing : ℕ} {
     → Decided test p n missing a
 decided_refused test p n {missing = missing} e f = subst (Decided test p n missing) (sym e) (record { verdict = f; outcome = tt })
 
--- where all rules held on the draft, it is enough to test those that name the measure
+-- where all rules held on the draft, it is enough to test those that name the measure: what is decided is the same
 pub replay_sound : (p : Spread) (n : ℤ) {missing : ℕ} (r : Result Outcome Refusal) → (T (active (mode_of p.head.mode)) → holds (rules_of p) (draft_in p.head p.draft) ≡ true)
-    → Decided (tested_in true) p n missing r → Decided (tested_in false) p n missing r
-replay_sound p n r h = decided_same (tested_in true) (tested_in false) p n r (λ t. outcome_sound p (named_in p (natural n)) (h t))
+    → (Decided (tested_in true) p n missing r → Decided (tested_in false) p n missing r) × (Decided (tested_in false) p n missing r → Decided (tested_in true) p n missing r)
+replay_sound p n r h =
+    let same : T (active (mode_of p.head.mode)) → outcome_in (tested_in true) p n ≡ outcome_in (tested_in false) p n = λ t. outcome_sound p (named_in p (natural n)) (h t) in
+    (decided_same (tested_in true) (tested_in false) p n r same, decided_same (tested_in false) (tested_in true) p n r (λ t. sym (same t)))
 
 -- what the code finds, with the rules' own index, is what the test of all rules finds
 outcome_decided : (p : State) (e : EditRecord) {missing settled : ℕ} {asked : Option Index} → Trusted p missing settled asked → T (active (mode_of p.head.mode))
