@@ -2,12 +2,12 @@
 use Prim.Native.Nat.{ℕ, ◌-◌, ◌≤◌, min}
 use native.Mathlib.Omega.{arith}
 use mathlib.Core.Path.{◌≡◌, refl, sym, ap, ◌∙◌, subst}
-use mathlib.Core.Bool.{Bool, true, false, not}
+use mathlib.Core.Bool.{Bool, true, false, not, cond}
 use mathlib.Core.List.{List, [], append-nil}
 use lib.Dec.{T}
 use lib.IntN.{ℤ}
 use lib.ListN.{length, get_or}
-use Rattle.std.specs.Prelude.{Option, Some, None, Ok, Err, is_ok}
+use Rattle.std.specs.Prelude.{Option, Some, None, IsSome, Ok, Err, is_ok}
 use Rattle.protocol.specs.Lists.{natural, one_to}
 use Rattle.protocol.specs.Plan.{Plan, is, blank, holds, absent_side, side_at, measure_limit}
 use Rattle.protocol.specs.Calls as model
@@ -22,7 +22,7 @@ use Rattle.format.specs.Sheets.{step_of}
 use Rattle.rows.specs.Rows.{row}
 use Rattle.rows.proofs.Spans.{length-span}
 use Rattle.rules.specs.declared.Index.{Index}
-use Rattle.rules.specs.Index.{IndexedIf}
+use Rattle.rules.specs.Index.{IndexedIfAsked}
 use Rattle.heads.specs.Heads.{mode_of, sides_in, index_of, offset_of, measures_in, kept_in, end_in}
 use Rattle.records.specs.Records.{kept_at, no_record}
 use Rattle.state.specs.declared.State.{State}
@@ -267,19 +267,35 @@ showed p b s r e = record {
 pub readied : (c : Call) {p q : State} {a : Answer} {b b' : Beside} → Readied p b b' → Makes (asked c) p a q → SameRules p q → Changes c p b a q b'
 readied c r m s = record { makes = m; rules = λ e. s; counts = r.counts; sound = r.sound; indexed = r.still }
 
+-- the index that is asked, if one is
+abbrev pub asked_of : Beside → Option Index
+asked_of b = cond b.sound (Some b.index) None
+
+asks : (t : Bool) (index : Index) → IsSome (cond t (Some index) None) → t ≡ true
+asks true index e = refl
+asks false index e = absurd (is_yes e)
+
 module _ {p : State} {b b' : Beside} (r : Readied p b b') where
-  -- where the index is asked it is the rules' own
-  theirs : (b.sound ≡ true → ReadyIn (spread p) b.index) → IndexedIf b'.sound b'.index (spread p).lower (spread p).gap (spread p).upper (spread p).firm (min p.head.rules 64)
-  theirs i y = let s = sym r.sound ∙ y in r.asked s (i s) refl
+  -- it is the rules' own
+  theirs : (b.sound ≡ true → ReadyIn (spread p) b.index) → IndexedIfAsked (asked_of b') (spread p).lower (spread p).gap (spread p).upper (spread p).firm (min p.head.rules 64)
+  theirs i = by b'.sound refl
+    where
+      by : (t : Bool) → b'.sound ≡ t → IndexedIfAsked (cond t (Some b'.index) None) (spread p).lower (spread p).gap (spread p).upper (spread p).firm (min p.head.rules 64)
+      by true y = let s = sym r.sound ∙ y in r.asked s (i s) refl
+      by false y = tt
 
-  pub edit-trusted : (e : Edited) → SoundIn b.sound (spread p) → (b.sound ≡ true → ReadyIn (spread p) b.index) → edits.Trusted b'.sound b'.index p e
-  edit-trusted e h i = record { indexed = λ d. theirs i; held = λ y. side_holds p (h (sym r.sound ∙ y)) (natural e.side) }
+  -- and every rule is known to hold
+  holding : SoundIn b.sound (spread p) → IsSome (asked_of b') → Holding (view p).mode (view p).content
+  holding h y = h (sym r.sound ∙ asks b'.sound b'.index y)
 
-  pub replay-trusted : Tallied b.counts (view p) → SoundIn b.sound (spread p) → (b.sound ≡ true → ReadyIn (spread p) b.index)
-      → replays.Trusted p b'.counts.missing b'.counts.settled b'.index b'.sound
-  replay-trusted t h i = record {
-    missing = λ a. ap (λ u. u.missing) r.counts ∙ missing_unset (spread p) b.counts t a;
-    settled = λ a. ap (λ u. u.settled) r.counts ∙ t.counted.settled;
-    indexed = λ a. theirs i;
-    held = λ y a. yes_is _ ((h (sym r.sound ∙ y)).draft a);
-  }
+  module _ {asked : Option Index} (a-is : asked ≡ asked_of b') (h : SoundIn b.sound (spread p)) (i : b.sound ≡ true → ReadyIn (spread p) b.index) where
+    pub edit-trusted : (e : Edited) → edits.Trusted asked p e
+    edit-trusted e = rw a-is (record { indexed = λ d. theirs i; held = λ y. side_holds p (holding h y) (natural e.side) })
+
+    pub replay-trusted : Tallied b.counts (view p) → replays.Trusted p b'.counts.missing b'.counts.settled asked
+    replay-trusted t = rw a-is (record {
+      missing = λ a. ap (λ u. u.missing) r.counts ∙ missing_unset (spread p) b.counts t a;
+      settled = λ a. ap (λ u. u.settled) r.counts ∙ t.counted.settled;
+      indexed = λ a. theirs i;
+      held = λ y a. yes_is _ ((holding h y).draft a);
+    })

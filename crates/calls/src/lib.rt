@@ -2,7 +2,7 @@
 // where what is kept beside the plan is true of it, the answer and the plan are the protocol's, and what is kept stays true.
 #![tactic(auto)]
 
-ghost use Rattle.std.specs.Prelude.{◌≡◌, false, Some, None, Err};
+ghost use Rattle.std.specs.Prelude.{◌≡◌, false, cond, Some, None, Err, option_copied};
 ghost use Rattle.calls.specs.Makes.{Readied, Known, KnownIf, Changes, Made, is_show, side_named, Noted, Shows};
 ghost use Rattle.counts.specs.Tallies.{Tallied, unsent_in};
 ghost use Rattle.protocol.specs.Lists.{natural};
@@ -24,7 +24,7 @@ pub struct Told {
 }
 
 // What the owner of a plan keeps beside it: the counts of its kept edits, the index of its rules, and whether every rule is known to hold (`sound`), which is when
-// the index is asked.
+// the index is asked. The two stand apart, and are no option of an index, since it is made only once it is asked, and forgotten when the rules change.
 #[derive(Clone, Copy)]
 pub struct Beside {
     pub counts: Tallies,
@@ -69,6 +69,13 @@ impl Beside {
         ensures { Readied p.now self.old self.new }
     {
         self.index = Index::of(&p.table, p.head.rules);
+    }
+
+    // The index, where every rule is known to hold.
+    fn asked(&self) -> Option<&Index>
+        ensures { option_copied result ≡ cond self.now.sound (Some self.now.index) None }
+    {
+        self.sound.then_some(&self.index)
     }
 
     // A call was accepted: from the head before it, and whether the first log of the side that it names was there. After a drawing the rules are others.
@@ -117,21 +124,14 @@ fn changed(call: Call, p: &mut State, beside: &mut Beside) -> Answer
         Call::Split(s) => moves::split(p, s),
         Call::Edit(e) => {
             beside.ready(p);
-            edit::edit(p, e, &beside.index, beside.sound)
+            edit::edit(p, e, beside.asked())
         }
         Call::Join => moves::join(p),
         Call::Send(s) => moves::send(p, s, unsent(&beside.counts, s)),
         Call::Replay(n) => {
             beside.ready(p);
             let counts = &beside.counts;
-            replay::replay(
-                p,
-                n,
-                counts.missing,
-                counts.settled,
-                &beside.index,
-                beside.sound,
-            )
+            replay::replay(p, n, counts.missing, counts.settled, beside.asked())
         }
         Call::Stop => moves::stop(p, beside.counts.waiting),
         Call::Confirm(s) => moves::confirm(p, s, unsent(&beside.counts, s)),

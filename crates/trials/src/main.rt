@@ -11,7 +11,6 @@ use plan::{Answer, Answered, Given, Refusal, State};
 use protocol::call::{Call, Edit};
 use reader::Line;
 use replay::Outcome;
-use rules::Index;
 use std::io::Read;
 
 // A text is written out as it comes, and a write that fails ends nothing.
@@ -65,7 +64,7 @@ fn call(p: State, call: Call) -> Answered {
 
 // The rule for which an edit is refused, as what decides has it (02, S-3; no call gives it before S-7).
 fn broken_by_edit(p: &State, e: Edit) -> Option<u32> {
-    match edit::decide(p, e, &Index::new(), false) {
+    match edit::decide(p, e, None) {
         Err(Refusal::RuleBroken(rule)) => Some(rule),
         _ => None,
     }
@@ -73,7 +72,7 @@ fn broken_by_edit(p: &State, e: Edit) -> Option<u32> {
 
 // The same of a replay that is accepted: no first log is missing.
 fn broken_by_replay(p: &State, n: i32) -> Option<u32> {
-    match replay::decide(p, n, 0, &Index::new(), false) {
+    match replay::decide(p, n, 0, None) {
         Ok(Outcome::Revoked(rule)) => rule,
         _ => None,
     }
