@@ -44,7 +44,7 @@ use Rattle.reader.specs.Reads.{called}
 use Rattle.writer.specs.Writes.{with_row}
 use Rattle.calls.specs.declared.Beside.{Beside}
 use Rattle.calls.specs.declared.Told.{Told}
-use Rattle.calls.specs.Makes.{SoundIn, ReadyIn, Readied, Changes, Noted, Made, Shows, is_draw, side_named}
+use Rattle.calls.specs.Makes.{SoundIn, ReadyIn, Readied, Changes, Noted, Made, Shows, is_draw, log_before}
 
 -- ---- an answer
 
@@ -96,7 +96,7 @@ flag_is p s t =
     sym (ap (λ x. x.arrived) (side_at_lem (spread p) s r.0 (omega (arith, l, r.1))))
 
 -- what is noted is what the call makes of the counts
-noted-after : (c : Call) (p : State) (t : Tallies) → Pass (checks (asked c) (view p)) → noted c p.head (get_or p.arrived (index_of (side_named c)) false) t ≡ tally_after (asked c) (view p) t
+noted-after : (c : Call) (p : State) (t : Tallies) → Pass (checks (asked c) (view p)) → noted c p.head (log_before p c) t ≡ tally_after (asked c) (view p) t
 unfolding checks further
 noted-after (Measure v) p t g = refl
 noted-after (Rule lower gap upper firm) p t g = refl
@@ -114,7 +114,7 @@ noted-after (Fate n) p t g = refl
 noted-after Left p t g = refl
 
 module _ (c : Call) {p q : State} {a : Answer} (m : Makes (asked c) p a q) (t : Tallies) (h : Tallied t (view p)) where
-  pub tallied-accepted : is_ok a ≡ true → Tallied (noted c p.head (get_or p.arrived (index_of (side_named c)) false) t) (view q)
+  pub tallied-accepted : is_ok a ≡ true → Tallied (noted c p.head (log_before p c) t) (view q)
   tallied-accepted y =
       let s = if_accepted m y in
       let few : length (view p).content.sides ≤ 8 = (let l = sides-length (spread p) in let n = sides_most p.head in omega arith) in
@@ -209,7 +209,7 @@ left_plan p = refl
 -- ---- and what is kept beside the plan
 
 module _ (c : Call) {p q : State} {a : Answer} {b b' : Beside} (w : Changes c p b a q b') where
-  pub made_accepted : {b'' : Beside} → is_ok a ≡ true → Noted c p.head (get_or p.arrived (index_of (side_named c)) false) b' b''
+  pub made_accepted : {b'' : Beside} → is_ok a ≡ true → Noted c p.head (log_before p c) b' b''
       → Made (Some c) p b (record { answer = a; shown = None }) q b''
   unfolding step
   made_accepted y n = record {
@@ -217,7 +217,7 @@ module _ (c : Call) {p q : State} {a : Answer} {b b' : Beside} (w : Changes c p 
     plan = w.makes.plan;
     bare = λ e. refl;
     same = w.makes.same;
-    tallied = λ h. subst (λ t. Tallied t (view q)) (sym (n.counts ∙ ap (noted c p.head (get_or p.arrived (index_of (side_named c)) false)) w.counts))
+    tallied = λ h. subst (λ t. Tallied t (view q)) (sym (n.counts ∙ ap (noted c p.head (log_before p c)) w.counts))
         (tallied-accepted c w.makes b.counts h y);
     indexed = λ x. cases (is_draw c)
         (λ d made. absurd (is_yes (sym (n.stale d) ∙ made)))

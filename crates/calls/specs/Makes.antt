@@ -1,6 +1,6 @@
 -- Scaffolding: what every call promises, made on a plan and on what its owner keeps beside it: where that is true, the answer and the plan are the protocol's, what is
 -- kept stays true, and a refusal leaves the plan as it was. Assumes nothing.
-use Rattle.std.specs.Prelude.{ℕ, min, ◌≡◌, Bool, true, false, List, [], ℤ, Option, Some, None}
+use Rattle.std.specs.Prelude.{ℕ, min, ◌≡◌, Bool, true, false, List, [], get_or, ℤ, Option, Some, None}
 use Rattle.protocol.specs.Lists.{natural}
 use Rattle.protocol.specs.Plan.{rule_limit}
 use Rattle.protocol.specs.Asked.{asked}
@@ -12,7 +12,7 @@ use Rattle.rows.specs.Rows.{row}
 use Rattle.rules.specs.declared.Index.{Index}
 use Rattle.rules.specs.Index.{is_made, IndexedIf}
 use Rattle.heads.specs.declared.Head.{Head}
-use Rattle.heads.specs.Heads.{offset_of, measures_in}
+use Rattle.heads.specs.Heads.{index_of, offset_of, measures_in}
 use Rattle.state.specs.declared.State.{State}
 use Rattle.state.specs.Spread.{Spread, spread, plan_of}
 use Rattle.state.specs.View.{view}
@@ -137,22 +137,22 @@ pub record Changes (c : Call) (p : State) (b : Beside) (a : Answer) (q : State) 
   pub sound : b'.sound ≡ b.sound
   pub indexed : ReadyIn (spread p) b.index → ReadyIn (spread p) b'.index
 
--- the side that an edit or a send names
-abbrev pub side_named : Call → ℕ
-side_named (Measure v) = 0
-side_named (Rule lower gap upper firm) = 0
-side_named Open = 0
-side_named (Split s) = 0
-side_named (Edit e) = natural e.side
-side_named Join = 0
-side_named (Send s) = natural s
-side_named (Replay n) = 0
-side_named Stop = 0
-side_named (Confirm s) = 0
-side_named Install = 0
-side_named (Show s) = 0
-side_named (Fate n) = 0
-side_named Left = 0
+-- whether the first log of the side that an edit or a send names is there
+abbrev pub log_before : State → Call → Bool
+log_before p (Measure v) = false
+log_before p (Rule lower gap upper firm) = false
+log_before p Open = false
+log_before p (Split s) = false
+log_before p (Edit e) = get_or p.arrived (index_of (natural e.side)) false
+log_before p Join = false
+log_before p (Send s) = get_or p.arrived (index_of (natural s)) false
+log_before p (Replay n) = false
+log_before p Stop = false
+log_before p (Confirm s) = false
+log_before p Install = false
+log_before p (Show s) = false
+log_before p (Fate n) = false
+log_before p Left = false
 
 -- an accepted call noted: the counts, and that the index is no longer the rules' after a drawing
 pub record Noted (c : Call) (h : Head) (arrived : Bool) (b b' : Beside) : Type 0 where

@@ -3,7 +3,7 @@
 #![tactic(auto)]
 
 ghost use Rattle.std.specs.Prelude.{◌≡◌, false, cond, Some, None, Err, option_copied};
-ghost use Rattle.calls.specs.Makes.{Readied, Known, KnownIf, Changes, Made, is_show, side_named, Noted, Shows};
+ghost use Rattle.calls.specs.Makes.{Readied, Known, KnownIf, Changes, Made, is_show, log_before, Noted, Shows};
 ghost use Rattle.counts.specs.Tallies.{Tallied, unsent_in};
 ghost use Rattle.protocol.specs.Lists.{natural};
 ghost use Rattle.rules.specs.Index.{is_made};
@@ -89,14 +89,14 @@ impl Beside {
     }
 }
 
-// The side that an edit or a send names; 0 for any other call.
-fn side_named(call: Call) -> u32
-    ensures { result ≡ side_named call }
+// Whether the first log of the side that an edit or a send names is there.
+fn has_log(p: &State, call: Call) -> bool
+    ensures { result ≡ log_before p.now call }
 {
     match call {
-        Call::Edit(e) => exact::number(e.side),
-        Call::Send(s) => exact::number(s),
-        _ => 0,
+        Call::Edit(e) => p.arrived[heads::index(exact::number(e.side))],
+        Call::Send(s) => p.arrived[heads::index(exact::number(s))],
+        _ => false,
     }
 }
 
@@ -148,7 +148,7 @@ fn noted(call: Call, p: &mut State, beside: &mut Beside) -> Answer
     ensures { Known call beside.old p.old → Made (Some call) p.old beside.old (record { answer = result; shown = None }) p.new beside.new }
 {
     let before = p.head;
-    let arrived = p.arrived[heads::index(side_named(call))];
+    let arrived = has_log(p, call);
     let answer = changed(call, p, beside);
     if answer.is_ok() {
         beside.note(call, &before, arrived);

@@ -2,6 +2,7 @@ use borrow.Author.Rules.{rules}
 use mathlib.Core.Path.{◌≡◌, refl, ap, subst}
 use mir.Syntax.{w32}
 use mir.Val.{to_z, of_z}
+use Rattle.std.specs.Prelude.{is_ok}
 use Rattle.protocol.specs.Calls as model
 use Rattle.protocol.specs.declared.call.Call.TheVariants.{Rule, Edit, Send, Replay, Confirm, Fate, Left}
 use Rattle.heads.specs.declared.Head.{Head}
@@ -67,5 +68,5 @@ pub returns-in-Left : goal.returns-in-Left
 returns-in-Left c k =
     let a = c.args in
     let tallied = (rw c.in-Left.is at k).tallied refl in
-    let m = read (c.left.ensures.0 tallied) c.left.ensures.1 (left_plan (view a.p.now)) in
+    let m = read (c.left.ensures.step tallied) (ap is_ok c.left.ensures.exact) (left_plan (view a.p.now)) in
     rw c.in-Left.is (moved a.beside.now Left m (refl, refl))
