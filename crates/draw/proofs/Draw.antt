@@ -8,7 +8,7 @@ use borrow.Author.Tests.{ne_eqb}
 use lib.IntN.{ℤ, pos}
 use lib.Dec.{eqb→eq}
 use lib.ListN.{length, get_or, set}
-use Rattle.std.proofs.Common.{Ok, Err}
+use Rattle.std.proofs.Common.{Err}
 use Rattle.protocol.specs.Asked.{number_of}
 use Rattle.protocol.specs.Lists.{natural, is_none, snoc}
 use Rattle.protocol.specs.Plan.{Rule, blank, is, mode_number}
@@ -26,21 +26,17 @@ use Rattle.rules.proofs.Rules.{holds-is}
 use Rattle.heads.specs.declared.Head.{Head}
 use Rattle.heads.specs.Heads.{mode_of, sides_in, measures_in}
 use Rattle.state.specs.declared.State.{State}
-use Rattle.state.specs.declared.Given.{Given}
 use Rattle.state.specs.View.{view}
-use Rattle.state.specs.Spread.{Spread, spread, side_of, rules_of, MeetsSpread}
+use Rattle.state.specs.Spread.{Spread, spread, side_of, rules_of}
 use Rattle.state.specs.Meets.{Makes, number, done}
 use Rattle.state.proofs.View.{plan-same, sides-modify, sides-least, first-row, row_snoc, row-length}
-use Rattle.state.proofs.Steps.{refuses, accepts}
+use Rattle.state.proofs.Steps.{refuses, accepts, refused_makes, given_makes}
 use Rattle.draw.specs.Draw.{measure_checks, rule_checks, open_checks, measured, rule_asked, ruled, opened, LeavesRest}
 
 -- ---- what is promised of a state, from what its lists show
 
-refused_makes : {c : Call} {p : State} {r : Refusal} (cs : List Check) → first (checks c (view p)) ≡ first cs → refused (number_of r) ≡ first cs → Makes c p (Err r) p
-refused_makes {c} {p} {r} cs w e = let m = refuses {c = c} {p = spread p} cs r w (sym e) in record { answer = m.answer; plan = m.plan; same = refl }
-
-given_makes : {c : Call} {p q : State} {g : Given} → MeetsSpread c (spread p) (record { state = spread q; answer = Ok g }) → Makes c p (Ok g) q
-given_makes m = record { answer = m.answer; plan = m.plan; same = tt }
+checked_refused : {c : Call} {p : State} {r : Refusal} (cs : List Check) → first (checks c (view p)) ≡ first cs → refused (number_of r) ≡ first cs → Makes c p (Err r) p
+checked_refused {c} {p} {r} cs w e = refused_makes refl (refuses {c = c} {p = spread p} cs r w (sym e))
 
 -- ---- measure
 
@@ -56,7 +52,7 @@ unfolding checks further
 measure_checks_lem p v = rw (drawn_length p)
 
 pub measure_refused : (p : State) (v : ℤ) {r : Refusal} → refused (number_of r) ≡ first (measure_checks p.head v) → Makes (measure v) p (Err r) p
-measure_refused p v e = refused_makes (measure_checks p.head v) (measure_checks_lem p v) e
+measure_refused p v e = checked_refused (measure_checks p.head v) (measure_checks_lem p v) e
 
 longer : (p : State) (v : ℤ) → length p.values ≡ 256 → p.head.measures < 32
     → row (set p.values p.head.measures v) 0 (min (p.head.measures + 1) 32) ≡ snoc (row p.values 0 (measures_in p.head)) v
@@ -101,7 +97,7 @@ unfolding checks further
 rule_checks_lem p a c b f = rw (drawn_length p, rules-length (spread p))
 
 pub rule_refused : (p : State) (a c b f : ℤ) {r : Refusal} → refused (number_of r) ≡ first (rule_checks p.head (natural a) c (natural b) f) → Makes (rule a c b f) p (Err r) p
-rule_refused p a c b f e = refused_makes (rule_checks p.head (natural a) c (natural b) f) (rule_checks_lem p a c b f) e
+rule_refused p a c b f e = checked_refused (rule_checks p.head (natural a) c (natural b) f) (rule_checks_lem p a c b f) e
 
 -- a rule as the protocol has it, and rule k of a table
 abbrev drawn_as : stored.Rule → Rule
@@ -175,7 +171,7 @@ open_checks_lem p =
     rw (drawn_length p, first-row (spread p), holds-is (lowers p.table) (gaps p.table) (uppers p.table) (firms p.table) (min p.head.rules 64) (row p.values 0 (measures_in p.head)))
 
 pub open_refused : (p : State) {r : Refusal} → refused (number_of r) ≡ first (open_checks p.head (lowers p.table) (gaps p.table) (uppers p.table) p.values) → Makes open_plan p (Err r) p
-open_refused p e = refused_makes (open_checks p.head (lowers p.table) (gaps p.table) (uppers p.table) p.values) (open_checks_lem p) e
+open_refused p e = checked_refused (open_checks p.head (lowers p.table) (gaps p.table) (uppers p.table) p.values) (open_checks_lem p) e
 
 open_next : (p : State) → is blank (mode_of p.head.mode) ≡ true → view (opened p) ≡ after open_plan (view p).mode (view p).content
 unfolding after

@@ -36,6 +36,7 @@ use Rattle.state.specs.declared.State.{State}
 use Rattle.state.specs.declared.Given.TheVariants.{One}
 use Rattle.state.specs.Spread.{Spread, spread, plan_of, side_of, rules_of, named_in, refused_as, MeetsSpread}
 use Rattle.state.specs.Meets.{Answer, Makes, number}
+use Rattle.state.proofs.Steps.{refused_makes, given_makes}
 use Rattle.state.proofs.Meets.{refused_meets, accepted_meets, fine_pass}
 use Rattle.state.proofs.View.{plan-same, sides_most, sides-length, side_at_lem, sides-modify, lookup-named}
 use Rattle.edit.specs.declared.Granted.{Granted}
@@ -297,7 +298,7 @@ module _ (sound : Bool) (index : Index) (p : State) (e : Edit) (t : Trusted soun
   By r = Ruled (tested_by sound index) (firm_by sound index) (spread p) e r
 
   pub edit_refuses : (r : Refusal) → By (Err r) → Makes (edit e.side e.client e.after e.measure e.kind e.constant) p (Err r) p
-  edit_refuses r w = let x = refuses (spread p) e r (ruled-plain sound index p e t w) in record { answer = x.answer; plan = x.plan; same = refl }
+  edit_refuses r w = refused_makes refl (refuses (spread p) e r (ruled-plain sound index p e t w))
 
   pub edit_names : (r : Refusal) → By (Err r) → (k : ℕ) → ◌≡◌ {A = Answer} (Err r) (Err (RuleBroken k))
       → k ≡ broken_rule (plan_of (spread p)).content.rules (made (natural e.measure) (asks e) (side_at (plan_of (spread p)).content (natural e.side)).values)
@@ -305,4 +306,4 @@ module _ (sound : Bool) (index : Index) (p : State) (e : Edit) (t : Trusted soun
 
   pub edit_accepts : (g : Granted) → By (Ok g) → length p.values ≡ 256 → (is whole (mode_of p.head.mode) ≡ false → length p.edits ≡ 256)
       → Makes (edit e.side e.client e.after e.measure e.kind e.constant) p (Ok (One p.head.next)) (edited p e g)
-  edit_accepts g w long wide = let x = accepts (spread p) e g (ruled-plain sound index p e t w) long wide in record { answer = x.answer; plan = x.plan; same = tt }
+  edit_accepts g w long wide = given_makes (accepts (spread p) e g (ruled-plain sound index p e t w) long wide)

@@ -25,7 +25,7 @@ blank-view : view blank_state ≡ start
 blank-view = refl
 
 -- the refusal number that show lends beside its part, 0 if it is accepted
-number : Verdict → ℕ
+abbrev number : Verdict → ℕ
 number fine = 0
 number (refused k) = k
 

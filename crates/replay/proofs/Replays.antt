@@ -37,7 +37,7 @@ use Rattle.state.specs.Spread.{Spread, spread, plan_of, rules_of, named_in, Meet
 use Rattle.state.specs.Meets.{Answer, Makes, number}
 use Rattle.state.proofs.View.{plan-same, flags_unset, lookup-named}
 use Rattle.state.proofs.Meets.{fine_pass}
-use Rattle.state.proofs.Steps.{refuses, accepts}
+use Rattle.state.proofs.Steps.{refuses, accepts, refused_makes, given_makes}
 use Rattle.replay.specs.declared.Outcome.{Outcome}
 use Rattle.replay.specs.declared.Outcome.TheVariants.{Accepted, Revoked}
 use Rattle.replay.proofs.Checks.{named_at_place}
@@ -238,8 +238,7 @@ module _ (p : State) (n : ℤ) where
   pub replay_refused : {missing settled : ℕ} {index : Index} {sound : Bool} {r : Refusal} {a : Answer} → Trusted p missing settled index sound → a ≡ Err r
       → refused (number_of r) ≡ first (checks_in before missing n) → Makes (replay n) p a p
   replay_refused {missing = missing} {r = r} known a-is f =
-      let m = refuses {c = replay n} {p = before} (checks_in before missing n) r (checks_known before n known.missing) (sym f) in
-      subst (λ x. Makes (replay n) p x p) (sym a-is) (record { answer = m.answer; plan = m.plan; same = refl })
+      refused_makes a-is (refuses {c = replay n} {p = before} (checks_in before missing n) r (checks_known before n known.missing) (sym f))
 
   -- the state after it, where the checks pass
   next_meets : {missing settled : ℕ} {index : Index} {sound : Bool} (i : ℕ) → length p.draft ≡ 32 → length p.edits ≡ 256 → Trusted p missing settled index sound
@@ -266,6 +265,5 @@ module _ (p : State) (n : ℤ) where
       → Makes (replay n) p (number (fate_number (fate_of (outcome_fate o)))) (settled_in p i o settled)
   replay_meets {missing = missing} {settled = settled'} i draft-is edits-is known f at few o-is =
       let active-is = (fine_pass (checks_in before missing n) f).0 in
-      let m = next_meets i draft-is edits-is known f at few in
       subst (λ x. Makes (replay n) p (number (fate_number (fate_of (outcome_fate x)))) (settled_in p i x settled')) (sym (o-is ∙ outcome_decided p (named_in before (natural n)) known active-is ∙ found_as before n))
-      (record { answer = m.answer; plan = m.plan; same = tt })
+      (given_makes (next_meets i draft-is edits-is known f at few))

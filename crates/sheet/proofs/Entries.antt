@@ -15,32 +15,24 @@ use Rattle.protocol.specs.Calls as model
 use Rattle.protocol.specs.Calls.{Call, Verdict, fine, refused, first, no, ok, Stepped, following, start}
 use Rattle.protocol.proofs.Laws.{cases, range, bit_most}
 use Rattle.format.specs.Lines.{line_feed, lines, grow}
-use Rattle.format.specs.Sheets.{text, line_step, answer_lines, leaves, fitted, in_front, replies, Screened, screen}
+use Rattle.format.specs.Sheets.{text, line_step, answer_lines, leaves, fitted, in_front, replies, too_long, screen}
 use Rattle.format.specs.Longest.{longest_answer}
 use Rattle.format.proofs.Longest.{Narrow, short, narrow_step, narrow_line, longest}
 use Rattle.file.specs.Saved.{saved, save, save_into, save_by, save_checks, filled_by}
-use Rattle.file.specs.Loaded.{next_limit, renumbered}
+use Rattle.file.specs.Loaded.{next_limit, renumbered, load}
 use Rattle.file.proofs.Kept.{load_keeps}
-use Rattle.state.specs.declared.State.{State}
-use Rattle.state.specs.Spread.{spread}
-use Rattle.state.specs.Sizes.{Sized}
-use Rattle.state.specs.View.{view, state_of, blank_state}
-use Rattle.heads.specs.declared.Head.{Head}
-use Rattle.records.specs.declared.EditRecord.{EditRecord}
-use Rattle.rules.proofs.Table.{lowers-length, gaps-length, uppers-length, firms-length}
 use Rattle.guarantee.specs.Holding.{Holding}
 use Rattle.guarantee.proofs.Holding.{holding_step, holding_start}
-use Rattle.load.specs.Drawing.{load_answer, LoadedAs}
-use Rattle.run.specs.Advance.{Lent}
-use Rattle.state.specs.declared.Answer.{Answer}
-use Rattle.state.specs.declared.Answer.TheVariants.{Refused, Given}
-use Rattle.state.specs.Meets.{first_of, answer_of}
+use Rattle.protocol.specs.declared.refusal.Refusal.{Refusal}
 use Rattle.run.specs.Progress.{Ran, ran, Advanced}
-use Rattle.run.proofs.Putting.{text-some}
+use Rattle.std.specs.Prelude.{Option, Some, None, Result, Ok, Err}
+use Rattle.std.specs.Result.{result_unwrap_or}
 use Rattle.sheet.specs.Runs.{handed_back}
-use Rattle.sheet.specs.Served.{begun_on, begun_as, BegunFrom, entry_number, scaled_as, long_as, served_on}
+use Rattle.sheet.specs.Served.{begun_as, Outcome, outcome_of, entry_number, entry_of, saved_as, plan_saved, long_as, served_on, served_in, served}
+use Rattle.sheet.specs.declared.Wanted.{Wanted}
+use Rattle.sheet.specs.declared.Wanted.TheVariants.{Answers, Saved}
 use Rattle.sheet.proofs.Runs.{written_is, written_most, screened-is}
-use Rattle.sheet.specs.Entries.{on_loaded, plan_of, saved_by, save_from}
+use Rattle.sheet.specs.Entries.{load_entry, save_entry, save_on_entry, refused_with, giving, on_loaded, plan_of, saved_by, save_from}
 
 -- ---- how much a run can write
 
@@ -79,11 +71,11 @@ number_small room p sheet g h written e ended n k =
 -- ---- the plan that an entry begins on is narrow: what calls and another next number keep holds in it
 
 begun_keeps : (P : Plan → Type 0) → ((c : Call) (p : Plan) → P p → P (following p c)) → ((n : ℕ) (p : Plan) → T (one_to next_limit n) → P p → P (renumbered n p)) → P start
-    → (loads : Bool) (file : List ℕ) → P (begun_as loads file).plan
-begun_keeps P by_call by_number g true file = load_keeps P by_call by_number file start g
-begun_keeps P by_call by_number g false file = g
+    → (file : Option (List ℕ)) → P (begun_as file).plan
+begun_keeps P by_call by_number g (Some file) = load_keeps P by_call by_number file start g
+begun_keeps P by_call by_number g None = g
 
-narrow_begun : (loads : Bool) (file : List ℕ) → Narrow (begun_as loads file).plan.content
+pub narrow_begun : (file : Option (List ℕ)) → Narrow (begun_as file).plan.content
 narrow_begun = begun_keeps (λ p. Narrow p.content) narrow_step
     (λ n p t g. let r = range next_limit n t in record {
       rules = g.rules;
@@ -98,54 +90,26 @@ narrow_begun = begun_keeps (λ p. Narrow p.content) narrow_step
     (record { rules = omega arith; next = short (pos 1) (omega arith); base = tt; draft = tt; sides = omega arith; values = tt; kept = omega arith; places = tt })
 
 -- and every rule holds in it
-holding_begun : (loads : Bool) (file : List ℕ) → Holding (begun_as loads file).plan.mode (begun_as loads file).plan.content
+pub holding_begun : (file : Option (List ℕ)) → Holding (begun_as file).plan.mode (begun_as file).plan.content
 holding_begun = begun_keeps (λ p. Holding p.mode p.content) holding_step (λ n p t g. record { alone = g.alone; sides = g.sides; base = g.base; draft = g.draft }) holding_start
 
--- ---- a blank state, and what is begun from it
-
-blank-sized : Sized (spread blank_state)
-blank-sized = record {
-  base = refl;
-  draft = refl;
-  values = refl;
-  arrived = refl;
-  confirmed = refl;
-  lower = lowers-length blank_state.table;
-  gap = gaps-length blank_state.table;
-  upper = uppers-length blank_state.table;
-  firm = firms-length blank_state.table;
-  edits = refl;
-}
-
-pub begun-by : (loads : Bool) (file : List ℕ) {k : ℕ} {h h' : Head} {values table values' table' : List ℤ} {base draft : List ℤ} {arrived confirmed : List Bool} {edits : List EditRecord}
-    → BegunFrom loads file k h values table h' values' table' → state_of h base draft values arrived confirmed table edits ≡ blank_state
-    → LoadedAs (begun_as loads file) k (state_of h' base draft values' arrived confirmed table' edits)
-begun-by loads file {k = k} {h' = h'} {values' = values'} {table' = table'} {base = base} {draft = draft} {arrived = arrived} {confirmed = confirmed} {edits = edits} b e =
-    subst (λ p. LoadedAs (begun_on loads file (view p)) k (state_of h' base draft values' arrived confirmed table' edits)) e
-    (b base draft arrived confirmed edits (subst (λ p. Sized (spread p)) (sym e) blank-sized) (ap (λ p. length p.table) e))
-
-module _ (loads : Bool) (file : List ℕ) {k : ℕ} {q : State} (b : LoadedAs (begun_as loads file) k q) (z : k ≡ 0) where
-  pub begun_lent : Lent true q
-  begun_lent = (b.sized, b.long, λ s. subst (λ (p : Plan). Holding p.mode p.content) (sym (b.plan z)) (holding_begun loads file))
-
-  pub begun_narrow : Narrow (view q).content
-  begun_narrow = subst (λ (p : Plan). Narrow p.content) (sym (b.plan z)) (narrow_begun loads file)
-
 -- ---- the plan of a sheet, played with no room for its answers
+
+-- no answer is empty
+text-some : (a : model.Answer) → 0 < length (text a)
+unfolding text
+text-some (no k) = omega arith
+text-some (ok xs) = omega arith
 
 pub played : (p : Plan) (ls : List (List ℕ)) → ran true 0 0 p ls ≡ record { bytes = []; rest = []; plan = leaves p ls; ended = false }
 unfolding ran
 played p [] = refl
 played p (l ∷ ls) =
     let t = text (line_step l p).answer in
-    let some = text-some t (line_step l p).answer refl in
+    let some = text-some (line_step l p).answer in
     rw (le-ltb 0 0 (omega arith), lt-leb (length t) 0 some) (played (line_step l p).plan ls)
 
 -- ---- saving
-
-given-first : (count a b c n : ℕ) → ◌≡◌ {A = model.Answer} (ok (first_of count a b c)) (ok (pos n ∷ [])) → a ≡ n
-given-first zero a b c n e = absurd (let z : ◌≡◌ {A = ℕ} 0 1 = cc in omega arith)
-given-first (suc m) a b c n e = cc
 
 -- what saving gives, and the buffer of one that is refused
 save-given : (q : Plan) (room : ℕ) (xs : List ℤ) → (save room q).answer ≡ ok xs → (save room q).answer ≡ ok (pos (length (saved q)) ∷ [])
@@ -160,22 +124,17 @@ refused-buffer : (q : Plan) (buffer : List ℕ) (k : ℕ) → (save (length buff
 unfolding save_into
 refused-buffer q buffer k e = ap (λ x. filled_by x (saved q) buffer) e
 
--- the number handed back, from the answer of the call
-pub saved-number : (p q : Plan) (sheet buffer : List ℕ) (a : Answer) (after : List ℕ) (n : ℕ) → length sheet ≤ 65536 → q ≡ plan_of p sheet → answer_of a ≡ (save (length buffer) q).answer
-    → after ≡ save_into q buffer → n ≡ entry_number a → handed_back n after ≡ save_from p sheet buffer
-unfolding save_from
-saved-number p q sheet buffer a after n h e f g k =
-    let short = le-ltb 65536 (length sheet) h in
-    let by-plan = ap (λ x. saved_by (save (length buffer) x).answer x buffer) e in
-    rw short (by_answer a f k ∙ by-plan)
-  where
-    -- a refusal leaves the buffer; an acceptance gives the length
-    by_answer : (a : Answer) → answer_of a ≡ (save (length buffer) q).answer → n ≡ entry_number a → handed_back n after ≡ saved_by (save (length buffer) q).answer q buffer
-    by_answer (Refused m r) x y = subst (λ z. handed_back n after ≡ saved_by z q buffer) x (ap₂ handed_back y (g ∙ refused-buffer q buffer m (sym x)))
-    by_answer (Given count u v w) x y =
-        let z = save-given q (length buffer) (first_of count u v w) (sym x) in
-        let len : u ≡ length (saved q) = given-first count u v w (length (saved q)) (x ∙ z) in
-        subst (λ z. handed_back n after ≡ saved_by z q buffer) x (ap₂ handed_back (y ∙ ap (λ m. 256 * m) len) g)
+module _ (q : Plan) (buffer after : List ℕ) (f : after ≡ save_into q buffer) where
+  -- a refusal leaves the buffer
+  pub saved_refused : (k : ℕ) → no k ≡ (save (length buffer) q).answer → ◌≡◌ {A = Outcome} (Err (refused_with k after)) (plan_saved q buffer)
+  saved_refused k x = subst (λ z. ◌≡◌ {A = Outcome} (Err (refused_with k after)) (saved_as z q buffer)) x (ap (λ b. Err (refused_with k b)) (f ∙ refused-buffer q buffer k (sym x)))
+
+  -- an acceptance gives the length, and nothing else
+  pub saved_number : (n : ℕ) → ok (pos n ∷ []) ≡ (save (length buffer) q).answer → ◌≡◌ {A = Outcome} (Ok (handed_back n after)) (plan_saved q buffer)
+  saved_number n x =
+      let e : ◌≡◌ {A = model.Answer} (ok (pos n ∷ [])) (ok (pos (length (saved q)) ∷ [])) = x ∙ save-given q (length buffer) (pos n ∷ []) (sym x) in
+      let len : n ≡ length (saved q) = cc in
+      subst (λ z. ◌≡◌ {A = Outcome} (Ok (handed_back n after)) (saved_as z q buffer)) x (ap₂ (λ m b. Ok (handed_back m b)) len f)
 
 -- ---- the run of an entry, in front of the buffer
 
@@ -206,13 +165,12 @@ module _ (saves : Bool) (sheet area : List ℕ) (p : Plan) (room : ℕ) (room-is
     pub run_small : Narrow p.content → length sheet ≤ 65536 → (n : ℕ) → n ≡ 2 * written + bit ended → n < 4294967296
     run_small g l n k = number_small (length area) p sheet g l written (written_is p sheet area front q next written ended answered) ended n k
 
-    pub run-served : (loads : Bool) → length sheet ≤ 65536 → (n : ℕ) → n ≡ 2 * written + bit ended → (m : ℕ) → m ≡ cond loads (256 * n) n
-        → handed_back m (front ++ drop room area) ≡ served_on loads saves sheet area p
-    run-served loads l n k m j =
+    pub run-served : length sheet ≤ 65536 → (n : ℕ) → n ≡ 2 * written + bit ended → handed_back n (front ++ drop room area) ≡ screen p sheet area
+    run-served l n k =
         let s = screened-is p sheet area front q next written ended answered n k (le-ltb 65536 (length sheet) l) in
         let none : drop room area ≡ [] = drop_of_length-le area {i = room} (omega (arith, all_room)) in
         let b : front ++ drop room area ≡ front = ap (λ xs. front ++ xs) none ∙ append-nil front in
-        rw e (ap₂ handed_back j b ∙ ap (scaled_as loads) s)
+        ap (handed_back n) b ∙ s
 
   -- one that saves has none
   module _ (e : saves ≡ true) where
@@ -231,24 +189,65 @@ module _ (saves : Bool) (sheet area : List ℕ) (p : Plan) (room : ℕ) (room-is
         let none : front ≡ [] = played_on.buffer ∙ ap (λ (r : Ran). in_front r.bytes []) (played p (lines sheet)) in
         ap₂ (λ xs n. xs ++ drop n area) none no_room
 
-    pub save-served : (loads : Bool) → length sheet ≤ 65536 → (a : Answer) (after : List ℕ) → answer_of a ≡ (save (length (front ++ drop room area)) q).answer
-        → after ≡ save_into q (front ++ drop room area) → (n : ℕ) → n ≡ entry_number a → handed_back n after ≡ served_on loads saves sheet area p
-    save-served loads l a after x y n k =
-        rw e (saved-number p q sheet area a after n l plan-is (x ∙ ap (λ xs. (save (length xs) q).answer) untouched) (y ∙ ap (save_into q) untouched) k)
+    pub save-served : length sheet ≤ 65536 → (s : Outcome) → s ≡ plan_saved q (front ++ drop room area) → s ≡ served_on Saved sheet area p
+    save-served l s k = let short = le-ltb 65536 (length sheet) l in rw short (k ∙ ap₂ plan_saved plan-is untouched)
 
 -- a sheet that is too long
-pub long-served : (loads saves : Bool) (sheet area : List ℕ) (p : Plan) → 65536 < length sheet → long_as loads saves area ≡ served_on loads saves sheet area p
-unfolding screen replies save_from
-long-served loads saves sheet area p h = let t = lt-ltb 65536 (length sheet) h in rw t
+pub long-served : (wanted : Wanted) (sheet area : List ℕ) (p : Plan) → 65536 < length sheet → long_as wanted area ≡ served_on wanted sheet area p
+unfolding screen replies
+long-served Answers sheet area p h = let t = lt-ltb 65536 (length sheet) h in rw t
+long-served Saved sheet area p h = let t = lt-ltb 65536 (length sheet) h in rw t
 
 -- ---- on the plan that an entry begins on
 
-module _ (l : Stepped) (buffer : List ℕ) (g : Plan → Screened) (k : ℕ) (a-is : l.answer ≡ load_answer k) where
+module _ (l : Stepped) (buffer : List ℕ) (g : Plan → Outcome) where
   -- a file that is refused
-  pub turned : (k ≡ 0 → ⊥) → handed_back k buffer ≡ on_loaded l buffer g
-  turned n = subst (λ y. handed_back k buffer ≡ on_loaded (record { answer = y; plan = l.plan }) buffer g) (sym (a-is ∙ ap (λ b. cond b (ok []) (no k)) (ne_eqb k 0 n))) refl
+  pub turned : (k : ℕ) → l.answer ≡ no k → ◌≡◌ {A = Outcome} (Err (refused_with k buffer)) (served_in l buffer g)
+  turned k e = subst (λ y. ◌≡◌ {A = Outcome} (Err (refused_with k buffer)) (served_in (record { answer = y; plan = l.plan }) buffer g)) (sym e) refl
 
   -- one that loads, or none
-  pub taken : k ≡ 0 → (q : Plan) → q ≡ l.plan → (s : Screened) → s ≡ g q → s ≡ on_loaded l buffer g
-  taken z q e s j =
-      j ∙ ap g e ∙ subst (λ y. g l.plan ≡ on_loaded (record { answer = y; plan = l.plan }) buffer g) (sym (a-is ∙ ap (λ b. cond b (ok []) (no k)) (eq-eqb k 0 z))) refl
+  pub taken : l.answer ≡ ok [] → (q : Plan) → q ≡ l.plan → (s : Outcome) → s ≡ g q → s ≡ served_in l buffer g
+  taken a q e s j = j ∙ ap g e ∙ subst (λ y. g l.plan ≡ served_in (record { answer = y; plan = l.plan }) buffer g) (sym a) refl
+
+-- ---- each entry from all
+
+pub number_of_entry : (v : Result ℕ Refusal) (buffer : List ℕ) → handed_back (entry_number v) buffer ≡ entry_of (outcome_of v buffer)
+number_of_entry (Ok n) buffer = refl
+number_of_entry (Err r) buffer = refl
+
+pub run_on_entry : (file sheet buffer : List ℕ) → entry_of (served (Some file) Answers sheet buffer) ≡ load_entry file sheet buffer
+unfolding load_entry
+run_on_entry file sheet buffer = by (load file start).answer
+  where
+    by : (a : model.Answer) → entry_of (served_in (record { answer = a; plan = (load file start).plan }) buffer (served_on Answers sheet buffer))
+        ≡ on_loaded (record { answer = a; plan = (load file start).plan }) buffer (λ p. giving (screen p sheet buffer))
+    by (no k) = refl
+    by (ok xs) = refl
+
+saving-entry : (sheet buffer : List ℕ) (p : Plan) → entry_of (served_on Saved sheet buffer p) ≡ save_from p sheet buffer
+unfolding save_from
+saving-entry sheet buffer p = cases (too_long sheet)
+    (λ e. rw e)
+    (λ e. rw e (by (save (length buffer) (plan_of p sheet)).answer))
+  where
+    by : (a : model.Answer) → entry_of (saved_as a (plan_of p sheet) buffer) ≡ saved_by a (plan_of p sheet) buffer
+    by (no k) = refl
+    by (ok xs) = refl
+
+pub save_of_entry : (sheet buffer : List ℕ) → entry_of (served None Saved sheet buffer) ≡ save_entry sheet buffer
+unfolding save_entry
+save_of_entry sheet buffer = saving-entry sheet buffer start
+
+pub save_on_of_entry : (file sheet buffer : List ℕ) → entry_of (served (Some file) Saved sheet buffer) ≡ save_on_entry file sheet buffer
+unfolding save_on_entry
+save_on_of_entry file sheet buffer = by (load file start).answer
+  where
+    by : (a : model.Answer) → entry_of (served_in (record { answer = a; plan = (load file start).plan }) buffer (served_on Saved sheet buffer))
+        ≡ on_loaded (record { answer = a; plan = (load file start).plan }) buffer (λ p. save_from p sheet buffer)
+    by (no k) = refl
+    by (ok xs) = saving-entry sheet buffer (load file start).plan
+
+-- the entry that is never refused gives the number itself
+pub whole_run : (v : Result ℕ Refusal) (sheet buffer after : List ℕ) → outcome_of v after ≡ served None Answers sheet buffer → handed_back (result_unwrap_or v 0) after ≡ screen start sheet buffer
+whole_run (Ok n) sheet buffer after e = cc
+whole_run (Err r) sheet buffer after e = cc

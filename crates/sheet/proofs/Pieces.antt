@@ -29,7 +29,10 @@ use Rattle.state.specs.View.{view}
 use Rattle.state.proofs.View.{sides_most}
 use Rattle.state.proofs.Owned.{Ranged}
 use Rattle.run.specs.Progress.{Ran, behind_ran, ran, Advanced}
-use Rattle.sheet.specs.Runs.{handed_back}
+use Rattle.std.specs.Prelude.{Option, Some, None}
+use Rattle.writer.specs.Writes.{put_in, put_count}
+use Rattle.sheet.specs.Served.{alone}
+use Rattle.sheet.proofs.Runs.{alone_some, alone_none}
 use Rattle.sheet.specs.Pieces.{flat, due, Pieced, Pieces, over, piece}
 
 -- ---- a state's plan is narrow
@@ -187,35 +190,23 @@ module _ (sheet : List ℕ) (from : ℕ) (p : State) (lent : List ℕ) where
     further = λ a b. ⊎_elim (λ l. absurd (omega arith)) (λ l. absurd (omega arith)) why;
   }
 
-  -- and by the number that came with its refusal
-  module _ (far : 65536 < length sheet) (n : ℕ) (after : List ℕ) (h : handed_back n after ≡ screened (fitted (length lent) (text (no 52) ∷ [])) lent) where
-    told_52 : ((n ≡ 12) × (6 ≤ length lent) × (after ≡ in_front (text (no 52)) lent)) ⊎ ((n ≡ 1) × (length lent < 6) × (after ≡ lent))
-    unfolding fitted text digits
-    told_52 = cases (leb 6 (length lent))
-        (λ e. let f = rw e at h in inl (ap (λ s. s.number) f, leb-true 6 (length lent) e, ap (λ s. s.buffer) f))
-        (λ e. let f = rw e at h in inr (ap (λ s. s.number) f, leb-false 6 (length lent) e, ap (λ s. s.buffer) f))
+  -- and by what its refusal took
+  module _ (far : 65536 < length sheet) (after : List ℕ) (put : Option ℕ) (f : after ≡ put_in alone lent) (e : put ≡ put_count alone lent) where
+    pub piece_short : put ≡ None → Pieced sheet from p lent (record { state = p; next = from; written = 0 }) after
+    piece_short k = let t = alone_none lent after put f e k in subst (Pieced sheet from p lent (record { state = p; next = from; written = 0 })) (sym t.1) (piece-none far (inl (omega (arith, t.0))))
 
-    pub piece_short : n ≢ 12 → Pieced sheet from p lent (record { state = p; next = from; written = 0 }) after
-    piece_short k = ⊎_elim
-        (λ t. absurd (k t.0))
-        (λ t. subst (Pieced sheet from p lent (record { state = p; next = from; written = 0 })) (sym t.2) (piece-none far (inl (omega (arith, t.1)))))
-        told_52
-
-    pub piece-refused : n ≡ 12 → from < length sheet → Pieced sheet from p lent (record { state = p; next = length sheet; written = 6 }) after
+    pub piece-refused : (n : ℕ) → put ≡ Some n → from < length sheet → Pieced sheet from p lent (record { state = p; next = length sheet; written = n }) after
     unfolding text digits
-    piece-refused k left = ⊎_elim
-        (λ t. record {
-          told = text (no 52) ∷ [];
-          parts = rw (lt-ltb 65536 (length sheet) far, lt-ltb from (length sheet) left, le-ltb (length sheet) (length sheet) (omega arith));
-          plan = λ e. absurd (subst T (sym (lt-ltb 65536 (length sheet) far) ∙ e) tt);
-          rest = λ e. absurd (subst T (sym (lt-ltb 65536 (length sheet) far) ∙ e) tt);
-          written = refl;
-          room = t.1;
-          buffer = t.2;
-          further = λ a c. left;
-        })
-        (λ t. absurd (omega (arith, t.0)))
-        told_52
+    piece-refused n k left = let t = alone_some lent after put f e n k in record {
+      told = text (no 52) ∷ [];
+      parts = rw (lt-ltb 65536 (length sheet) far, lt-ltb from (length sheet) left, le-ltb (length sheet) (length sheet) (omega arith));
+      plan = λ e. absurd (subst T (sym (lt-ltb 65536 (length sheet) far) ∙ e) tt);
+      rest = λ e. absurd (subst T (sym (lt-ltb 65536 (length sheet) far) ∙ e) tt);
+      written = t.0;
+      room = omega (arith, t.0, t.1);
+      buffer = t.2;
+      further = λ a c. left;
+    }
 
 -- ---- all pieces
 

@@ -1,13 +1,13 @@
 -- A run with nothing held in reserve is the screen's. Assumes nothing.
 use Prim.Native.Nat.{ℕ, ◌+◌, ◌*◌, ◌-◌, ◌<◌, ◌≤◌}
 use native.Mathlib.Omega.{arith}
-use mathlib.Core.Path.{◌≡◌, refl, ap, ap₂, ◌∙◌}
+use mathlib.Core.Path.{◌≡◌, refl, sym, ap, ap₂, ◌∙◌}
 use mathlib.Core.Bool.{Bool, true, false}
 use mathlib.Core.List.{List, [], ◌∷◌}
-use borrow.Author.Tests.{le-ltb, leb-true, le-leb, lt-leb}
+use borrow.Author.Tests.{le-ltb, leb-true, leb-false, le-leb, lt-leb}
 use lib.Dec.{leb, ltb}
 use lib.ListN.{length, take, drop, length-append}
-use lib.Seq.{sets, length-sets}
+use Rattle.std.specs.Prelude.{Option, Some, None}
 use Rattle.protocol.specs.Lists.{bit}
 use Rattle.protocol.specs.Plan.{Plan}
 use Rattle.protocol.specs.Calls.{no}
@@ -16,7 +16,8 @@ use Rattle.format.specs.Lines.{lines}
 use Rattle.format.specs.Numbers.{digits}
 use Rattle.format.specs.Sheets.{text, line_step, answer_lines, replies, Fitted, behind, fitted, in_front, Screened, screened, screen}
 use Rattle.run.specs.Progress.{Ran, ran, Advanced}
-use Rattle.format.proofs.Fronts.{sets_front}
+use Rattle.writer.specs.Writes.{put_in, put_count}
+use Rattle.sheet.specs.Served.{alone}
 use Rattle.sheet.specs.Runs.{handed_back}
 
 abbrev whole_of : Ran → Fitted
@@ -63,29 +64,27 @@ module _ (p : Plan) (sheet area after : List ℕ) (q : Plan) (next written : ℕ
 
 -- ---- a sheet that is too long
 
--- `no 52` and its line feed
-abbrev pub alone : List ℕ
-alone = 110 ∷ 111 ∷ 32 ∷ 53 ∷ 50 ∷ 10 ∷ []
-
 alone-text : text (no 52) ≡ alone
 unfolding text digits
 alone-text = refl
 
--- the room stays as its bytes are written
-pub alone-room : (area : List ℕ) (k : ℕ) → 6 ≤ length area → 6 ≤ length (sets area 0 (take k alone))
-alone-room area k h = let l = length-sets area 0 (take k alone) in omega arith
+-- it goes in whole, or not at all
+module _ (area after : List ℕ) (put : Option ℕ) (f : after ≡ put_in alone area) (e : put ≡ put_count alone area) where
+  pub alone_some : (n : ℕ) → put ≡ Some n → (n ≡ 6) × (6 ≤ length area) × (after ≡ in_front alone area)
+  alone_some n k = cases (leb 6 (length area))
+      (λ t. ((let y : ◌≡◌ {A = Option ℕ} (Some n) (Some 6) = sym k ∙ e ∙ rw t in cc), leb-true 6 (length area) t, rw f (rw t)))
+      (λ t. let y : ◌≡◌ {A = Option ℕ} (Some n) None = sym k ∙ e ∙ rw t in absurd (let z : ◌≡◌ {A = ℕ} 0 1 = cc in omega arith))
 
-module _ (area : List ℕ) (m : ℕ) where
-  pub alone_unfit : length area < 6 → m ≡ 2 * 0 + bit true → handed_back m area ≡ screened (fitted (length area) (text (no 52) ∷ [])) area
-  unfolding fitted
-  alone_unfit h e = rw (alone-text, lt-leb 6 (length area) h) (ap (λ k. handed_back k area) e)
+  pub alone_none : put ≡ None → (length area < 6) × (after ≡ area)
+  alone_none k = cases (leb 6 (length area))
+      (λ t. let y : ◌≡◌ {A = Option ℕ} None (Some 6) = sym k ∙ e ∙ rw t in absurd (let z : ◌≡◌ {A = ℕ} 0 1 = cc in omega arith))
+      (λ t. (leb-false 6 (length area) t, rw f (rw t)))
 
-  pub alone_fit : 6 ≤ length area → m ≡ 2 * 6 + bit false → handed_back m (sets area 0 alone) ≡ screened (fitted (length area) (text (no 52) ∷ [])) area
+  -- and its number
+  pub told_some : (n : ℕ) → put ≡ Some n → (m : ℕ) → m ≡ 2 * n + bit false → handed_back m after ≡ screened (fitted (length area) (text (no 52) ∷ [])) area
   unfolding fitted
-  alone_fit h e = rw (alone-text, le-leb 6 (length area) h) (ap₂ handed_back e (sets_front area alone h))
+  told_some n k m h = let t = alone_some n k in rw (alone-text, le-leb 6 (length area) t.1) (ap₂ handed_back (h ∙ ap (λ j. 2 * j + bit false) t.0) t.2)
 
-  pub alone_small : (after : List ℕ) → handed_back m after ≡ screened (fitted (length area) (text (no 52) ∷ [])) area → m < 4294967296
+  pub told_none : put ≡ None → (m : ℕ) → m ≡ 2 * 0 + bit true → handed_back m after ≡ screened (fitted (length area) (text (no 52) ∷ [])) area
   unfolding fitted
-  alone_small after h = cases (leb 6 (length area))
-      (λ e. let k = ap (λ (s : Screened). s.number) (rw (alone-text, e) at h) in omega (arith, k))
-      (λ e. let k = ap (λ (s : Screened). s.number) (rw (alone-text, e) at h) in omega (arith, k))
+  told_none k m h = let t = alone_none k in rw (alone-text, lt-leb 6 (length area) t.0) (ap₂ handed_back h t.1)

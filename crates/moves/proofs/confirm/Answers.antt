@@ -1,7 +1,8 @@
 use Rattle.std.proofs.Common.{rules, length, ◌≡◌}
 use Rattle.protocol.specs.Lists.{natural}
 use Rattle.state.specs.Spread.{spread}
-use Rattle.moves.proofs.Makes.{refused_by, accepted_by}
+use Rattle.moves.proofs.Makes.{refused_by}
+use Rattle.state.proofs.Steps.{given_makes}
 use Rattle.moves.proofs.Moves.{Named, confirm_checked, confirm-accepts}
 use Rattle.moves.proofs.confirm.Goals.{After-confirm_check}
 use Rattle.moves.proofs.confirm.Goals as goal
@@ -19,4 +20,4 @@ returns-clause-step c = let a = c.args in
     let place = c.index-place.ensures.0 in
     λ known.
     let w : Named (spread a.p.now) a.s c.number-side.result c.index-place.result a.unsent = record { number = number; place = place; unsent = known } in
-    accepted_by (confirm-accepts (spread a.p.now) a.s w (confirm_checked (spread a.p.now) a.s w) long c.in_ok-confirm_check.ensures)
+    given_makes (confirm-accepts (spread a.p.now) a.s w (confirm_checked (spread a.p.now) a.s w) long c.in_ok-confirm_check.ensures)

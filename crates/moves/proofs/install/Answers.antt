@@ -1,6 +1,7 @@
 use Rattle.std.proofs.Common.{rules, length, ◌≡◌}
 use Rattle.state.specs.Spread.{spread}
-use Rattle.moves.proofs.Makes.{refused_by, accepted_by}
+use Rattle.moves.proofs.Makes.{refused_by}
+use Rattle.state.proofs.Steps.{given_makes}
 use Rattle.moves.proofs.Moves.{install_checked, install-accepts}
 use Rattle.moves.proofs.install.Goals as goal
 
@@ -15,4 +16,4 @@ returns-clause-step c =
     let values : length p.values ≡ 256 = search rules in
     let arrived : length p.arrived ≡ 8 = search rules in
     let confirmed : length p.confirmed ≡ 8 = search rules in
-    λ known. rw c.copy.ensures (accepted_by (install-accepts p (install_checked p known c.unset-missing.ensures.0) draft values arrived confirmed c.in_ok-turn_check.ensures))
+    λ known. rw c.copy.ensures (given_makes (install-accepts p (install_checked p known c.unset-missing.ensures.0) draft values arrived confirmed c.in_ok-turn_check.ensures))

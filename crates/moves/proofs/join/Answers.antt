@@ -3,7 +3,7 @@ use Rattle.heads.specs.Heads.{mode_of}
 use Rattle.protocol.specs.Plan.{is, split}
 use Rattle.state.specs.Spread.{spread}
 use Rattle.moves.proofs.Parting.{join_refuses, join-accepts}
-use Rattle.moves.proofs.Makes.{accepted_by, refused_makes}
+use Rattle.state.proofs.Steps.{given_makes, refused_makes}
 use Rattle.moves.proofs.join.Goals as goal
 
 pub returns-then-ne-clause-step : goal.returns-then-ne-clause-step
@@ -14,4 +14,4 @@ returns-then-ne-clause-step c = let p = spread c.args.p.now in
 pub returns-clause-step : goal.returns-clause-step
 returns-clause-step c = let p = spread c.args.p.now in
     let e : mode_of p.head.mode ≡ split = search rules in
-    accepted_by (join-accepts p e)
+    given_makes (join-accepts p e)

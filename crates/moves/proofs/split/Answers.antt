@@ -5,7 +5,8 @@ use Prim.Native.Nat.{◌+◌}
 use Rattle.heads.specs.Heads.{offset_of, index_of}
 use Rattle.protocol.specs.Lists.{natural}
 use Rattle.state.specs.Spread.{spread}
-use Rattle.moves.proofs.Makes.{refused_by, accepted_by}
+use Rattle.moves.proofs.Makes.{refused_by}
+use Rattle.state.proofs.Steps.{given_makes}
 use Rattle.moves.proofs.Parting.{split_checked, split-accepts}
 use Rattle.moves.proofs.split.Goals as goal
 
@@ -26,5 +27,5 @@ returns-clause-step c = let a = c.args in
     let to = ap (λ n. offset_of (n + 1)) sides in
     let place = ap (λ n. index_of (n + 1)) sides in
     rw (c.copy_within.ensures.after, c.begin.ensures, sides)
-    (accepted_by (split-accepts p a.s w (split_checked p a.s w) (add-one _) c.offset-row.ensures.0 (c.offset-new_row.ensures.0 ∙ to) (c.index-place.ensures.0 ∙ place) values arrived confirmed
+    (given_makes (split-accepts p a.s w (split_checked p a.s w) (add-one _) c.offset-row.ensures.0 (c.offset-new_row.ensures.0 ∙ to) (c.index-place.ensures.0 ∙ place) values arrived confirmed
     c.in_ok-split_check.ensures))
