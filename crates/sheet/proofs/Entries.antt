@@ -222,8 +222,8 @@ begun_from {file = file} {r = r} {q = q} b e = subst (λ s. Begun file (view s) 
 
 -- a file that loads, or none
 module _ (file : Option (List ℕ)) (u : Unit {0}) (p : State) (b : Begun file start (Ok u) (view p)) where
-  pub begun_holds : SoundIn true (spread p)
-  begun_holds e = subst (λ (q : Plan). Holding q.mode q.content) (sym b.plan) (holding_begun file)
+  pub begun_lent : SoundIn true (spread p)
+  begun_lent e = subst (λ (q : Plan). Holding q.mode q.content) (sym b.plan) (holding_begun file)
 
   pub begun_narrow : Narrow (view p).content
   begun_narrow = subst (λ (q : Plan). Narrow q.content) (sym b.plan) (narrow_begun file)
