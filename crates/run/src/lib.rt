@@ -42,7 +42,7 @@ struct Answered {
 }
 
 // The values that an answer gives besides.
-fn shown<'a>(p: &'a State, side: Option<u32>) -> &'a [i32]
+fn shown(p: &State, side: Option<u32>) -> &[i32]
     ensures { result.now ≡ row_told p.now side }
 {
     match side {
