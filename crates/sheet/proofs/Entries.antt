@@ -1,14 +1,14 @@
 -- The entries of saved plans: a sheet's plan, and the numbers that are handed back. Assumes nothing.
-use Prim.Native.Nat.{ℕ, zero, suc, ◌+◌, ◌*◌, ◌-◌, ◌<◌, ◌≤◌}
+use Prim.Native.Nat.{ℕ, suc, ◌+◌, ◌*◌, ◌-◌, ◌<◌, ◌≤◌}
 use native.Mathlib.Omega.{arith}
 use mathlib.Core.Path.{◌≡◌, refl, sym, ap, ap₂, subst, ◌∙◌}
 use mathlib.Core.Bool.{Bool, true, false, cond}
 use mathlib.Core.List.{List, [], ◌∷◌, ◌++◌, append-nil}
 use lib.Seq.{take_all}
-use borrow.Author.Tests.{le-ltb, lt-ltb, lt-leb, eq-eqb, ne_eqb}
+use borrow.Author.Tests.{le-ltb, lt-ltb, lt-leb}
 use lib.Dec.{T, eqb, leb}
 use lib.IntN.{ℤ, pos}
-use lib.ListN.{length, take, drop, length-append, length-take, length-drop, drop_of_length-le}
+use lib.ListN.{length, take, drop, length-append, drop_of_length-le}
 use Rattle.protocol.specs.Lists.{bit, one_to}
 use Rattle.protocol.specs.Plan.{Plan}
 use Rattle.protocol.specs.Calls as model
@@ -163,14 +163,6 @@ long_answers Saved e buffer j = cc
 
 -- ---- the run of an entry, in front of the buffer
 
-pub room_most : (saves : Bool) (n len : ℕ) → n ≡ cond saves 0 len → n ≤ len
-room_most true n len e = omega (arith, e)
-room_most false n len e = omega (arith, e)
-
--- the buffer is as long as it was
-pub back_length : (front : List ℕ) (room : ℕ) (area : List ℕ) → room ≤ length area → length front ≡ length (take room area) → length (front ++ drop room area) ≡ length area
-back_length front room area h e = let a = length-append front (drop room area) in let t = length-take room area in let d = length-drop room area in omega (arith, a, t, d, e)
-
 module _ (w : Wanted) (sheet area : List ℕ) {p : Plan} {on : Bool} (on-is : on ≡ saves w) {room : ℕ} (room-is : room ≡ cond (saves w) 0 (length area)) {q : Plan} {next written : ℕ} {ended : Bool}
     {front : List ℕ} (h : Advanced on 0 sheet 0 p (take room area) q next written ended front) where
   -- one that answers has the whole of it
@@ -230,8 +222,8 @@ begun_from {file = file} {r = r} {q = q} b e = subst (λ s. Begun file (view s) 
 
 -- a file that loads, or none
 module _ (file : Option (List ℕ)) (u : Unit {0}) (p : State) (b : Begun file start (Ok u) (view p)) where
-  pub begun_holds : SoundIn true (spread p)
-  begun_holds e = subst (λ (q : Plan). Holding q.mode q.content) (sym b.plan) (holding_begun file)
+  pub begun_lent : SoundIn true (spread p)
+  begun_lent e = subst (λ (q : Plan). Holding q.mode q.content) (sym b.plan) (holding_begun file)
 
   pub begun_narrow : Narrow (view p).content
   begun_narrow = subst (λ (q : Plan). Narrow q.content) (sym b.plan) (narrow_begun file)

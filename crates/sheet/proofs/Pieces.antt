@@ -3,9 +3,8 @@ use Prim.Native.Nat.{ℕ, zero, suc, ◌+◌, ◌-◌, ◌<◌, ◌≤◌, min}
 use native.Mathlib.Omega.{arith}
 use mathlib.Core.Path.{◌≡◌, refl, sym, ap, ap₂, subst, ◌∙◌}
 use mathlib.Core.Bool.{Bool, true, false}
-use mathlib.Core.Logic.{◌⊎◌, inl, inr, ⊎_elim, ◌≢◌}
 use mathlib.Core.List.{List, [], ◌∷◌, ◌++◌, append_assoc}
-use borrow.Author.Tests.{ltb-true, ltb-false, lt-ltb, le-ltb, le-leb, leb-true, leb-false}
+use borrow.Author.Tests.{ltb-true, ltb-false, lt-ltb, le-ltb, le-leb}
 use lib.Dec.{T, eqb, leb, ltb, le→leb}
 use lib.IntN.{ℤ, pos}
 use lib.ListN.{length, get_or, take, drop, length-append, length-drop, drop_of_length-le}
@@ -17,7 +16,7 @@ use Rattle.protocol.specs.Calls.{no}
 use Rattle.protocol.proofs.Laws.{cases, and_in}
 use Rattle.format.specs.Numbers.{digits}
 use Rattle.format.specs.Lines.{line_feed, lines, grow}
-use Rattle.format.specs.Sheets.{text, line_step, answer_lines, leaves, too_long, replies, fitted, in_front, screened}
+use Rattle.format.specs.Sheets.{text, line_step, answer_lines, leaves, too_long, replies, in_front}
 use Rattle.format.specs.Longest.{longest_answer}
 use Rattle.format.proofs.Longest.{is_short, is_row, short, Narrow, narrow_line, longest}
 use Rattle.rows.specs.Rows.{span, row}
@@ -29,10 +28,10 @@ use Rattle.state.specs.View.{view}
 use Rattle.state.proofs.View.{sides_most}
 use Rattle.state.proofs.Owned.{Ranged}
 use Rattle.run.specs.Progress.{Ran, behind_ran, ran, Advanced}
-use Rattle.std.specs.Prelude.{Option, Some, None}
+use Rattle.std.specs.Prelude.{Option, Some}
 use Rattle.writer.specs.Writes.{put_in, put_count}
 use Rattle.sheet.specs.Served.{alone}
-use Rattle.sheet.proofs.Runs.{alone_some, alone_none}
+use Rattle.sheet.proofs.Runs.{alone_some}
 use Rattle.sheet.specs.Pieces.{flat, due, Pieced, Pieces, over, piece}
 
 -- ---- a state's plan is narrow
@@ -177,24 +176,8 @@ module _ (sheet : List ℕ) (from : ℕ) (p : State) (lent : List ℕ) where
             moved sheet from next (omega (arith, f, e));
       }
 
-  -- of one that is too long, where nothing is written
-  pub piece-none : 65536 < length sheet → (length lent < longest_answer) ⊎ (length sheet ≤ from) → Pieced sheet from p lent (record { state = p; next = from; written = 0 }) lent
-  piece-none far why = record {
-    told = [];
-    parts = refl;
-    plan = λ e. absurd (subst T (sym (lt-ltb 65536 (length sheet) far) ∙ e) tt);
-    rest = λ e. absurd (subst T (sym (lt-ltb 65536 (length sheet) far) ∙ e) tt);
-    written = refl;
-    room = omega arith;
-    buffer = refl;
-    further = λ a b. ⊎_elim (λ l. absurd (omega arith)) (λ l. absurd (omega arith)) why;
-  }
-
-  -- and by what its refusal took
+  -- of one that is too long, where `no 52` has room
   module _ (far : 65536 < length sheet) (after : List ℕ) (put : Option ℕ) (f : after ≡ put_in alone lent) (e : put ≡ put_count alone lent) where
-    pub piece_short : put ≡ None → Pieced sheet from p lent (record { state = p; next = from; written = 0 }) after
-    piece_short k = let t = alone_none lent after put f e k in subst (Pieced sheet from p lent (record { state = p; next = from; written = 0 })) (sym t.1) (piece-none far (inl (omega (arith, t.0))))
-
     pub piece-refused : (n : ℕ) → put ≡ Some n → from < length sheet → Pieced sheet from p lent (record { state = p; next = length sheet; written = n }) after
     unfolding text digits
     piece-refused n k left = let t = alone_some lent after put f e n k in record {

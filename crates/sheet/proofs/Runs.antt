@@ -6,7 +6,7 @@ use mathlib.Core.Bool.{Bool, true, false}
 use mathlib.Core.List.{List, [], ◌∷◌}
 use borrow.Author.Tests.{le-ltb, leb-true, leb-false, le-leb, lt-leb}
 use lib.Dec.{leb, ltb}
-use lib.ListN.{length, take, drop, length-append}
+use lib.ListN.{length, drop, length-append}
 use Rattle.std.specs.Prelude.{Option, Some, None}
 use Rattle.protocol.specs.Lists.{bit}
 use Rattle.protocol.specs.Plan.{Plan}
@@ -14,7 +14,7 @@ use Rattle.protocol.specs.Calls.{no}
 use Rattle.protocol.proofs.Laws.{cases}
 use Rattle.format.specs.Lines.{lines}
 use Rattle.format.specs.Numbers.{digits}
-use Rattle.format.specs.Sheets.{text, line_step, answer_lines, replies, Fitted, behind, fitted, in_front, Screened, screened, screen}
+use Rattle.format.specs.Sheets.{text, line_step, answer_lines, replies, Fitted, behind, fitted, in_front, screened, screen}
 use Rattle.run.specs.Progress.{Ran, ran, Advanced}
 use Rattle.writer.specs.Writes.{put_in, put_count}
 use Rattle.sheet.specs.Served.{alone}

@@ -1,7 +1,6 @@
 use borrow.Author.Rules.{rules}
 use mathlib.Core.Path.{◌≡◌, ap, ◌∙◌}
 use Rattle.std.specs.Prelude.{Err}
-use Rattle.protocol.specs.Asked.{number_of}
 use Rattle.state.specs.View.{view}
 use Rattle.sheet.specs.Served.{outcome_of}
 use Rattle.sheet.proofs.Entries.{saved_refused, saved_given}
