@@ -99,7 +99,7 @@ flag_is p s t =
 noted-after : (c : Call) (p : State) (t : Tallies) → Pass (checks (asked c) (view p)) → noted c p.head (log_before p c) t ≡ tally_after (asked c) (view p) t
 unfolding checks further
 noted-after (Measure v) p t g = refl
-noted-after (Rule lower gap upper firm) p t g = refl
+noted-after (Rule r) p t g = refl
 noted-after Open p t g = refl
 noted-after (Split s) p t g = refl
 noted-after (Edit e) p t g = rw (flag_is p (natural e.side) g.1.0)

@@ -41,7 +41,7 @@ pub record Kept (b : Beside) (p : State) : Type 0 where
 
 abbrev pub is_edit : Call → Bool
 is_edit (Measure v) = false
-is_edit (Rule lower gap upper firm) = false
+is_edit (Rule r) = false
 is_edit Open = false
 is_edit (Split s) = false
 is_edit (Edit e) = true
@@ -57,7 +57,7 @@ is_edit Left = false
 
 abbrev pub is_show : Call → Bool
 is_show (Measure v) = false
-is_show (Rule lower gap upper firm) = false
+is_show (Rule r) = false
 is_show Open = false
 is_show (Split s) = false
 is_show (Edit e) = false
@@ -74,7 +74,7 @@ is_show Left = false
 -- measure, rule, open
 abbrev pub is_draw : Call → Bool
 is_draw (Measure v) = true
-is_draw (Rule lower gap upper firm) = true
+is_draw (Rule r) = true
 is_draw Open = true
 is_draw (Split s) = false
 is_draw (Edit e) = false
@@ -140,7 +140,7 @@ pub record Changes (c : Call) (p : State) (b : Beside) (a : Answer) (q : State) 
 -- whether the first log of the side that an edit or a send names is there
 abbrev pub log_before : State → Call → Bool
 log_before p (Measure v) = false
-log_before p (Rule lower gap upper firm) = false
+log_before p (Rule r) = false
 log_before p Open = false
 log_before p (Split s) = false
 log_before p (Edit e) = get_or p.arrived (index_of (natural e.side)) false

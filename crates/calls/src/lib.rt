@@ -83,7 +83,7 @@ impl Beside {
         ensures { Noted call before.now arrived self.old self.new }
     {
         self.counts.note(call, before, arrived);
-        if matches!(call, Call::Measure(_) | Call::Rule { .. } | Call::Open) {
+        if matches!(call, Call::Measure(_) | Call::Rule(_) | Call::Open) {
             self.index.forget();
         }
     }
@@ -114,12 +114,7 @@ fn changed(call: Call, p: &mut State, beside: &mut Beside) -> Answer
 {
     match call {
         Call::Measure(v) => draw::measure(p, v),
-        Call::Rule {
-            lower,
-            gap,
-            upper,
-            firm,
-        } => draw::rule(p, lower, gap, upper, firm),
+        Call::Rule(r) => draw::rule(p, r),
         Call::Open => draw::open_plan(p),
         Call::Split(s) => moves::split(p, s),
         Call::Edit(e) => {

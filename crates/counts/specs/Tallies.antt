@@ -72,7 +72,7 @@ one_less t = record t { left = t.left - 1 }
 -- any call that is accepted: from the head before it, and whether the first log of the side that it names was there
 abbrev pub noted : Call → Head → Bool → Tallies → Tallies
 noted (Measure v) h arrived t = t
-noted (Rule lower gap upper firm) h arrived t = t
+noted (Rule r) h arrived t = t
 noted Open h arrived t = t
 noted (Split s) h arrived t = cond (is whole (mode_of h.mode)) no_tallies t
 noted (Edit e) h arrived t = cond (is whole (mode_of h.mode)) t (one_unsent (natural e.side) arrived t)

@@ -13,6 +13,7 @@ use Rattle.protocol.specs.Asked.{number_of}
 use Rattle.protocol.specs.Lists.{natural, is_none, snoc}
 use Rattle.protocol.specs.Plan.{Rule, blank, is, mode_number}
 use Rattle.protocol.specs.Calls.{Call, measure, rule, open_plan, Check, fine, refused, first, checks, further, first_values, on_values, rule_of, after, gives, ok}
+use Rattle.protocol.specs.declared.call.Rule.{Rule as Asked}
 use Rattle.protocol.specs.declared.refusal.Refusal.{Refusal}
 use Rattle.protocol.proofs.Laws.{is_yes, yes_is}
 use Rattle.rows.specs.Rows.{row}
@@ -92,12 +93,16 @@ measure_drawn p v l h e =
 pub rules-length : (p : Spread) → length (rules_of p) ≡ min p.head.rules 64
 rules-length p = length-span 0 (min p.head.rules 64) _
 
-rule_checks_lem : (p : State) (a c b f : ℤ) → first (checks (rule a c b f) (view p)) ≡ first (rule_checks p.head (natural a) c (natural b) f)
-unfolding checks further
-rule_checks_lem p a c b f = rw (drawn_length p, rules-length (spread p))
+-- the call of its numbers
+abbrev pub called : Asked → Call
+called r = rule r.lower r.gap r.upper r.firm
 
-pub rule_refused : (p : State) (a c b f : ℤ) {r : Refusal} → refused (number_of r) ≡ first (rule_checks p.head (natural a) c (natural b) f) → Makes (rule a c b f) p (Err r) p
-rule_refused p a c b f e = checked_refused (rule_checks p.head (natural a) c (natural b) f) (rule_checks_lem p a c b f) e
+rule_checks_lem : (p : State) (r : Asked) → first (checks (called r) (view p)) ≡ first (rule_checks p.head r)
+unfolding checks further
+rule_checks_lem p r = rw (drawn_length p, rules-length (spread p))
+
+pub rule_refused : (p : State) (r : Asked) {k : Refusal} → refused (number_of k) ≡ first (rule_checks p.head r) → Makes (called r) p (Err k) p
+rule_refused p r e = checked_refused (rule_checks p.head r) (rule_checks_lem p r) e
 
 -- a rule as the protocol has it, and rule k of a table
 abbrev drawn_as : stored.Rule → Rule
@@ -125,31 +130,31 @@ written table n r h =
     last : rule_at t n ≡ drawn_as r
     last = stands_at t n ∙ ap drawn_as (get_d_set table n r none h)
 
-rule-next : (p : State) (a c b f : ℤ) → p.head.rules < 64 → p.head.rules < length p.table → view (ruled p a c b f) ≡ after (rule a c b f) (view p).mode (view p).content
+rule-next : (p : State) (r : Asked) → p.head.rules < 64 → p.head.rules < length p.table → view (ruled p r) ≡ after (called r) (view p).mode (view p).content
 unfolding after
-rule-next p a c b f h l =
+rule-next p r h l =
     let n = p.head.rules in
-    let t = (ruled p a c b f).table in
+    let t = (ruled p r).table in
     let m : min (n + 1) 64 ≡ suc n = omega arith in
     let o : n ≡ min n 64 = omega arith in
     plan-same refl
-    (ap (rules_in (lowers t) (gaps t) (uppers t) (firms t)) m ∙ written p.table n (rule_asked a c b f) l
-    ∙ ap (λ k. snoc (rules_in (lowers p.table) (gaps p.table) (uppers p.table) (firms p.table) k) (rule_of a c b f)) o)
+    (ap (rules_in (lowers t) (gaps t) (uppers t) (firms t)) m ∙ written p.table n (rule_asked r) l
+    ∙ ap (λ k. snoc (rules_in (lowers p.table) (gaps p.table) (uppers p.table) (firms p.table) k) (rule_of r.lower r.gap r.upper r.firm)) o)
     refl refl refl refl refl
 
-rule-given : (p : State) (a c b f : ℤ) → p.head.rules < 64 → ◌≡◌ {A = List ℤ} (pos (p.head.rules + 1) ∷ []) (gives (rule a c b f) (view p).mode (view p).content)
+rule-given : (p : State) (r : Asked) → p.head.rules < 64 → ◌≡◌ {A = List ℤ} (pos (p.head.rules + 1) ∷ []) (gives (called r) (view p).mode (view p).content)
 unfolding gives
-rule-given p a c b f h =
+rule-given p r h =
     let e = rules-length (spread p) in
     let n : p.head.rules + 1 ≡ suc (length (view p).content.rules) = omega arith in
     ap {B = List ℤ} (λ k. pos k ∷ []) n
 
-pub rule_drawn : (p : State) (a c b f : ℤ) → p.head.rules < 64 → p.head.rules < length p.table → fine ≡ first (rule_checks p.head (natural a) c (natural b) f)
-    → Makes (rule a c b f) p (number (p.head.rules + 1)) (ruled p a c b f)
-rule_drawn p a c b f h l e =
+pub rule_drawn : (p : State) (r : Asked) → p.head.rules < 64 → p.head.rules < length p.table → fine ≡ first (rule_checks p.head r)
+    → Makes (called r) p (number (p.head.rules + 1)) (ruled p r)
+rule_drawn p r h l e =
     given_makes
-    (accepts (rule_checks p.head (natural a) c (natural b) f) (record { state = spread (ruled p a c b f); answer = number (p.head.rules + 1) }) (rule_checks_lem p a c b f) (sym e)
-    (λ _. ap ok (rule-given p a c b f h)) (λ _. rule-next p a c b f h l) tt)
+    (accepts (rule_checks p.head r) (record { state = spread (ruled p r); answer = number (p.head.rules + 1) }) (rule_checks_lem p r) (sym e)
+    (λ _. ap ok (rule-given p r h)) (λ _. rule-next p r h l) tt)
 
 -- ---- open
 

@@ -1,5 +1,6 @@
 -- Scaffolding: the checks of measure, rule and open by what they read of the state, what each stores, and what the three leave as it was. Assumes nothing.
 use Rattle.std.specs.Prelude.{ℕ, ◌+◌, min, ◌≡◌, not, ◌&&◌, List, [], ◌∷◌, eqb, ltb, ℤ, set}
+use Rattle.protocol.specs.declared.call.Rule.{Rule as Asked}
 use Rattle.protocol.specs.Lists.{natural, is_none, one_to}
 use Rattle.protocol.specs.Plan.{blank, is, measure_limit, rule_limit}
 use Rattle.protocol.specs.Calls.{Check, ◌unless◌, ◌when◌, no11, no15}
@@ -17,12 +18,12 @@ use Rattle.state.specs.declared.State.{State}
 abbrev pub measure_checks : Head → ℤ → List Check
 measure_checks h v = (31 unless is blank (mode_of h.mode)) ∷ (12 unless ltb (measures_in h) measure_limit) ∷ no11 v ∷ []
 
-abbrev pub rule_checks : Head → ℕ → ℤ → ℕ → ℤ → List Check
-rule_checks h a c b f =
+abbrev pub rule_checks : Head → Asked → List Check
+rule_checks h r =
     (31 unless is blank (mode_of h.mode))
     ∷ (13 unless ltb (min h.rules rule_limit) rule_limit)
-    ∷ (14 unless (one_to (measures_in h) a && one_to (measures_in h) b && not (eqb a b)))
-    ∷ no15 c f ∷ []
+    ∷ (14 unless (one_to (measures_in h) (natural r.lower) && one_to (measures_in h) (natural r.upper) && not (eqb (natural r.lower) (natural r.upper))))
+    ∷ no15 r.gap r.firm ∷ []
 
 abbrev pub open_checks : Head → List ℕ → List ℤ → List ℕ → List ℤ → List Check
 open_checks h lower gap upper values =
@@ -37,11 +38,11 @@ abbrev pub measured : State → ℤ → State
 measured p v = record p { head = record p.head { measures = p.head.measures + 1 }; values = set p.values p.head.measures v }
 
 -- the rule of a call's numbers
-abbrev pub rule_asked : (a c b f : ℤ) → Rule
-rule_asked a c b f = record { lower = natural a; gap = c; upper = natural b; firm = eqb (natural f) 1 }
+abbrev pub rule_asked : Asked → Rule
+rule_asked r = record { lower = natural r.lower; gap = r.gap; upper = natural r.upper; firm = eqb (natural r.firm) 1 }
 
-abbrev pub ruled : State → (a c b f : ℤ) → State
-ruled p a c b f = record p { head = record p.head { rules = p.head.rules + 1 }; table = with_rule p.table p.head.rules (rule_asked a c b f) }
+abbrev pub ruled : State → Asked → State
+ruled p r = record p { head = record p.head { rules = p.head.rules + 1 }; table = with_rule p.table p.head.rules (rule_asked r) }
 
 abbrev pub opened : State → State
 opened p = record p { head = record p.head { mode = Whole; next = 1 } }

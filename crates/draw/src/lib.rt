@@ -5,7 +5,7 @@ ghost use Rattle.std.specs.Prelude.{true, not, ltb, ◌&&◌, eqb, min, length, 
 ghost use Rattle.draw.specs.Draw.{measure_checks, rule_checks, open_checks, measured, ruled, opened, LeavesRest};
 ghost use Rattle.protocol.specs.Asked.{verdict_of};
 ghost use Rattle.protocol.specs.Calls.{measure, rule, open_plan, first, no15};
-ghost use Rattle.protocol.specs.Lists.{natural, one_to};
+ghost use Rattle.protocol.specs.Lists.{one_to};
 ghost use Rattle.rows.specs.Rows.{row};
 ghost use Rattle.rules.specs.Rules.{holds_in};
 ghost use Rattle.rules.specs.Table.{lowers, gaps, uppers};
@@ -13,6 +13,7 @@ ghost use Rattle.heads.specs.Heads.{measures_in};
 ghost use Rattle.state.specs.Meets.{Makes};
 
 use heads::{Head, Mode};
+use protocol::call;
 use protocol::limit;
 use protocol::refusal::Refusal;
 use rules::{Rule, Table};
@@ -73,8 +74,8 @@ fn limits_ok(gap: i32, firm: i32) -> bool
     (limit::LEAST_GAP..=limit::GAP).contains(&gap) && (0..=1).contains(&firm)
 }
 
-fn check_rule(p: &State, lower: i32, gap: i32, upper: i32, firm: i32) -> Result<(), Refusal>
-    ensures verdict { verdict_of result ≡ first (rule_checks p.now.head (natural lower) gap (natural upper) firm) }
+fn check_rule(p: &State, r: call::Rule) -> Result<(), Refusal>
+    ensures verdict { verdict_of result ≡ first (rule_checks p.now.head r) }
     ensures room { OnOk result ((p.now.head.rules < 64) × (p.now.head.rules < length p.now.table)) }
 {
     if p.head.mode != Mode::Blank {
@@ -84,24 +85,24 @@ fn check_rule(p: &State, lower: i32, gap: i32, upper: i32, firm: i32) -> Result<
         return Err(Refusal::TooManyRules);
     }
     let size = rows::capped(p.head.measures, limit::MEASURES);
-    if !pair_in(size, exact::number(lower), exact::number(upper)) {
+    if !pair_in(size, exact::number(r.lower), exact::number(r.upper)) {
         return Err(Refusal::NoPairOfMeasures);
     }
-    if !limits_ok(gap, firm) {
+    if !limits_ok(r.gap, r.firm) {
         return Err(Refusal::RuleOutOfRange);
     }
     Ok(())
 }
 
-// A rule that measure lower plus gap is less than measure upper, firm if firm is 1.
-pub fn rule(p: &mut State, lower: i32, gap: i32, upper: i32, firm: i32) -> Answer
-    ensures makes { Makes (rule lower gap upper firm) p.old result p.new }
-    ensures stored { OnOk result (p.new ≡ ruled p.old lower gap upper firm) }
+// A rule.
+pub fn rule(p: &mut State, r: call::Rule) -> Answer
+    ensures makes { Makes (rule r.lower r.gap r.upper r.firm) p.old result p.new }
+    ensures stored { OnOk result (p.new ≡ ruled p.old r) }
     ensures rest { LeavesRest p.old p.new }
 {
-    check_rule(p, lower, gap, upper, firm)?;
+    check_rule(p, r)?;
     let n = p.head.rules;
-    rules::put_rule(&mut p.table, n, Rule::of(lower, gap, upper, firm));
+    rules::put_rule(&mut p.table, n, Rule::of(r));
     p.head.rules = n + 1;
     Ok(Given::One(n + 1))
 }

@@ -15,6 +15,7 @@ ghost use Rattle.load.specs.Drawing.{slot_call, chain_calls, Drew, LoadedFrom};
 ghost use Rattle.load.specs.Loading.{MeetsLoad};
 
 use heads::{Head, Mode};
+use protocol::call;
 use protocol::limit;
 use protocol::refusal::Refusal;
 use slots::{Kind, Slot};
@@ -136,10 +137,13 @@ fn draw_measure(p: &mut State, w: Slot) -> Result<(), Refusal>
 fn draw_rule(p: &mut State, w: Slot) -> Result<(), Refusal>
     ensures { (s : List ℕ) → w ≡ words_of s → Parted s → Drew (slot_call Rule s ∷ []) p.old result p.new }
 {
-    let lower = slots::low(w.second) as i32;
-    let upper = slots::high(w.second) as i32;
-    let firm = slots::firm_of(slots::mark_byte(w.first));
-    draw::rule(p, lower, slots::value(w.third), upper, i32::from(firm))?;
+    let rule = call::Rule {
+        lower: slots::low(w.second) as i32,
+        gap: slots::value(w.third),
+        upper: slots::high(w.second) as i32,
+        firm: i32::from(slots::firm_of(slots::mark_byte(w.first))),
+    };
+    draw::rule(p, rule)?;
     Ok(())
 }
 

@@ -13,7 +13,7 @@ ghost use Rattle.calls.specs.Makes.{Known, is_show};
 
 use calls::Beside;
 pub use load::load;
-use protocol::call::{Call, Edit};
+use protocol::call::{Call, Edit, Rule};
 pub use protocol::refusal::Refusal;
 pub use query::{show, show_in};
 pub use save::save;
@@ -57,12 +57,12 @@ pub fn rule(p: State, a: i32, c: i32, b: i32, f: i32) -> Answered
 {
     turn(
         p,
-        Call::Rule {
+        Call::Rule(Rule {
             lower: a,
             gap: c,
             upper: b,
             firm: f,
-        },
+        }),
     )
 }
 

@@ -10,7 +10,7 @@ use Rattle.protocol.specs.declared.refusal.Refusal.TheVariants.{ValueOutOfRange,
 -- a sheet's show always has room for every measure
 abbrev pub asked : Call → model.Call
 asked (Measure v) = model.measure v
-asked (Rule lower gap upper firm) = model.rule lower gap upper firm
+asked (Rule r) = model.rule r.lower r.gap r.upper r.firm
 asked Open = model.open_plan
 asked (Split s) = model.split-side s
 asked (Edit e) = model.edit e.side e.client e.after e.measure e.kind e.constant

@@ -11,15 +11,19 @@ pub struct Edit {
     pub constant: i32,
 }
 
+// The numbers of a rule: measure `lower` plus `gap` is less than measure `upper`, and the rule is firm if `firm` is 1.
+#[derive(Clone, Copy)]
+pub struct Rule {
+    pub lower: i32,
+    pub gap: i32,
+    pub upper: i32,
+    pub firm: i32,
+}
+
 #[derive(Clone, Copy)]
 pub enum Call {
     Measure(i32),
-    Rule {
-        lower: i32,
-        gap: i32,
-        upper: i32,
-        firm: i32,
-    },
+    Rule(Rule),
     Open,
     Split(i32),
     Edit(Edit),

@@ -46,6 +46,7 @@ pub enum Refusal {
 }
 
 impl Refusal {
+    // On the agreed list. No From: the name says which number it is.
     pub fn number(self) -> u32
         ensures { result ≡ number_of self }
     {

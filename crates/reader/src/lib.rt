@@ -8,7 +8,7 @@ ghost use Rattle.format.specs.Lines.{line_feed, line_call};
 ghost use Rattle.reader.specs.Cut.{up_to, first_line};
 ghost use Rattle.reader.specs.Reads.{word_at, number_at, magnitude_at, followed, is_end, ending, op_of, taken_by, place_of, place_in, call_from, Named, line_in, Taken};
 
-use protocol::call::{Call, Edit};
+use protocol::call::{Call, Edit, Rule};
 
 // What was read, with the place behind it.
 #[derive(Clone, Copy)]
@@ -58,12 +58,12 @@ impl Op {
         let [a, b, c, d, e, f] = *numbers;
         match self {
             Op::Measure => Call::Measure(a),
-            Op::Rule => Call::Rule {
+            Op::Rule => Call::Rule(Rule {
                 lower: a,
                 gap: b,
                 upper: c,
                 firm: d,
-            },
+            }),
             Op::Open => Call::Open,
             Op::Split => Call::Split(a),
             Op::Edit => Call::Edit(Edit {

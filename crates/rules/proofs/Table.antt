@@ -12,7 +12,8 @@ use Rattle.std.proofs.lemmas.List.{length-map, map-set}
 use Rattle.rules.specs.declared.Rule.{Rule}
 use Rattle.protocol.specs.Lists.{any}
 use Rattle.rows.specs.Rows.{span}
-use Rattle.rules.specs.Table.{lowers, gaps, uppers, firms, with_rule, top_of}
+use Rattle.rules.specs.Index.{top_of}
+use Rattle.rules.specs.Table.{lowers, gaps, uppers, firms, with_rule}
 use Rattle.rules.specs.Rules.{names_pair, names_firmly, firm_at, firm_in}
 use Rattle.rules.specs.Index.{NoneAbove}
 

@@ -1,10 +1,12 @@
 -- Scaffolding: the index: from a measure to the rules that name it, as namings put one behind another; and the tests that use it. Assumes nothing.
-use Rattle.std.specs.Prelude.{ℕ, suc, ◌+◌, ◌-◌, ◌<◌, ◌≤◌, min, Bool, true, false, cond, List, map, reverse, Option, Some, None, IfSome, ◌≡◌, eqb, leb, ℤ, pos, ◌+ℤ◌, length, get_or}
+use Rattle.std.specs.Prelude.{ℕ, suc, ◌+◌, ◌-◌, ◌<◌, ◌≤◌, min, max, Bool, true, false, cond, List, map, reverse, Option, Some, None, IfSome, ◌≡◌, eqb, leb, ℤ, pos, ◌+ℤ◌, length, get_or}
 use Rattle.std.specs.Int.Signed.{lt_z}
+use Rattle.std.specs.List.{fold}
 use Rattle.protocol.specs.Lists.{one_to, count, passing, first_not}
 use Rattle.protocol.specs.Plan as model
 use Rattle.protocol.specs.Plan.{measure_limit}
 use Rattle.rows.specs.Rows.{span}
+use Rattle.rules.specs.declared.Rule.{Rule}
 use Rattle.rules.specs.declared.Other.{Other}
 use Rattle.rules.specs.declared.Other.TheVariants.{Above, Below}
 use Rattle.rules.specs.declared.Naming.{Naming}
@@ -12,6 +14,10 @@ use Rattle.rules.specs.declared.Index.{Index}
 use Rattle.rules.specs.Rules.{with_value, names_at, due_at, RuleTest, tested_in, firm_in}
 
 -- ---- a rule as it stands at a measure that it names
+
+-- the highest measure that rules name
+abbrev pub top_of : List Rule → ℕ
+top_of rules = fold (λ top r. max (max top r.lower) r.upper) 0 rules
 
 -- where a measure's value stands in a row, from 0; 32 if it is none of 32, and 33 for measure m, whose value is not the row's
 abbrev pub place_of : ℕ → ℕ → ℕ

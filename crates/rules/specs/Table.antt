@@ -1,6 +1,5 @@
 -- Believed: the rules of a plan as the lists that the rules' tests speak of. Assumes nothing.
-use Rattle.std.specs.Prelude.{ℕ, max, Bool, false, List, map, ℤ, pos, get_or, set}
-use Rattle.std.specs.List.{fold}
+use Rattle.std.specs.Prelude.{ℕ, Bool, false, List, map, ℤ, pos, get_or, set}
 use Rattle.protocol.specs.Plan as model
 use Rattle.rows.specs.Rows.{span}
 use Rattle.rules.specs.declared.Rule.{Rule}
@@ -20,10 +19,6 @@ firms table = map (λ r. r.firm) table
 -- rule i written anew
 abbrev pub with_rule : List Rule → ℕ → Rule → List Rule
 with_rule table i rule = set table i rule
-
--- the highest measure that rules name
-abbrev pub top_of : List Rule → ℕ
-top_of rules = fold (λ top r. max (max top r.lower) r.upper) 0 rules
 
 -- the rules as the protocol has them
 abbrev pub rules_in : List ℕ → List ℤ → List ℕ → List Bool → ℕ → List model.Rule

@@ -8,10 +8,11 @@ ghost use Rattle.std.specs.List.{list_any};
 ghost use Rattle.protocol.specs.Lists.{natural, count};
 ghost use Rattle.protocol.specs.Plan.{value};
 ghost use Rattle.rows.specs.Rows.{span, row};
-ghost use Rattle.rules.specs.Table.{lowers, gaps, uppers, firms, with_rule, top_of};
+ghost use Rattle.rules.specs.Table.{lowers, gaps, uppers, firms, with_rule};
 ghost use Rattle.rules.specs.Rules.{numbered, with_value, pair_holds, names_pair, names_firmly, names_at, tested_in, firm_in};
-ghost use Rattle.rules.specs.Index.{place_of, other_of, naming_holds, is_made, NoneAbove, Added, Indexed, listed_as, indexed_in, tested_with, firm_with};
+ghost use Rattle.rules.specs.Index.{top_of, place_of, other_of, naming_holds, is_made, NoneAbove, Added, Indexed, listed_as, indexed_in, tested_with, firm_with};
 
+use protocol::call;
 use protocol::limit;
 
 // The value of measure m in a row; 0 where there is none.
@@ -43,19 +44,20 @@ pub const NO_RULE: Rule = Rule {
     firm: false,
 };
 
-// The rules in the order of drawing.
+// The rules in the order of drawing. How many of them are drawn is handed on beside it, and what is more counts as all: so the definitions and the theorems have it,
+// which speak of the first k of any list.
 pub type Table = [Rule; limit::RULES];
 
 impl Rule {
     // The rule of a call's numbers. A negative number reads as 0, and it is firm if the last is 1.
-    pub fn of(lower: i32, gap: i32, upper: i32, firm: i32) -> Rule
-        ensures { result ≡ record { lower = natural lower; gap = gap; upper = natural upper; firm = eqb (natural firm) 1 } }
+    pub fn of(asked: call::Rule) -> Rule
+        ensures { result ≡ record { lower = natural asked.lower; gap = asked.gap; upper = natural asked.upper; firm = eqb (natural asked.firm) 1 } }
     {
         Rule {
-            lower: exact::number(lower),
-            gap,
-            upper: exact::number(upper),
-            firm: exact::number(firm) == 1,
+            lower: exact::number(asked.lower),
+            gap: asked.gap,
+            upper: exact::number(asked.upper),
+            firm: exact::number(asked.firm) == 1,
         }
     }
 
@@ -150,7 +152,7 @@ const ENDS: usize = FLAGS + 1;
 
 const NAMINGS: usize = 2 * limit::RULES;
 
-// For measures from 1 to 32: at m where its namings begin, at m + 1 where they end; whether a firm rule names it; and the namings, those of a measure in the order
+// Whether it was made: a flag, and no option of an index, so that it is made in place, without a copy of about 1,100 bytes. For measures from 1 to 32: at m where its namings begin, at m + 1 where they end; whether a firm rule names it; and the namings, those of a measure in the order
 // of the rules. A rule has two namings at most.
 #[derive(Clone, Copy)]
 pub struct Index {
@@ -267,7 +269,7 @@ fn add_namings(
 
 // ---- the rules on a row
 
-// A measure from 1 to 32 as it is; 0 for any other.
+// A measure from 1 to 32 as it is; 0 for any other, where the index has no naming and no firm rule: so its arrays are read with no test.
 fn listed(m: u32) -> usize
     ensures { (result ≡ listed_as m) × (result ≤ 32) }
 {

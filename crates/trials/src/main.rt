@@ -42,12 +42,7 @@ fn show(rt: &impl Print, p: State, s: i32, room: u32) {
 fn call(p: State, call: Call) -> Answered {
     match call {
         Call::Measure(v) => plan::measure(p, v),
-        Call::Rule {
-            lower,
-            gap,
-            upper,
-            firm,
-        } => plan::rule(p, lower, gap, upper, firm),
+        Call::Rule(r) => plan::rule(p, r.lower, r.gap, r.upper, r.firm),
         Call::Open => plan::open_plan(p),
         Call::Split(s) => plan::split(p, s),
         Call::Edit(e) => plan::edit(p, e.side, e.client, e.after, e.measure, e.kind, e.constant),
@@ -118,7 +113,7 @@ fn first_number(call: Option<Call>) -> u32 {
     exact::number(match call {
         Call::Measure(n) | Call::Split(n) | Call::Send(n) | Call::Replay(n) => n,
         Call::Confirm(n) | Call::Show(n) | Call::Fate(n) => n,
-        Call::Rule { lower, .. } => lower,
+        Call::Rule(r) => r.lower,
         Call::Edit(e) => e.side,
         Call::Open | Call::Join | Call::Stop | Call::Install | Call::Left => 0,
     })

@@ -3,7 +3,8 @@ use native.Mathlib.Omega.{arith}
 use mathlib.Core.Bool.{true}
 use mathlib.Core.Path.{refl, sym, ap, subst, ◌∙◌}
 use lib.ListN.{take}
-use Rattle.rules.specs.Table.{lowers, gaps, uppers, firms, top_of}
+use Rattle.rules.specs.Index.{top_of}
+use Rattle.rules.specs.Table.{lowers, gaps, uppers, firms}
 use Rattle.rules.specs.Rules.{firm_in}
 use Rattle.rules.specs.Index.{is_made, NoneAbove, Indexed}
 use Rattle.rules.proofs.Table.{top_is}
