@@ -117,6 +117,7 @@ fn answer(rt: &impl Clock, output: &mut impl Write, sheet: &[u8]) -> Result<(), 
         next: 0,
         written: 0,
     };
+    // Where a piece begins only the one before it tells.
     while piece.next < sheet.len() {
         piece = sheet::next_piece(piece.state, sheet, piece.next, &mut out);
         write_answers(rt, output, &out[..piece.written])?;

@@ -175,6 +175,7 @@ fn run(rt: &impl Print, text: &[u8]) {
         n: 0,
         at: 0,
     };
+    // Where a line begins only the one before it tells.
     while turn.at < text.len() {
         turn = next(rt, turn, text);
     }
@@ -185,6 +186,7 @@ fn read_text(input: &mut impl Read, text: &mut [u8]) -> usize
     ensures { result ≤ length text.new }
 {
     let mut done: usize = 0;
+    // How far it goes on each read tells.
     while done < text.len() {
         match input.read(&mut text[done..]) {
             Ok(0) | Err(_) => return done,
