@@ -180,9 +180,6 @@ module _ {p q : State} {a : Answer} (b : Beside) where
   pub moved : (c : Call) → Makes (asked c) p a q → SameRules p q → Changes c p b a q b
   moved c m r = record { makes = m; rules = λ e. r; counts = refl; sound = refl; indexed = λ x. x }
 
-pub rule-same : {p q : State} {a : Answer} {l g u f l' g' u' f' : ℤ} → l' ≡ l → g' ≡ g → u' ≡ u → f' ≡ f → Makes (rule l' g' u' f') p a q → Makes (rule l g u f) p a q
-rule-same {p = p} {q = q} {a = a} i j k m x = subst (λ c. Makes c p a q) (λ n. rule (i n) (j n) (k n) (m n)) x
-
 -- how many the side that a call names has unsent
 pub unsent_is : (p : State) (t : Tallies) → Tallied t (view p) → (s : ℕ) {n : ℕ} → n ≡ unsent_in t s → Unsent p s n
 unsent_is p t h s e x =

@@ -121,11 +121,11 @@ module _ (p : Spread) (e : Edit) where
   broken_of test firmly = found_broken mode (sides_in h) named (kept_in h) h.next vs s e.client e.after m ch _ _
 
   -- so tests of the rules that then find the same make the same decision
-  ruled_as : (test test' : RuleTest) (firmly firmly' : FirmTest) {r : Result Granted Refusal}
+  decision_same : (test test' : RuleTest) (firmly firmly' : FirmTest) {r : Result Granted Refusal}
       → (T (not (is blank mode)) → T (one_to (sides_in h) s) → rule_by test p e ≡ rule_by test' p e)
       → (T (not (is blank mode)) → 0 < m → m ≤ 32 → frozen_by firmly p e ≡ frozen_by firmly' p e)
       → Ruled test firmly p e r → Ruled test' firmly' p e r
-  ruled_as test test' firmly firmly' a f w = record {
+  decision_same test test' firmly firmly' a f w = record {
     verdict = w.verdict ∙ found_same mode (sides_in h) named (kept_in h) h.next vs s e.client e.after m ch _ _ _ _ (λ d o. ap is_none (a d o))
         (λ d o. let r = range (length vs) m o in f d r.0 (omega (arith, r.1, few)));
     granted = w.granted;
@@ -281,8 +281,8 @@ pub edit_sound : (p : Spread) (e : Edit) {r : Result Granted Refusal}
     → (T (not (is blank (mode_of p.head.mode))) → T (one_to (sides_in p.head) (natural e.side)) → holds (rules_of p) (row_of p e) ≡ true)
     → (Ruled (tested_in true) firm_in p e r → Ruled (tested_in false) firm_in p e r) × (Ruled (tested_in false) firm_in p e r → Ruled (tested_in true) firm_in p e r)
 edit_sound p e held = (
-  ruled_as p e (tested_in true) (tested_in false) firm_in firm_in same (λ d a b. refl),
-  ruled_as p e (tested_in false) (tested_in true) firm_in firm_in (λ d o. sym (same d o)) (λ d a b. refl),
+  decision_same p e (tested_in true) (tested_in false) firm_in firm_in same (λ d a b. refl),
+  decision_same p e (tested_in false) (tested_in true) firm_in firm_in (λ d o. sym (same d o)) (λ d a b. refl),
 )
   where
     same : T (not (is blank (mode_of p.head.mode))) → T (one_to (sides_in p.head) (natural e.side)) → rule_by (tested_in true) p e ≡ rule_by (tested_in false) p e
@@ -300,7 +300,7 @@ module _ (asked : Option Index) (p : State) (e : Edit) where
   by_held false held v = v
 
   pub ruled-plain : {r : Result Granted Refusal} → Trusted asked p e → Ruled (tested_with asked) (firm_with asked) lists e r → Ruled (tested_in false) firm_in lists e r
-  ruled-plain t w = by_held (is_some asked) t.held (ruled_as lists e (tested_with asked) (tested_in (is_some asked)) (firm_with asked) firm_in
+  ruled-plain t w = by_held (is_some asked) t.held (decision_same lists e (tested_with asked) (tested_in (is_some asked)) (firm_with asked) firm_in
       (λ d o. tested_indexed asked (natural e.measure) lists.lower lists.gap lists.upper lists.firm _ _ _ (few lists e) (t.indexed d))
       (λ d a b. firm-indexed asked lists.lower lists.gap lists.upper lists.firm _ (natural e.measure) a b (t.indexed d)) w)
 

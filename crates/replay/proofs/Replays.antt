@@ -59,13 +59,13 @@ outcome_same test test' p e h =
     (cond (fits e.measure (view_change e.change) vs && is_none y) (Accepted (amount_of p e)) (Revoked (numbered (cond (fits e.measure (view_change e.change) vs) y 0))))) h
 
 -- and the same decision
-decided_same : (test test' : RuleTest) (p : Spread) (n : ℤ) {missing : ℕ} (r : Result Outcome Refusal) → (T (active (mode_of p.head.mode)) → outcome_in test p n ≡ outcome_in test' p n)
+decision_same : (test test' : RuleTest) (p : Spread) (n : ℤ) {missing : ℕ} (r : Result Outcome Refusal)
+    → (let e = named_in p (natural n) in let vs = draft_in p.head p.draft in let x = applied (view_change e.change) (value vs e.measure) in
+    T (active (mode_of p.head.mode)) → test e.measure p.lower p.gap p.upper (min p.head.rules 64) x vs ≡ test' e.measure p.lower p.gap p.upper (min p.head.rules 64) x vs)
     → Decided test p n missing r → Decided test' p n missing r
-decided_same test test' p n (Err e) h d = record { verdict = d.verdict; outcome = tt }
-decided_same test test' p n {missing = missing} (Ok o) h d = record { verdict = d.verdict; outcome = d.outcome ∙ h (fine_pass (checks_in p missing n) (sym d.verdict)).0 }
-
-outcome_sound : (p : Spread) (e : EditRecord) → holds (rules_of p) (draft_in p.head p.draft) ≡ true → outcome_of (tested_in true) p e ≡ outcome_of (tested_in false) p e
-outcome_sound p e h = outcome_same (tested_in true) (tested_in false) p e (tested_sound p.lower p.gap p.upper p.firm (min p.head.rules 64) e.measure _ _ (draft-length p) h)
+decision_same test test' p n (Err e) h d = record { verdict = d.verdict; outcome = tt }
+decision_same test test' p n {missing = missing} (Ok o) h d =
+    record { verdict = d.verdict; outcome = d.outcome ∙ outcome_same test test' p (named_in p (natural n)) (h (fine_pass (checks_in p missing n) (sym d.verdict)).0) }
 
 -- what a refusal decides
 pub decided_refused : (test : RuleTest) (p : Spread) (n : ℤ) {missing : ℕ} {r : Refusal} {a : Result Outcome Refusal} → a ≡ Err r → refused (number_of r) ≡ first (checks_in p missing n)
@@ -75,26 +75,41 @@ decided_refused test p n {missing = missing} e f = subst (Decided test p n missi
 -- where all rules held on the draft, it is enough to test those that name the measure: what is decided is the same
 pub replay_sound : (p : Spread) (n : ℤ) {missing : ℕ} (r : Result Outcome Refusal) → (T (active (mode_of p.head.mode)) → holds (rules_of p) (draft_in p.head p.draft) ≡ true)
     → (Decided (tested_in true) p n missing r → Decided (tested_in false) p n missing r) × (Decided (tested_in false) p n missing r → Decided (tested_in true) p n missing r)
-replay_sound p n r h =
-    let same : T (active (mode_of p.head.mode)) → outcome_in (tested_in true) p n ≡ outcome_in (tested_in false) p n = λ t. outcome_sound p (named_in p (natural n)) (h t) in
-    (decided_same (tested_in true) (tested_in false) p n r same, decided_same (tested_in false) (tested_in true) p n r (λ t. sym (same t)))
+replay_sound p n r held = (decision_same (tested_in true) (tested_in false) p n r same, decision_same (tested_in false) (tested_in true) p n r (λ t. sym (same t)))
+  where
+    e : EditRecord
+    e = named_in p (natural n)
 
--- what the code finds, with the rules' own index, is what the test of all rules finds
+    same : T (active (mode_of p.head.mode)) → let vs = draft_in p.head p.draft in let x = applied (view_change e.change) (value vs e.measure) in
+        tested_in true e.measure p.lower p.gap p.upper (min p.head.rules 64) x vs ≡ tested_in false e.measure p.lower p.gap p.upper (min p.head.rules 64) x vs
+    same t = tested_sound p.lower p.gap p.upper p.firm (min p.head.rules 64) e.measure _ _ (draft-length p) (held t)
+
+-- what the code tests, with the rules' own index, finds what the test of all rules finds
+tested-decided : (p : State) {missing settled : ℕ} {asked : Option Index} → Trusted p missing settled asked → T (active (mode_of p.head.mode)) → (m : ℕ) (x : ℤ)
+    → (let q = spread p in let vs = draft_in q.head q.draft in
+    tested_with asked m q.lower q.gap q.upper (min q.head.rules 64) x vs ≡ tested_in false m q.lower q.gap q.upper (min q.head.rules 64) x vs)
+tested-decided p {asked = asked} known t m x =
+    tested_indexed asked m q.lower q.gap q.upper q.firm (min q.head.rules 64) x vs (draft-length q) (known.indexed t) ∙ by_held (is_some asked) known.held
+  where
+    q : Spread
+    q = spread p
+
+    vs : List ℤ
+    vs = draft_in q.head q.draft
+
+    by_held : (sound : Bool) → (sound ≡ true → T (active (mode_of p.head.mode)) → holds (rules_of q) vs ≡ true)
+        → tested_in sound m q.lower q.gap q.upper (min q.head.rules 64) x vs ≡ tested_in false m q.lower q.gap q.upper (min q.head.rules 64) x vs
+    by_held true h = tested_sound q.lower q.gap q.upper q.firm (min q.head.rules 64) m x vs (draft-length q) (h refl t)
+    by_held false h = refl
+
 outcome_decided : (p : State) (e : EditRecord) {missing settled : ℕ} {asked : Option Index} → Trusted p missing settled asked → T (active (mode_of p.head.mode))
     → outcome_of (tested_with asked) (spread p) e ≡ outcome_of (tested_in false) (spread p) e
-outcome_decided p e {asked = asked} known t =
-    let q = spread p in
-    outcome_same (tested_with asked) (tested_in (is_some asked)) q e (tested_indexed asked _ q.lower q.gap q.upper q.firm _ _ _ (draft-length q) (known.indexed t)) ∙ held (is_some asked) known.held
-  where
-    held : (sound : Bool) → (sound ≡ true → T (active (mode_of p.head.mode)) → holds (rules_of (spread p)) (draft_in p.head p.draft) ≡ true)
-        → outcome_of (tested_in sound) (spread p) e ≡ outcome_of (tested_in false) (spread p) e
-    held true h = outcome_sound (spread p) e (h refl t)
-    held false h = refl
+outcome_decided p e {asked = asked} known t = outcome_same (tested_with asked) (tested_in false) (spread p) e (tested-decided p known t e.measure _)
 
 pub replay_decided : (p : State) (n : ℤ) {missing settled : ℕ} {asked : Option Index} (r : Result Outcome Refusal) → Trusted p missing settled asked
     → Decided (tested_with asked) (spread p) n missing r → Decided (tested_in false) (spread p) n missing r
 replay_decided p n {asked = asked} r known =
-    decided_same (tested_with asked) (tested_in false) (spread p) n r (outcome_decided p (named_in (spread p) (natural n)) known)
+    decision_same (tested_with asked) (tested_in false) (spread p) n r (λ t. tested-decided p known t (named_in (spread p) (natural n)).measure _)
 
 module _ (q : Spread) (n : ℤ) where
   abbrev h : Head

@@ -8,17 +8,11 @@ use Rattle.protocol.specs.declared.call.Call.TheVariants.{Rule, Edit, Send, Repl
 use Rattle.heads.specs.declared.Head.{Head}
 use Rattle.state.specs.View.{view}
 use Rattle.state.specs.Meets.{Makes}
-use Rattle.calls.proofs.Making.{drawn, moved, rule-same, unsent_is, read, fate-plan, left_plan, readied, edit-trusted, replay-trusted}
+use Rattle.calls.proofs.Making.{drawn, moved, unsent_is, read, fate-plan, left_plan, readied, edit-trusted, replay-trusted}
 use Rattle.calls.proofs.changed.Goals as goal
 
 pub returns-in-Rule : goal.returns-in-Rule
-returns-in-Rule c k =
-    let i = c.in-Rule in
-    let l : to_z w32 (of_z w32 i.lower) ≡ i.lower = search rules in
-    let g : to_z w32 (of_z w32 i.gap) ≡ i.gap = search rules in
-    let u : to_z w32 (of_z w32 i.upper) ≡ i.upper = search rules in
-    let f : to_z w32 (of_z w32 i.firm) ≡ i.firm = search rules in
-    rw i.is (drawn c.args.beside.now (Rule i.lower i.gap i.upper i.firm) (rule-same l g u f c.rule.ensures.makes) refl)
+returns-in-Rule c k = let i = c.in-Rule in rw i.is (drawn c.args.beside.now (Rule i.r) c.rule.ensures.makes refl)
 
 pub returns-in-Edit : goal.returns-in-Edit
 returns-in-Edit c k =
