@@ -73,6 +73,8 @@ fn rule_slot(next: u32, rule: &Rule) -> Slot
 
 // ---- chains
 
+// Two loops of two lines, and no one for both: handed what makes a slot of an item, it would have to say of any type which slot of the definitions that is.
+
 // The measures, from slot 1 on.
 fn put_measures(area: &mut [u8], values: &[i32])
     requires { (length values.now ≤ 32) × (16 * (1 + length values.now) ≤ length area.old) }
