@@ -14,7 +14,8 @@ pub enum Change {
 }
 
 impl Change {
-    // The change of a kind number and a constant, two numbers of a call that are no value of their own: no TryFrom. Every other number, and a constant that the kind does not take, is refused as 24.
+    // The change of a kind number and a constant, two numbers of a call that are no value of their own: no TryFrom.
+    // Every other number, and a constant that the kind does not take, is refused as 24.
     #[tactic(auto, unfolding(crate::specs::Change::made_of))]
     pub fn of(kind: u32, constant: i32) -> Option<Change>
         ensures { result ≡ made_of kind constant }
