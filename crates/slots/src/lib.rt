@@ -90,12 +90,19 @@ impl Slot {
     pub fn fits(&self, kind: Kind) -> bool
         ensures { result ≡ fits_kind (kind_number kind) self.now }
     {
+        self.fits_bits(kind.bits())
+    }
+
+    // The same of any two bits, those of no kind too.
+    pub fn fits_bits(&self, bits: u8) -> bool
+        ensures { result ≡ fits_kind bits self.now }
+    {
         let m = mark_byte(self.first);
-        kind_of(m) == kind.bits()
+        kind_of(m) == bits
             && high_bits(m) == 0
             && last_byte(self.first) == 0
             && self.fourth == 0
-            && (kind != Kind::Measure || (!firm_of(m) && self.third == 0))
+            && (bits != Kind::Measure.bits() || (!firm_of(m) && self.third == 0))
     }
 
     // Written anew as slot k of an area; nothing where the area has none.
@@ -199,11 +206,19 @@ pub fn high_bits(m: u8) -> u8
     m >> 3
 }
 
-#[tactic(auto, unfolding(file::specs::Bytes::mark))]
+#[tactic(auto, unfolding(file::specs::Bytes::kind_bits))]
 pub fn mark_of(kind: Kind, firm: bool) -> u8
     ensures { result ≡ mark (kind_number kind) firm }
 {
-    kind.bits() | (u8::from(firm) << 2)
+    mark_with(kind.bits(), firm)
+}
+
+// The same of any two bits, those of no kind too.
+#[tactic(auto, unfolding(file::specs::Bytes::mark, file::specs::Bytes::kind_bits))]
+pub fn mark_with(bits: u8, firm: bool) -> u8
+    ensures { result ≡ mark (kind_bits bits) firm }
+{
+    kind_of(bits) | (u8::from(firm) << 2)
 }
 
 // ---- writing
