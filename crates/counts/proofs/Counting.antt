@@ -1,5 +1,5 @@
 -- The counts go with the plan: after any accepted call they are those of the plan that it leaves. Assumes nothing.
-use Prim.Native.Nat.{ℕ, suc, ◌+◌, ◌*◌, ◌-◌, ◌<◌, ◌≤◌, min}
+use Prim.Native.Nat.{ℕ, suc, ◌+◌, ◌-◌, ◌<◌, ◌≤◌, min}
 use native.Mathlib.Omega.{arith}
 use mathlib.Core.Path.{◌≡◌, refl, sym, ap, ◌∙◌, subst}
 use mathlib.Core.Logic.{◌≢◌}
@@ -7,7 +7,7 @@ use mathlib.Core.Bool.{Bool, true, false, not, cond, ◌&&◌, ◌||◌}
 use mathlib.Core.List.{List, [], ◌∷◌, map}
 use borrow.Author.Tests.{eqb-true, eqb-false, eq-eqb, ne_eqb, ltb-true, ltb-false}
 use lib.Dec.{T, eqb, leb, ltb, nleb→lt}
-use lib.ListN.{length, get_or, set, length-set, length-map}
+use lib.ListN.{length, set, length-set, length-map}
 use Rattle.protocol.specs.Lists.{bit, is_none, one_to, count_to, natural, count, snoc}
 use Rattle.protocol.specs.Plan.{Edit, Kept, Fate, unsent, waiting, accepted, revoked, fate_is, Mode, blank, whole, split, joining, closing, is, Content, Plan, is_unsent, is_waiting, is_settled, active, made, absent_side, side_at, lookup, unsent_of, pending, sides_that, kept_limit}
 use Rattle.protocol.specs.Calls.{Call, measure, rule, open_plan, split-side, edit, join, send, replay, stop, confirm, install, show, fate_of_edit, left, checks, further, apart, edit_of, on_values, has_arrived, has_confirmed, reset, after, mark_sent, settled, update, replayable, next_place, left_of}

@@ -10,7 +10,7 @@ use lib.Dec.{eqb→eq}
 use lib.ListN.{length, get_or, set}
 use Rattle.std.proofs.Common.{Err}
 use Rattle.protocol.specs.Asked.{number_of}
-use Rattle.protocol.specs.Lists.{natural, is_none, snoc}
+use Rattle.protocol.specs.Lists.{is_none, snoc}
 use Rattle.protocol.specs.Plan.{Rule, blank, is, mode_number}
 use Rattle.protocol.specs.Calls.{Call, measure, rule, open_plan, Check, fine, refused, first, checks, further, first_values, on_values, rule_of, after, gives, ok}
 use Rattle.protocol.specs.declared.call.Rule.{Rule as Asked}

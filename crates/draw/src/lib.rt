@@ -13,9 +13,8 @@ ghost use Rattle.heads.specs.Heads.{measures_in};
 ghost use Rattle.state.specs.Meets.{Makes};
 
 use heads::{Head, Mode};
-use protocol::call;
-use protocol::limit;
 use protocol::refusal::Refusal;
+use protocol::{call, limit};
 use rules::{Rule, Table};
 use state::{Answer, Given, State};
 

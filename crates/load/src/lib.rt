@@ -15,9 +15,8 @@ ghost use Rattle.load.specs.Drawing.{slot_call, chain_calls, Drew, LoadedFrom};
 ghost use Rattle.load.specs.Loading.{MeetsLoad};
 
 use heads::{Head, Mode};
-use protocol::call;
-use protocol::limit;
 use protocol::refusal::Refusal;
+use protocol::{call, limit};
 use slots::{Kind, Slot};
 use state::{Answered, Given, State};
 

@@ -12,8 +12,7 @@ ghost use Rattle.rules.specs.Table.{lowers, gaps, uppers, firms, with_rule};
 ghost use Rattle.rules.specs.Rules.{numbered, with_value, pair_holds, names_pair, names_firmly, names_at, tested_in, firm_in};
 ghost use Rattle.rules.specs.Index.{top_of, place_of, other_of, naming_holds, is_made, NoneAbove, Added, Indexed, listed_as, indexed_in, tested_with, firm_with};
 
-use protocol::call;
-use protocol::limit;
+use protocol::{call, limit};
 
 // The value of measure m in a row; 0 where there is none.
 #[tactic(auto, unfolding(protocol::specs::Plan::value))]

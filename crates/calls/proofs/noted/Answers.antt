@@ -1,5 +1,5 @@
 use mathlib.Core.Bool.{Bool}
-use mathlib.Core.Path.{◌≡◌, sym, ◌∙◌, subst}
+use mathlib.Core.Path.{sym, ◌∙◌, subst}
 use Rattle.calls.specs.Makes.{Noted}
 use Rattle.calls.proofs.Making.{made_accepted, made-refused}
 use Rattle.calls.proofs.noted.Goals as goal

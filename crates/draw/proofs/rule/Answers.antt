@@ -2,19 +2,13 @@ use Prim.Native.Nat.{◌+◌, ◌<◌, min}
 use mathlib.Core.Path.{◌≡◌, sym, ap, subst, ◌∙◌}
 use mathlib.Core.List.{List}
 use native.Mathlib.Omega.{arith}
-use lib.IntN.{ℤ}
-use mir.Syntax.{w32}
-use mir.Val.{SFits, to_z, of_z}
-use mir.Facts.{to_z-of_z}
 use Rattle.std.proofs.Common.{rules, Err}
-use Rattle.protocol.specs.Lists.{natural}
 use Rattle.protocol.specs.declared.call.Rule.{Rule as Asked}
-use Rattle.heads.specs.declared.Head.{Head}
 use Rattle.rules.specs.declared.Rule.{Rule}
 use Rattle.rules.specs.Table.{with_rule}
 use Rattle.state.specs.declared.State.{State}
 use Rattle.state.specs.Meets.{Makes, number}
-use Rattle.draw.specs.Draw.{rule_checks, rule_asked, ruled}
+use Rattle.draw.specs.Draw.{rule_asked, ruled}
 use Rattle.draw.proofs.Draw.{called, rule_refused, rule_drawn}
 use Rattle.draw.proofs.rule.Goals as goal
 
