@@ -193,24 +193,6 @@ open_drawn p e =
 
 -- ---- the rest
 
-pub rest_same : (p : State) → LeavesRest p p
-rest_same p = record { added = refl; kept = refl; mark = refl; based = refl; drafted = refl; base = refl; draft = refl; arrived = refl; confirmed = refl; edits = refl }
-
-pub rest_then : {p q r : State} → LeavesRest p q → LeavesRest q r → LeavesRest p r
-rest_then a b =
-    record {
-      added = b.added ∙ a.added;
-      kept = b.kept ∙ a.kept;
-      mark = b.mark ∙ a.mark;
-      based = b.based ∙ a.based;
-      drafted = b.drafted ∙ a.drafted;
-      base = b.base ∙ a.base;
-      draft = b.draft ∙ a.draft;
-      arrived = b.arrived ∙ a.arrived;
-      confirmed = b.confirmed ∙ a.confirmed;
-      edits = b.edits ∙ a.edits;
-    }
-
 -- with the head, the values and the table put back, all is as it was
 pub put_back : {p q : State} → LeavesRest p q → record q { head = p.head; values = p.values; table = p.table } ≡ p
 put_back {p} {q} a =

@@ -1,7 +1,7 @@
 -- Laws of positions, from 1, and the places that they name. Assumes nothing.
 use Prim.Native.Nat.{ℕ, zero, suc, ◌<◌}
 use native.Mathlib.Omega.{arith}
-use mathlib.Core.Path.{◌≡◌, refl, sym, ap}
+use mathlib.Core.Path.{◌≡◌, ap}
 use Rattle.std.specs.Prelude.{Option, None, Some}
 use Rattle.std.proofs.lemmas.Option.{none-some}
 use Rattle.heads.specs.Heads.{seat, slot_at}
@@ -18,7 +18,3 @@ or_zero (Some i) = i
 pub seat_some : (p i : ℕ) → seat p ≡ Some i → p ≡ suc i
 seat_some zero i e = absurd (none-some i e)
 seat_some (suc j) i e = ap suc (ap or_zero e)
-
-pub seat-none : (p : ℕ) → seat p ≡ None → p ≡ zero
-seat-none zero e = refl
-seat-none (suc j) e = absurd (none-some j (sym e))

@@ -126,12 +126,6 @@ unfolding lines
 lines-over sheet at h = rw (drop_of_length-le sheet {i = at} h)
 
 module _ (sheet : List ℕ) (at end : ℕ) (e : end ≡ at + length (up_to line_feed (drop at sheet))) where
-  pub line_within : at ≤ length sheet → end ≤ length sheet
-  line_within h =
-      let l = up_to-length line_feed (drop at sheet) in
-      let d = length-drop at sheet in
-      omega arith
-
   -- the lines from the place on are this line and those behind its line feed
   pub lines_at : at < length sheet → lines (drop at sheet) ≡ up_to line_feed (drop at sheet) ∷ lines (drop (end + 1) sheet)
   lines_at h =

@@ -1,8 +1,8 @@
 -- Laws of spans: lists read off a function of the index. Assumes nothing.
 use Prim.Native.Nat.{ℕ, zero, suc, ◌+◌, ◌-◌, ◌<◌, ◌≤◌, min}
 use native.Mathlib.Omega.{arith}
-use mathlib.Core.Bool.{Bool, true, false, ◌&&◌, ◌||◌}
-use mathlib.Core.Path.{◌≡◌, refl, sym, ap, ap₂, ◌∙◌, subst}
+use mathlib.Core.Bool.{Bool, ◌&&◌, ◌||◌}
+use mathlib.Core.Path.{◌≡◌, refl, sym, ap, ap₂, ◌∙◌}
 use mathlib.Core.Logic.{◌≢◌}
 use mathlib.Core.List.{List, [], ◌∷◌, map, reverse, reverse-append}
 use borrow.Author.Tests.{ltb-true, ltb-false}
@@ -86,11 +86,6 @@ module _ {A : Type 0} where
       let e : i + suc s ≡ suc i + s = omega arith in
       ap₂ {C = List A} (λ x xs. x ∷ xs) (other i (omega arith) (omega arith) (λ z. omega arith))
       (modify-span (suc i) n s g f f' (omega arith) (rw e at same) (λ k p q ne. other k (omega arith) (omega arith) (λ z. ne (z ∙ e))))
-
-  pub modify_past : (i n s : ℕ) (g : A → A) (f : ℕ → A) → n ≤ s → modify (suc s) g (span i n f) ≡ span i n f
-  modify_past i zero s g f h = refl
-  modify_past i (suc n) zero g f h = absurd (omega arith)
-  modify_past i (suc n) (suc s) g f h = ap {B = List A} (λ xs. f i ∷ xs) (modify_past (suc i) n s g f (omega arith))
 
 pub map-span : {A B : Type 0} (g : A → B) (i n : ℕ) (f : ℕ → A) → map g (span i n f) ≡ span i n (λ k. g (f k))
 map-span g i zero f = refl

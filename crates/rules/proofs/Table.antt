@@ -5,15 +5,15 @@ use mathlib.Core.Bool.{false, ◌&&◌, ◌||◌}
 use mathlib.Core.Path.{◌≡◌, refl, sym, ap, ap₂, ◌∙◌}
 use mathlib.Core.List.{List, [], ◌∷◌}
 use lib.IntN.{pos}
-use lib.ListN.{get_or, length, set, take, drop, length-set, get_or-map}
+use lib.ListN.{get_or, length, take, drop, get_or-map}
 use lib.Seq.{drop-cons}
 use Rattle.std.specs.List.{fold, list_any}
-use Rattle.std.proofs.lemmas.List.{length-map, map-set}
+use Rattle.std.proofs.lemmas.List.{length-map}
 use Rattle.rules.specs.declared.Rule.{Rule}
 use Rattle.protocol.specs.Lists.{any}
 use Rattle.rows.specs.Rows.{span}
 use Rattle.rules.specs.Index.{top_of}
-use Rattle.rules.specs.Table.{lowers, gaps, uppers, firms, with_rule}
+use Rattle.rules.specs.Table.{lowers, gaps, uppers, firms}
 use Rattle.rules.specs.Rules.{names_pair, names_firmly, firm_at, firm_in}
 use Rattle.rules.specs.Index.{NoneAbove}
 
@@ -54,31 +54,6 @@ module _ (table : List Rule) where
     pub firms-length : length (firms table) ≡ 64
     unfolding firms
     firms-length = length-map table (λ r. r.firm) ∙ l
-
--- ---- a rule written anew
-
-module _ (table : List Rule) (i : ℕ) (rule : Rule) where
-  abbrev w : List Rule
-  w = with_rule table i rule
-
-  pub rule-length : length table ≡ 64 → length w ≡ 64
-  rule-length l = length-set table i rule ∙ l
-
-  pub rule-lower : lowers w ≡ set (lowers table) i rule.lower
-  unfolding lowers
-  rule-lower = map-set (λ r. r.lower) table i rule
-
-  pub rule-gap : gaps w ≡ set (gaps table) i rule.gap
-  unfolding gaps
-  rule-gap = map-set (λ r. r.gap) table i rule
-
-  pub rule-upper : uppers w ≡ set (uppers table) i rule.upper
-  unfolding uppers
-  rule-upper = map-set (λ r. r.upper) table i rule
-
-  pub rule-firm : firms w ≡ set (firms table) i rule.firm
-  unfolding firms
-  rule-firm = map-set (λ r. r.firm) table i rule
 
 -- ---- the first rules of a table
 

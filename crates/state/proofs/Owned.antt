@@ -1,9 +1,7 @@
--- What owning a state tells of its lists: how long they are, and that each number has at most 32 bits. Assumes nothing.
+-- What owning a state tells of its lists: that each number has at most 32 bits. Assumes nothing.
 use Prim.Native.Nat.{ℕ, zero, suc, ◌<◌}
 use native.Mathlib.Omega.{arith}
-use mathlib.Core.Path.{◌≡◌}
 use mathlib.Core.List.{List, [], ◌∷◌}
-use borrow.Author.Rules.{rules}
 use denote.Laws.{Is}
 use denote.Array.{each}
 use denote.Builtin.{i32}
@@ -11,40 +9,15 @@ use denote.Shadow.{shadow}
 use denote.Struct.Declared as Declared
 use denote.Struct.Laws.{val}
 use lib.IntN.{ℤ, pos}
-use lib.ListN.{length, get_or}
+use lib.ListN.{get_or}
 use lib.Signed.{mag}
 use mir.Val.{Val}
-use Rattle.rules.proofs.Table.{lowers-length, gaps-length, uppers-length, firms-length}
 use Rattle.records.specs.contracts.EditRecord.{the_row}
 use Rattle.records.specs.declared.EditRecord.{EditRecord}
 use Rattle.records.specs.Records.{no_record}
 use Rattle.state.specs.declared.State.{State}
-use Rattle.state.specs.Spread.{spread}
-use Rattle.state.specs.Sizes.{Sized}
 use Rattle.state.specs.contracts.State.{the_type}
 use Rattle.state.proofs.State.TheLaws.{the_laws}
-use Rattle.state.proofs.View.{unmapped}
-
--- ---- lengths
-
-pub owned_table : (p : State) → Is (Declared.row the_type) p (val the_type the_laws p ∷ []) → length p.table ≡ 64
-owned_table p g = search unmapped
-
-pub owned_spread : (p : State) → Is (Declared.row the_type) p (val the_type the_laws p ∷ []) → Sized (spread p)
-owned_spread p g = record {
-  base = search rules;
-  draft = search rules;
-  values = search rules;
-  arrived = search rules;
-  confirmed = search rules;
-  lower = lowers-length p.table (owned_table p g);
-  gap = gaps-length p.table (owned_table p g);
-  upper = uppers-length p.table (owned_table p g);
-  firm = firms-length p.table (owned_table p g);
-  edits = search unmapped;
-}
-
--- ---- ranges
 
 pub record Ranged (p : State) : Type 0 where
   pub next : p.head.next < 4294967296

@@ -4,10 +4,10 @@ use native.Mathlib.Omega.{arith}
 use mathlib.Core.Bool.{Bool, true, false, not, cond}
 use mathlib.Core.Path.{◌≡◌, sym, ap, ap₂, ◌∙◌}
 use mathlib.Core.Logic.{◌≢◌}
-use mathlib.Core.List.{List, map}
+use mathlib.Core.List.{List}
 use lib.Dec.{eqb, ltb}
 use lib.IntN.{ℤ, pos}
-use lib.ListN.{length, get_or, set, length-map}
+use lib.ListN.{length, get_or, set}
 use Rattle.protocol.specs.Lists.{count_to, modify, snoc}
 use Rattle.protocol.specs.Plan.{Side, Mode, mode_number, Content, Plan, absent_side, side_at, sides_that, lookup}
 use Rattle.protocol.proofs.Laws.{count_to-same}
@@ -20,12 +20,6 @@ use Rattle.records.specs.Records.{kept_at}
 use Rattle.state.specs.Spread.{plan_of, side_of}
 use Rattle.state.specs.Spread.{named_in}
 use Rattle.records.proofs.Records.{lookup_record}
-
--- ---- lengths
-
--- what owning a struct tells of a field that is an array of structs: its length, under a map
-pub unmapped : (A B : Type 0) (f : A → B) (l : List A) (n : ℕ) → length (map f l) ≡ n → length l ≡ n
-unmapped A B f l n e = sym (length-map l f) ∙ e
 
 -- ---- a plan from its parts
 

@@ -1,6 +1,6 @@
 -- Scaffolding: a state with its table of rules read as four lists, over which the laws of the calls are stated. Its plan is the state's own, by definition.
 -- Assumes nothing.
-use Rattle.std.specs.Prelude.{ℕ, min, ◌≡◌, Bool, false, List, ℤ, get_or, is_ok}
+use Rattle.std.specs.Prelude.{ℕ, min, ◌≡◌, Bool, false, List, ℤ, get_or}
 use Rattle.protocol.specs.Plan as model
 use Rattle.protocol.specs.Calls.{Call, step}
 use Rattle.protocol.specs.Plan.{measure_limit, rule_limit}
@@ -76,9 +76,6 @@ named_in p n = let i = position_of (end_in p.head) (kept_in p.head) n in record_
 pub record SpreadAnswered : Type 0 where
   pub state : Spread
   pub answer : Answer
-
-abbrev pub is_accepted : Answer → Bool
-is_accepted a = is_ok a
 
 abbrev pub refused_as : Spread → Refusal → SpreadAnswered
 refused_as p r = record { state = p; answer = refusal r }

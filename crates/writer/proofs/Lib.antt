@@ -1,4 +1,3 @@
 pub mod Writes
 pub mod Widths
 pub mod Parts
-pub mod Counts

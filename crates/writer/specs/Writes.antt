@@ -29,10 +29,6 @@ put_in line area = cond (fits line area) (in_front line area) area
 abbrev pub put_count : List ℕ → List ℕ → Option ℕ
 put_count line area = cond (fits line area) (Some (length line)) None
 
--- the same, with 0 where the line does not fit (proofs/Counts)
-abbrev pub put_length : List ℕ → List ℕ → ℕ
-put_length line area = cond (fits line area) (length line) 0
-
 -- ---- the parts of a line
 
 -- a number below 100 in two digits
