@@ -75,12 +75,7 @@ fn place_check(h: &Head, side: u32, client: i32, measure: u32) -> Result<(), Ref
 }
 
 // Whether the plan takes one edit more on a measure: 26, 27, 30.
-fn room_check(
-    h: &Head,
-    table: &Table,
-    index: Option<&Index>,
-    measure: u32,
-) -> Result<(), Refusal>
+fn room_check(h: &Head, table: &Table, index: Option<&Index>, measure: u32) -> Result<(), Refusal>
     ensures { verdict_of result ≡ first (room_checks h.now (firm_with (option_copied index.entry) (lowers table.now) (uppers table.now)
         (firms table.now) (min h.now.rules 64) measure)) }
 {

@@ -120,12 +120,7 @@ fn trial(p: &State, e: &EditRecord, index: Option<&Index>) -> Outcome
 }
 
 // What a replay decides, from how many first logs are missing; the state stays as it is.
-pub fn decide(
-    p: &State,
-    n: i32,
-    missing: u32,
-    index: Option<&Index>,
-) -> Result<Outcome, Refusal>
+pub fn decide(p: &State, n: i32, missing: u32, index: Option<&Index>) -> Result<Outcome, Refusal>
     ensures exact { Decided (tested_with (option_copied index.entry)) (spread p.now) n missing result }
     ensures rule { TrustedUncounted p.now missing (option_copied index.entry) → NamesRule (view p.now) n result }
 {
@@ -159,13 +154,7 @@ fn settle(p: &mut State, i: usize, outcome: Outcome, settled: u32)
 }
 
 // A replay made in place. How many first logs are missing and how many edits are settled, the plan's owner counts.
-pub fn replay(
-    p: &mut State,
-    n: i32,
-    missing: u32,
-    settled: u32,
-    index: Option<&Index>,
-) -> Answer
+pub fn replay(p: &mut State, n: i32, missing: u32, settled: u32, index: Option<&Index>) -> Answer
     ensures exact { Replayed (tested_with (option_copied index.entry)) p.old n missing settled result p.new }
     ensures step { Trusted p.old missing settled (option_copied index.entry) → Makes (replay n) p.old result p.new }
     ensures rules { (p.new.table ≡ p.old.table) × (p.new.head ≡ p.old.head) }
