@@ -22,7 +22,7 @@ use Rattle.format.specs.Sheets.{step_of}
 use Rattle.rows.specs.Rows.{row}
 use Rattle.rows.proofs.Spans.{length-span}
 use Rattle.rules.specs.declared.Index.{Index}
-use Rattle.rules.specs.Index.{IndexedIfAsked}
+use Rattle.rules.specs.Index.{IndexedIfSome}
 use Rattle.heads.specs.Heads.{mode_of, sides_in, index_of, offset_of, measures_in, kept_in, end_in}
 use Rattle.records.specs.Records.{kept_at, no_record}
 use Rattle.state.specs.declared.State.{State}
@@ -127,7 +127,7 @@ module _ (c : Call) {p q : State} {a : Answer} (m : Makes (asked c) p a q) (t : 
 -- ---- the index
 
 -- where the rules stay, an index that was made is still theirs
-pub ready_still : {index : Index} (p q : State) → q.table ≡ p.table → q.head.rules ≡ p.head.rules → ReadyIn (spread p) index → ReadyIn (spread q) index
+pub ready_still : {index : Option Index} (p q : State) → q.table ≡ p.table → q.head.rules ≡ p.head.rules → ReadyIn (spread p) index → ReadyIn (spread q) index
 ready_still p q same n w = rw (same, n) w
 
 -- a refusal leaves everything
@@ -205,6 +205,9 @@ left_plan p = refl
 
 -- ---- and what is kept beside the plan
 
+no-index : {A : Type 0} {index : Index} → None ≡ Some index → A
+no-index e = cc
+
 module _ (c : Call) {p q : State} {a : Answer} {b b' : Beside} (w : Changes c p b a q b') where
   pub made_accepted : {b'' : Beside} → is_ok a ≡ true → Noted c p.head (log_before p c) b' b''
       → Made (Some c) p b (record { answer = a; shown = None }) q b''
@@ -217,7 +220,7 @@ module _ (c : Call) {p q : State} {a : Answer} {b b' : Beside} (w : Changes c p 
     tallied = λ h. subst (λ t. Tallied t (view q)) (sym (n.counts ∙ ap (noted c p.head (log_before p c)) w.counts))
         (tallied-accepted c w.makes b.counts h y);
     indexed = λ x. cases (is_draw c)
-        (λ d made. absurd (is_yes (sym (n.stale d) ∙ made)))
+        (λ d index made. no-index (sym (n.stale d) ∙ made))
         (λ d. let r = w.rules d in subst (ReadyIn (spread q)) (sym (n.index d)) (ready_still p q r.0 r.1 (w.indexed x)));
     sound = n.sound ∙ w.sound;
   }
@@ -266,20 +269,20 @@ readied c r m s = record { makes = m; rules = λ e. s; counts = r.counts; sound 
 
 -- the index that is asked, if one is
 abbrev pub asked_of : Beside → Option Index
-asked_of b = cond b.sound (Some b.index) None
+asked_of b = cond b.sound b.index None
 
-asks : (t : Bool) (index : Index) → IsSome (cond t (Some index) None) → t ≡ true
+asks : (t : Bool) (index : Option Index) → IsSome (cond t index None) → t ≡ true
 asks true index e = refl
 asks false index e = absurd (is_yes e)
 
 module _ {p : State} {b b' : Beside} (r : Readied p b b') where
   -- it is the rules' own
-  theirs : (b.sound ≡ true → ReadyIn (spread p) b.index) → IndexedIfAsked (asked_of b') (spread p).lower (spread p).gap (spread p).upper (spread p).firm (min p.head.rules 64)
+  theirs : (b.sound ≡ true → ReadyIn (spread p) b.index) → IndexedIfSome (asked_of b') (spread p).lower (spread p).gap (spread p).upper (spread p).firm (min p.head.rules 64)
   theirs i = by b'.sound refl
     where
-      by : (t : Bool) → b'.sound ≡ t → IndexedIfAsked (cond t (Some b'.index) None) (spread p).lower (spread p).gap (spread p).upper (spread p).firm (min p.head.rules 64)
-      by true y = let s = sym r.sound ∙ y in r.asked s (i s) refl
-      by false y = tt
+      by : (t : Bool) → b'.sound ≡ t → IndexedIfSome (cond t b'.index None) (spread p).lower (spread p).gap (spread p).upper (spread p).firm (min p.head.rules 64)
+      by true y = r.still (i (sym r.sound ∙ y))
+      by false y = λ index e. no-index e
 
   -- and every rule is known to hold
   holding : SoundIn b.sound (spread p) → IsSome (asked_of b') → Holding (view p).mode (view p).content

@@ -1,6 +1,6 @@
 -- Scaffolding: what every call promises, made on a plan and on what its owner keeps beside it: where that is true, the answer and the plan are the protocol's, what is
 -- kept stays true, and a refusal leaves the plan as it was. Assumes nothing.
-use Rattle.std.specs.Prelude.{ℕ, min, ◌≡◌, Bool, true, false, List, [], get_or, ℤ, Option, Some, None}
+use Rattle.std.specs.Prelude.{ℕ, min, ◌≡◌, Bool, true, false, List, [], get_or, ℤ, Option, Some, None, IsSome}
 use Rattle.protocol.specs.Lists.{natural}
 use Rattle.protocol.specs.Plan.{rule_limit}
 use Rattle.protocol.specs.Asked.{asked}
@@ -10,7 +10,7 @@ use Rattle.guarantee.specs.Holding.{Holding}
 use Rattle.format.specs.Sheets.{step_of}
 use Rattle.rows.specs.Rows.{row}
 use Rattle.rules.specs.declared.Index.{Index}
-use Rattle.rules.specs.Index.{is_made, IndexedIf}
+use Rattle.rules.specs.Index.{IndexedIfSome}
 use Rattle.heads.specs.declared.Head.{Head}
 use Rattle.heads.specs.Heads.{index_of, offset_of, measures_in}
 use Rattle.state.specs.declared.State.{State}
@@ -30,8 +30,8 @@ abbrev pub SoundIn : Bool → Spread → Type 0
 SoundIn b p = b ≡ true → Holding (plan_of p).mode (plan_of p).content
 
 -- an index that was made is that of the plan's rules
-abbrev pub ReadyIn : Spread → Index → Type 0
-ReadyIn p index = IndexedIf (is_made index) index p.lower p.gap p.upper p.firm (min p.head.rules rule_limit)
+abbrev pub ReadyIn : Spread → Option Index → Type 0
+ReadyIn p index = IndexedIfSome index p.lower p.gap p.upper p.firm (min p.head.rules rule_limit)
 
 -- of a plan: its counts, the index, and that every rule holds
 pub record Kept (b : Beside) (p : State) : Type 0 where
@@ -126,7 +126,7 @@ pub record Made (c : Option Call) (p : State) (b : Beside) (r : Told) (q : State
 pub record Readied (p : State) (b b' : Beside) : Type 0 where
   pub counts : b'.counts ≡ b.counts
   pub sound : b'.sound ≡ b.sound
-  pub asked : b.sound ≡ true → ReadyIn (spread p) b.index → IndexedIf true b'.index (spread p).lower (spread p).gap (spread p).upper (spread p).firm (min p.head.rules rule_limit)
+  pub asked : b.sound ≡ true → IsSome b'.index
   pub still : ReadyIn (spread p) b.index → ReadyIn (spread p) b'.index
 
 -- a call is made, and the counts are those of before
@@ -158,7 +158,7 @@ log_before p Left = false
 pub record Noted (c : Call) (h : Head) (arrived : Bool) (b b' : Beside) : Type 0 where
   pub counts : b'.counts ≡ noted c h arrived b.counts
   pub sound : b'.sound ≡ b.sound
-  pub stale : is_draw c ≡ true → is_made b'.index ≡ false
+  pub stale : is_draw c ≡ true → b'.index ≡ None
   pub index : is_draw c ≡ false → b'.index ≡ b.index
 
 -- a sheet's show: the plan stays

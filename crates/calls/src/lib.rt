@@ -6,7 +6,6 @@ ghost use Rattle.std.specs.Prelude.{◌≡◌, false, cond, Some, None, Err, opt
 ghost use Rattle.calls.specs.Makes.{Readied, Known, KnownIf, Changes, Made, is_show, log_before, Noted, Shows};
 ghost use Rattle.counts.specs.Tallies.{Tallied, unsent_in};
 ghost use Rattle.protocol.specs.Lists.{natural};
-ghost use Rattle.rules.specs.Index.{is_made};
 ghost use Rattle.state.specs.View.{view};
 
 use counts::Tallies;
@@ -23,34 +22,34 @@ pub struct Told {
     pub shown: Option<u32>,
 }
 
-// What the owner of a plan keeps beside it: the counts of its kept edits, the index of its rules, and whether every rule is known to hold (`sound`), which is when
-// the index is asked. The two stand apart, and are no option of an index, since it is made only once it is asked, and forgotten when the rules change.
+// What the owner of a plan keeps beside it: the counts of its kept edits, the index of its rules, if it was made, and whether every rule is known to hold (`sound`),
+// which is when the index is asked.
 #[derive(Clone, Copy)]
 pub struct Beside {
     pub counts: Tallies,
-    pub index: Index,
+    pub index: Option<Index>,
     pub sound: bool,
 }
 
 impl Beside {
     // Of a plan of which it is known or not that every rule holds. No index is made before it is asked.
     pub fn of(p: &State, sound: bool) -> Beside
-        ensures { (Tallied result.counts (view p.now)) × (is_made result.index ≡ false) × (result.sound ≡ sound) }
+        ensures { (Tallied result.counts (view p.now)) × (result.index ≡ None) × (result.sound ≡ sound) }
     {
         Beside {
             counts: query::tallies(p),
-            index: Index::new(),
+            index: None,
             sound,
         }
     }
 
     // For an edit of a plan of which nothing is known: it needs no counts, and counting goes over the kept edits.
     pub fn unknown() -> Beside
-        ensures { (is_made result.index ≡ false) × (result.sound ≡ false) }
+        ensures { (result.index ≡ None) × (result.sound ≡ false) }
     {
         Beside {
             counts: Tallies::none(),
-            index: Index::new(),
+            index: None,
             sound: false,
         }
     }
@@ -59,7 +58,7 @@ impl Beside {
     fn ready(&mut self, p: &State)
         ensures { Readied p.now self.old self.new }
     {
-        if self.sound && !self.index.is_made() {
+        if self.sound && self.index.is_none() {
             self.make_index(p);
         }
     }
@@ -68,14 +67,18 @@ impl Beside {
     fn make_index(&mut self, p: &State)
         ensures { Readied p.now self.old self.new }
     {
-        self.index = Index::of(&p.table, p.head.rules);
+        self.index = Some(Index::of(&p.table, p.head.rules));
     }
 
     // The index, where every rule is known to hold.
     fn asked(&self) -> Option<&Index>
-        ensures { option_copied result ≡ cond self.now.sound (Some self.now.index) None }
+        ensures { option_copied result ≡ cond self.now.sound self.now.index None }
     {
-        self.sound.then_some(&self.index)
+        if self.sound {
+            self.index.as_ref()
+        } else {
+            None
+        }
     }
 
     // A call was accepted: from the head before it, and whether the first log of the side that it names was there. After a drawing the rules are others.
@@ -84,7 +87,7 @@ impl Beside {
     {
         self.counts.note(call, before, arrived);
         if matches!(call, Call::Measure(_) | Call::Rule(_) | Call::Open) {
-            self.index.forget();
+            self.index = None;
         }
     }
 }

@@ -14,7 +14,7 @@ use Rattle.change.specs.Change.{made_of}
 use Rattle.rows.specs.Rows.{row}
 use Rattle.rules.specs.Rules.{RuleTest}
 use Rattle.rules.specs.declared.Index.{Index}
-use Rattle.rules.specs.Index.{FirmTest, IndexedIfAsked}
+use Rattle.rules.specs.Index.{FirmTest, IndexedIfSome}
 use Rattle.records.specs.declared.EditRecord.{EditRecord}
 use Rattle.records.specs.declared.Fate.TheVariants.{Unsent}
 use Rattle.heads.specs.declared.Head.{Head}
@@ -78,7 +78,7 @@ pub record Ruled (test : RuleTest) (firmly : FirmTest) (p : Spread) (e : Edit) (
 -- If an index is asked, it is that of the rules, and every rule holds on the row of the side that the edit names.
 pub record Trusted (asked : Option Index) (p : State) (e : Edit) : Type 0 where
   pub indexed : T (not (is blank (mode_of p.head.mode)))
-      → IndexedIfAsked asked (spread p).lower (spread p).gap (spread p).upper (spread p).firm (min p.head.rules rule_limit)
+      → IndexedIfSome asked (spread p).lower (spread p).gap (spread p).upper (spread p).firm (min p.head.rules rule_limit)
   pub held : IsSome asked → T (not (is blank (mode_of p.head.mode))) → T (one_to (sides_in p.head) (natural e.side)) → holds (rules_of (spread p)) (row_of (spread p) e) ≡ true
 
 -- ---- what is stored

@@ -12,7 +12,7 @@ use Rattle.change.specs.Change.{view_change}
 use Rattle.rows.specs.Rows.{row}
 use Rattle.rules.specs.Rules.{RuleTest, numbered}
 use Rattle.rules.specs.declared.Index.{Index}
-use Rattle.rules.specs.Index.{IndexedIfAsked}
+use Rattle.rules.specs.Index.{IndexedIfSome}
 use Rattle.rules.specs.Table.{lowers, gaps, uppers, firms}
 use Rattle.records.specs.declared.EditRecord.{EditRecord}
 use Rattle.records.specs.declared.Fate.{Fate}
@@ -142,7 +142,7 @@ pub record Replayed (test : RuleTest) (p : State) (n : ℤ) (missing settled : �
 pub record Trusted (p : State) (first_logs places : ℕ) (asked : Option Index) : Type 0 where
   pub missing : T (active (mode_of p.head.mode)) → first_logs ≡ unset_in p.arrived (sides_in p.head)
   pub settled : T (active (mode_of p.head.mode)) → places ≡ count is_settled (kept_of p.head p.edits)
-  pub indexed : T (active (mode_of p.head.mode)) → IndexedIfAsked asked (lowers p.table) (gaps p.table) (uppers p.table) (firms p.table) (min p.head.rules rule_limit)
+  pub indexed : T (active (mode_of p.head.mode)) → IndexedIfSome asked (lowers p.table) (gaps p.table) (uppers p.table) (firms p.table) (min p.head.rules rule_limit)
   pub held : IsSome asked → T (active (mode_of p.head.mode)) → holds (rules_of (spread p)) (draft_in p.head p.draft) ≡ true
 
 -- the same where nobody has counted the settled edits

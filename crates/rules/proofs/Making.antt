@@ -163,9 +163,9 @@ pub record Indexing (lower : List ℕ) (gap : List ℤ) (upper : List ℕ) (firm
   pub counted : n ≡ named_to lower upper end (m - 1)
   pub done : (j : ℕ) → j < m → Done lower gap upper firm end index n j
 
--- the one that was not made
+-- the one that it begins with
 abbrev pub no_index : Index
-no_index = record { made = false; ends = replicate 34 0; firm = replicate 33 false; namings = replicate 128 no_naming }
+no_index = record { ends = replicate 34 0; firm = replicate 33 false; namings = replicate 128 no_naming }
 
 module _ (lower : List ℕ) (gap : List ℤ) (upper : List ℕ) (firm : List Bool) (end : ℕ) where
   none_at : namings_of lower gap upper end 0 ≡ []
@@ -250,13 +250,6 @@ module _ (lower : List ℕ) (gap : List ℤ) (upper : List ℕ) (firm : List Boo
           done = λ j k. cases (ltb j m) (λ t. still j (ltb-true j m t) (w.done j (ltb-true j m t)))
               (λ t. let e : m ≡ j = (let u = ltb-false j m t in omega arith) in subst (Done lower gap upper firm end last next) e here);
         }
-
--- ---- the mark of an index that was made
-
--- it stands apart from all that the index says
-pub indexed-marked : (index : Index) (t : Bool) {lower : List ℕ} {gap : List ℤ} {upper : List ℕ} {firm : List Bool} {n : ℕ} → Indexed index lower gap upper firm n → Indexed (record index { made = t }) lower gap upper firm n
-unfolding namings_in flag_in
-indexed-marked index t w = record { named = w.named; firmly = w.firmly }
 
 -- ---- a measure above all that the rules name
 

@@ -23,7 +23,7 @@ use Rattle.rules.proofs.Rules.{value_in_lem, value_past, value_out, with_other, 
 use Rattle.rules.specs.declared.Other.TheVariants.{Above, Below}
 use Rattle.rules.specs.declared.Naming.{Naming}
 use Rattle.rules.specs.declared.Index.{Index}
-use Rattle.rules.specs.Index.{place_of, other_of, other_at, naming_of, namings_of, naming_holds, number_of, side_holds, naming_at, first_at, last_at, namings_in, flag_in, Indexed, IndexedIfAsked, listed_as, indexed_in, tested_with, firm_with}
+use Rattle.rules.specs.Index.{place_of, other_of, other_at, naming_of, namings_of, naming_holds, number_of, side_holds, naming_at, first_at, last_at, namings_in, flag_in, Indexed, IndexedIfSome, listed_as, indexed_in, tested_with, firm_with}
 
 -- ---- what passes a test
 
@@ -144,9 +144,9 @@ module _ (lower : List ℕ) (gap : List ℤ) (upper : List ℕ) (n : ℕ) where
       none-due t = rw (t, and-false (ltb 0 m), none-passing (last_first n))
 
 pub tested_indexed : (asked : Option Index) (m : ℕ) (lower : List ℕ) (gap : List ℤ) (upper : List ℕ) (firm : List Bool) (n : ℕ) (x : ℤ) (vs : List ℤ) → length vs ≤ 32
-    → IndexedIfAsked asked lower gap upper firm n → tested_with asked m lower gap upper n x vs ≡ tested_in (is_some asked) m lower gap upper n x vs
+    → IndexedIfSome asked lower gap upper firm n → tested_with asked m lower gap upper n x vs ≡ tested_in (is_some asked) m lower gap upper n x vs
 unfolding tested_with
-tested_indexed (Some index) m lower gap upper firm n x vs l w = indexed-is lower gap upper n index firm m x vs l w
+tested_indexed (Some index) m lower gap upper firm n x vs l w = indexed-is lower gap upper n index firm m x vs l (w index refl)
 tested_indexed None m lower gap upper firm n x vs l w = refl
 
 -- asking an index, and testing all rules where none is asked
@@ -161,9 +161,9 @@ module _ (m : ℕ) (lower : List ℕ) (gap : List ℤ) (upper : List ℕ) (n : �
 
 -- and of the 32 measures it says whether a firm rule names them
 pub firm-indexed : (asked : Option Index) (lower : List ℕ) (gap : List ℤ) (upper : List ℕ) (firm : List Bool) (n m : ℕ) → 0 < m → m ≤ 32
-    → IndexedIfAsked asked lower gap upper firm n → firm_with asked lower upper firm n m ≡ firm_in lower upper firm n m
+    → IndexedIfSome asked lower gap upper firm n → firm_with asked lower upper firm n m ≡ firm_in lower upper firm n m
 unfolding firm_with
-firm-indexed (Some index) lower gap upper firm n m p q w = ap (flag_in index) (listed-is m q) ∙ w.firmly m p q
+firm-indexed (Some index) lower gap upper firm n m p q w = ap (flag_in index) (listed-is m q) ∙ (w index refl).firmly m p q
 firm-indexed None lower gap upper firm n m p q w = refl
 
 -- ---- a walk along the namings of a measure, from their end

@@ -1,5 +1,5 @@
 -- Scaffolding: the index: from a measure to the rules that name it, as namings put one behind another; and the tests that use it. Assumes nothing.
-use Rattle.std.specs.Prelude.{ℕ, suc, ◌+◌, ◌-◌, ◌<◌, ◌≤◌, min, max, Bool, true, false, cond, List, map, reverse, Option, Some, None, IfSome, ◌≡◌, eqb, leb, ℤ, pos, ◌+ℤ◌, length, get_or}
+use Rattle.std.specs.Prelude.{ℕ, suc, ◌+◌, ◌-◌, ◌<◌, ◌≤◌, min, max, Bool, false, cond, List, map, reverse, Option, Some, None, ◌≡◌, eqb, leb, ℤ, pos, ◌+ℤ◌, length, get_or}
 use Rattle.std.specs.Int.Signed.{lt_z}
 use Rattle.std.specs.List.{fold}
 use Rattle.protocol.specs.Lists.{one_to, count, passing, first_not}
@@ -72,22 +72,14 @@ namings_in index m = span (first_at index m) (last_at index m - first_at index m
 unfoldable pub flag_in : Index → ℕ → Bool
 flag_in index m = get_or index.firm m false
 
--- whether it was made; until then nothing is known of it
-unfoldable pub is_made : Index → Bool
-is_made index = index.made
-
 -- the index of the first n rules
 pub record Indexed (index : Index) (lower : List ℕ) (gap : List ℤ) (upper : List ℕ) (firm : List Bool) (n : ℕ) : Type 0 where
   pub named : (m : ℕ) → m ≤ measure_limit → namings_in index m ≡ namings_of lower gap upper n m
   pub firmly : (m : ℕ) → 0 < m → m ≤ measure_limit → flag_in index m ≡ firm_in lower upper firm n m
 
--- it is theirs where a flag says so: that it was made
-abbrev pub IndexedIf : Bool → Index → List ℕ → List ℤ → List ℕ → List Bool → ℕ → Type 0
-IndexedIf b index lower gap upper firm n = b ≡ true → Indexed index lower gap upper firm n
-
--- and if one is asked, it is theirs
-abbrev pub IndexedIfAsked : Option Index → List ℕ → List ℤ → List ℕ → List Bool → ℕ → Type 0
-IndexedIfAsked asked lower gap upper firm n = IfSome asked (λ index. Indexed index lower gap upper firm n)
+-- if there is one, it is theirs
+abbrev pub IndexedIfSome : Option Index → List ℕ → List ℤ → List ℕ → List Bool → ℕ → Type 0
+IndexedIfSome o lower gap upper firm n = (index : Index) → o ≡ Some index → Indexed index lower gap upper firm n
 
 -- ---- namings put one behind another
 

@@ -10,7 +10,7 @@ ghost use Rattle.protocol.specs.Plan.{value};
 ghost use Rattle.rows.specs.Rows.{span, row};
 ghost use Rattle.rules.specs.Table.{lowers, gaps, uppers, firms, with_rule};
 ghost use Rattle.rules.specs.Rules.{numbered, with_value, pair_holds, names_pair, names_firmly, names_at, tested_in, firm_in};
-ghost use Rattle.rules.specs.Index.{top_of, place_of, other_of, naming_holds, is_made, NoneAbove, Added, Indexed, listed_as, indexed_in, tested_with, firm_with};
+ghost use Rattle.rules.specs.Index.{top_of, place_of, other_of, naming_holds, NoneAbove, Added, Indexed, listed_as, indexed_in, tested_with, firm_with};
 
 use protocol::{call, limit};
 
@@ -151,52 +151,26 @@ const ENDS: usize = FLAGS + 1;
 
 const NAMINGS: usize = 2 * limit::RULES;
 
-// Whether it was made: a flag, and no option of an index, so that it is made in place, without a copy of about 1,100 bytes. For measures from 1 to 32: at m where its namings begin, at m + 1 where they end; whether a firm rule names it; and the namings, those of a measure in the order
+// For measures from 1 to 32: at m where its namings begin, at m + 1 where they end; whether a firm rule names it; and the namings, those of a measure in the order
 // of the rules. A rule has two namings at most.
 #[derive(Clone, Copy)]
 pub struct Index {
-    made: bool,
     ends: [u8; ENDS],
     firm: [bool; FLAGS],
     namings: [Naming; NAMINGS],
 }
 
-// The index that says nothing: it was not made. A constant, so that it is set up at once.
-pub const NO_INDEX: Index = Index {
-    made: false,
+// The index of no rules. A constant, so that it is set up at once.
+const NO_INDEX: Index = Index {
     ends: [0; ENDS],
     firm: [false; FLAGS],
     namings: [NO_NAMING; NAMINGS],
 };
 
 impl Index {
-    #[tactic(auto, unfolding(crate::specs::Index::is_made))]
-    pub fn new() -> Index
-        ensures { is_made result ≡ false }
-    {
-        NO_INDEX
-    }
-
-    // Whether it was made, and not forgotten since.
-    #[tactic(auto, unfolding(crate::specs::Index::is_made))]
-    pub fn is_made(&self) -> bool
-        ensures { result ≡ is_made self.now }
-    {
-        self.made
-    }
-
-    // The rules may change: the index is no longer theirs.
-    #[tactic(auto, unfolding(crate::specs::Index::is_made))]
-    pub fn forget(&mut self)
-        ensures { is_made self.new ≡ false }
-    {
-        self.made = false;
-    }
-
     // The index of the first k rules: measure by measure, rule by rule, each naming behind the last.
     pub fn of(table: &Table, k: u32) -> Index
-        ensures { Indexed result (lowers table.now) (gaps table.now) (uppers table.now) (firms table.now) (min k 64) ×
-            (is_made result ≡ true) }
+        ensures { Indexed result (lowers table.now) (gaps table.now) (uppers table.now) (firms table.now) (min k 64) }
     {
         let rules = rows::capped(k, limit::RULES);
         let top = highest(table, rules);
@@ -208,7 +182,6 @@ impl Index {
             index.ends[m + 1] = n as u8;
             index.firm[m] = firm_below(table, k, top, measure);
         }
-        index.made = true;
         index
     }
 }

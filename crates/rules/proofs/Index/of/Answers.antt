@@ -1,14 +1,13 @@
 use Prim.Native.Nat.{min}
 use native.Mathlib.Omega.{arith}
-use mathlib.Core.Bool.{true}
-use mathlib.Core.Path.{refl, sym, ap, subst, ◌∙◌}
+use mathlib.Core.Path.{sym, ap, subst, ◌∙◌}
 use lib.ListN.{take}
 use Rattle.rules.specs.Index.{top_of}
 use Rattle.rules.specs.Table.{lowers, gaps, uppers, firms}
 use Rattle.rules.specs.Rules.{firm_in}
-use Rattle.rules.specs.Index.{is_made, NoneAbove, Indexed}
+use Rattle.rules.specs.Index.{NoneAbove, Indexed}
 use Rattle.rules.proofs.Table.{top_is}
-use Rattle.rules.proofs.Making.{indexing_begin, indexing_over, indexing_room, indexing_few, indexing_next, indexed-marked}
+use Rattle.rules.proofs.Making.{indexing_begin, indexing_over, indexing_room, indexing_few, indexing_next}
 use Rattle.rules.proofs.Index.of.Goals as goal
 
 pub loop-m-init : goal.loop-m-init
@@ -36,11 +35,6 @@ loop-m-preserved c = let a = c.args in
     (c.firm_below.ensures ∙ ap (λ n. firm_in (lowers a.table.now) (uppers a.table.now) (firms a.table.now) n c.loop-m.m) (sym c.capped-rules.ensures))
 
 pub returns : goal.returns
-unfolding is_made
 returns c = let a = c.args in
-    let index = c.loop-m.index in (
-      indexed-marked index true
-          (subst (Indexed index (lowers a.table.now) (gaps a.table.now) (uppers a.table.now) (firms a.table.now)) c.capped-rules.ensures
-          (indexing_over _ _ _ _ _ _ _ _ c.loop-m.invariant (omega arith))),
-      refl,
-    )
+    subst (Indexed c.loop-m.index (lowers a.table.now) (gaps a.table.now) (uppers a.table.now) (firms a.table.now)) c.capped-rules.ensures
+    (indexing_over _ _ _ _ _ _ _ _ c.loop-m.invariant (omega arith))
