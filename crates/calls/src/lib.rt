@@ -86,7 +86,9 @@ impl Beside {
         ensures { Noted call before.now arrived self.old self.new }
     {
         self.counts.note(call, before, arrived);
-        if matches!(call, Call::Measure(_) | Call::Rule(_) | Call::Open) {
+        let draws = matches!(call, Call::Measure(_) | Call::Rule(_) | Call::Open);
+        // Nearly always there is none yet, and to store that there is none writes an index's bytes.
+        if draws && self.index.is_some() {
             self.index = None;
         }
     }
