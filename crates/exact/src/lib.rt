@@ -31,7 +31,7 @@ pub fn quotient(a: i32, b: i32) -> i64
 pub fn number(z: i32) -> u32
     ensures { result ≡ natural z }
 {
-    u32::try_from(z).unwrap_or(0)
+    z.max(0) as u32
 }
 
 // The value is in a measure's range.
