@@ -24,6 +24,7 @@ use Rattle.state.specs.declared.State.{State}
 use Rattle.state.specs.Meets.{Answer, number}
 use Rattle.state.specs.Spread.{Spread, spread, rules_of, named_in}
 use Rattle.replay.specs.declared.Outcome.{Outcome}
+use Rattle.replay.specs.declared.Found.{Found}
 use Rattle.replay.specs.declared.Outcome.TheVariants.{Accepted, Revoked}
 
 -- ---- checks
@@ -88,6 +89,11 @@ outcome_rule (Revoked rule) = rule
 pub record Decided (test : RuleTest) (p : Spread) (n : ℤ) (missing : ℕ) (r : Result Outcome Refusal) : Type 0 where
   pub verdict : verdict_of r ≡ first (checks_in p missing n)
   pub outcome : IfOk r (λ o. o ≡ outcome_in test p n)
+
+-- what is decided, of what was found
+abbrev pub found_outcome : Result Found Refusal → Result Outcome Refusal
+found_outcome (Ok f) = Ok f.outcome
+found_outcome (Err r) = Err r
 
 -- the rule that a decision names: none where the replay is refused
 abbrev pub decided_rule : Result Outcome Refusal → Option ℕ

@@ -9,7 +9,7 @@ ghost use Rattle.protocol.specs.Lists.{natural};
 ghost use Rattle.protocol.specs.Plan.{fate_is};
 ghost use Rattle.records.specs.Records.{fate_of, kept_at, no_record};
 ghost use Rattle.records.specs.declared.Fate.TheVariants.{Unsent};
-ghost use Rattle.replay.specs.Replays.{point_of, tried_of, outcome_fate, outcome_of, settled_record, settled_in, checks_in, Decided, NamesRule, Replayed, Trusted, TrustedUncounted};
+ghost use Rattle.replay.specs.Replays.{point_of, tried_of, outcome_fate, outcome_of, settled_record, settled_in, checks_in, Decided, NamesRule, Replayed, Trusted, TrustedUncounted, found_outcome};
 ghost use Rattle.rules.specs.Index.{tested_with};
 ghost use Rattle.state.specs.Meets.{Makes};
 ghost use Rattle.state.specs.Spread.{spread, named_in};
@@ -119,13 +119,31 @@ fn trial(p: &State, e: &EditRecord, index: Option<&Index>) -> Outcome
     }
 }
 
-// What a replay decides, from how many first logs are missing; the state stays as it is.
+// Where the edit of a replay stands, and what it comes to.
+#[derive(Clone, Copy)]
+struct Found {
+    place: usize,
+    outcome: Outcome,
+}
+
+// The checks of a replay, and its trial, from how many first logs are missing; the state stays as it is. `decide` and `replay` both go by it.
+fn find(p: &State, n: i32, missing: u32, index: Option<&Index>) -> Result<Found, Refusal>
+    ensures exact { Decided (tested_with (option_copied index.entry)) (spread p.now) n missing (found_outcome result) }
+    ensures rule { TrustedUncounted p.now missing (option_copied index.entry) → NamesRule (view p.now) n (found_outcome result) }
+    ensures place { IfOk result (λ f. (f.place < 256) × (seat (named_at p.now.head n) ≡ Some f.place)) }
+{
+    let place = waiting(p, n, missing)?;
+    let outcome = trial(p, &p.edits[place], index);
+    Ok(Found { place, outcome })
+}
+
+// What a replay decides.
 pub fn decide(p: &State, n: i32, missing: u32, index: Option<&Index>) -> Result<Outcome, Refusal>
     ensures exact { Decided (tested_with (option_copied index.entry)) (spread p.now) n missing result }
     ensures rule { TrustedUncounted p.now missing (option_copied index.entry) → NamesRule (view p.now) n result }
 {
-    let i = waiting(p, n, missing)?;
-    Ok(trial(p, &p.edits[i], index))
+    let found = find(p, n, missing, index)?;
+    Ok(found.outcome)
 }
 
 // ---- what it stores
@@ -145,7 +163,7 @@ fn settle_record(edits: &mut [EditRecord; limit::EDITS], i: usize, fate: Fate, s
 // The same, and the draft where the edit is accepted.
 fn settle(p: &mut State, i: usize, outcome: Outcome, settled: u32)
     requires { i < 256 }
-    ensures { (p.new ≡ settled_in p.old i outcome settled) × (length p.old.edits ≡ 256) }
+    ensures { (p.new ≡ settled_in p.old i outcome settled) × (length p.old.edits ≡ 256) × (length p.old.draft ≡ 32) }
 {
     if let Outcome::Accepted(x) = outcome {
         p.draft[point(u32::from(p.edits[i].measure))] = x;
@@ -159,11 +177,9 @@ pub fn replay(p: &mut State, n: i32, missing: u32, settled: u32, index: Option<&
     ensures step { Trusted p.old missing settled (option_copied index.entry) → Makes (replay n) p.old result p.new }
     ensures rules { (p.new.table ≡ p.old.table) × (p.new.head ≡ p.old.head) }
 {
-    let i = waiting(p, n, missing)?;
-    let e = p.edits[i];
-    let outcome = trial(p, &e, index);
-    settle(p, i, outcome, settled);
-    Ok(Given::One(outcome.fate().number()))
+    let found = find(p, n, missing, index)?;
+    settle(p, found.place, found.outcome, settled);
+    Ok(Given::One(found.outcome.fate().number()))
 }
 
 // The laws of the call replay stand in proofs/Replays.antt.

@@ -1,6 +1,5 @@
 use Prim.Native.Nat.{ℕ, ◌<◌}
 use mathlib.Core.Path.{◌≡◌, sym, ap, ◌∙◌}
-use lib.ListN.{length}
 use mir.Syntax.{w32}
 use mir.Val.{to_z, of_z}
 use mir.Facts.{to_z-of_z}
@@ -15,8 +14,7 @@ use Rattle.rules.specs.Index.{tested_with}
 use Rattle.state.specs.declared.State.{State}
 use Rattle.state.specs.Meets.{number}
 use Rattle.state.specs.Spread.{spread}
-use Rattle.replay.specs.Replays.{checks_in, outcome_of, outcome_in, outcome_fate, settled_in}
-use Rattle.replay.proofs.Checks.{named_at_place}
+use Rattle.replay.specs.Replays.{checks_in, outcome_in, outcome_fate, settled_in}
 use Rattle.replay.proofs.Replays.{replay_refused, replay_meets}
 use Rattle.replay.proofs.replay.Goals as goal
 use Rattle.replay.proofs.replay.Lts as lts
@@ -26,35 +24,35 @@ use Rattle.replay.proofs.replay.Reads as reads
 abbrev After-number : Type 0
 After-number = lts.After-number tie.the-claims reads.Pre reads.Post tie.handed_clauses
 
-pub returns-in_err-i-clause-step : goal.returns-in_err-i-clause-step
-returns-in_err-i-clause-step c =
+pub returns-in_err-found-clause-step : goal.returns-in_err-found-clause-step
+returns-in_err-found-clause-step c =
     let a = c.args in
-    λ known. replay_refused a.p.now a.n known (search rules) (c.in_err-i.ensures.0 ∙ ap (λ n. first (checks_in (spread a.p.now) a.missing n)) (to_z-of_z c.ranges.n))
+    λ known. replay_refused a.p.now a.n known (search rules) (c.in_err-found.ensures.exact.verdict ∙ ap (λ n. first (checks_in (spread a.p.now) a.missing n)) (to_z-of_z c.ranges.n))
 
 module _ (c : After-number) where
   abbrev p : State
   p = c.args.p.now
 
   abbrev i : ℕ
-  i = c.in_ok-i.i
+  i = c.in_ok-found.found.place
 
   number_is : to_z w32 (of_z w32 c.args.n) ≡ c.args.n
   number_is = to_z-of_z c.ranges.n
 
   passes : first (checks_in (spread p) c.args.missing c.args.n) ≡ fine
-  passes = ap (λ n. first (checks_in (spread p) c.args.missing n)) (sym number_is) ∙ sym c.in_ok-i.ensures.0
+  passes = ap (λ n. first (checks_in (spread p) c.args.missing n)) (sym number_is) ∙ sym c.in_ok-found.ensures.exact.verdict
 
   few : i < 256
-  few = c.in_ok-i.ensures.1.0
+  few = c.in_ok-found.ensures.place.0
 
   at : seat (named_at p.head c.args.n) ≡ Some i
-  at = ap (λ n. seat (named_at p.head n)) (sym number_is) ∙ c.in_ok-i.ensures.1.1
+  at = ap (λ n. seat (named_at p.head n)) (sym number_is) ∙ c.in_ok-found.ensures.place.1
 
   -- what it comes to
-  comes : c.trial-outcome.result ≡ outcome_in (tested_with (option_copied c.args.index)) (spread p) c.args.n
-  comes = c.trial-outcome.ensures ∙ ap (outcome_of (tested_with (option_copied c.args.index)) (spread p)) (named_at_place p c.args.n i at few)
+  comes : c.in_ok-found.found.outcome ≡ outcome_in (tested_with (option_copied c.args.index)) (spread p) c.args.n
+  comes = c.in_ok-found.ensures.exact.outcome ∙ ap (outcome_in (tested_with (option_copied c.args.index)) (spread p)) number_is
 
-  gives : c.number.result ≡ fate_number (fate_of (outcome_fate c.trial-outcome.result))
+  gives : c.number.result ≡ fate_number (fate_of (outcome_fate c.in_ok-found.found.outcome))
   gives = c.number.ensures ∙ ap (λ f. fate_number (fate_of f)) c.fate.ensures
 
 pub returns-clause-exact : goal.returns-clause-exact
@@ -69,5 +67,4 @@ returns-clause-exact c =
 
 pub returns-clause-step : goal.returns-clause-step
 returns-clause-step c =
-    let draft : length (p c).draft ≡ 32 = search rules in
-    λ known. rw (c.settle.ensures.0, gives c) (replay_meets (p c) c.args.n (i c) draft c.settle.ensures.1 known (passes c) (at c) (few c) (comes c))
+    λ known. rw (c.settle.ensures.0, gives c) (replay_meets (p c) c.args.n (i c) c.settle.ensures.2 c.settle.ensures.1 known (passes c) (at c) (few c) (comes c))
