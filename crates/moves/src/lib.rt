@@ -164,6 +164,7 @@ pub fn send(p: &mut State, s: i32, unsent: u32) -> Answer
     ensures step { Unsent p.old (natural s) unsent → Makes (send s) p.old result p.new }
     ensures verdict { verdict_of result ≡ first (send_checks p.old.head (natural s) (get_or p.old.arrived (index_of (natural s)) false) unsent) }
     ensures accepted { OnOk result ((result ≡ number unsent) × (p.new ≡ record p.old { arrived = set p.old.arrived (index_of (natural s)) true; edits = p.new.edits })) }
+    ensures marked { OnOk result (kept_of p.old.head p.new.edits ≡ map (mark_sent (natural s)) (kept_of p.old.head p.old.edits)) }
     ensures same { IfRefused result (p.new ≡ p.old) }
     ensures rules { SameRules p.old p.new }
 {
