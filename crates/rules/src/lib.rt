@@ -276,7 +276,8 @@ fn naming_holds(row: &[i32], y: i32, naming: &Naming) -> bool
 
 // The number of a broken rule among those that the index has for measure m, which counts as x, on a row of which the first 32 count: the first, last drawn first
 // (02, S-3). Any namings may stand there; with the rules' own index (`Indexed`) these are the rules that name m, so that where all held before the number is that of
-// `broken_of_all`. It stays so short that a compiler puts it into each instance of `broken`.
+// `broken_of_all`. It is compiled into each instance of `broken`, and that into its caller, since a call of so many parts costs as much as some tests (docs/DECISIONS.md).
+#[inline(always)]
 pub fn broken_by_index(index: &Index, lent: &[i32], m: u32, x: i32) -> Option<u32>
     ensures { result ≡ numbered (indexed_in index.now m x (take 32 lent.now)) }
 {
@@ -295,6 +296,7 @@ pub fn broken_by_index(index: &Index, lent: &[i32], m: u32, x: i32) -> Option<u3
 }
 
 // The number of a broken rule among the first k, on a row where measure m counts as x: the first, last drawn first (02, S-3).
+#[inline(never)]
 pub fn broken_of_all(table: &Table, k: u32, row: &[i32], m: u32, x: i32) -> Option<u32>
     ensures { result ≡ numbered (tested_in false m (lowers table.now) (gaps table.now) (uppers table.now) (min k 64) x row.now) }
 {
@@ -309,6 +311,7 @@ pub fn broken_of_all(table: &Table, k: u32, row: &[i32], m: u32, x: i32) -> Opti
 // The number of a broken rule, where measure m counts as x, on the row of n measures, 32 at most, that begins at a place of an array; beyond the array's end there is
 // no row. A caller that knows that all rules hold on the row lends an index: then that is asked, which, if it is the rules', has those that name the measure, and the
 // number is the same.
+#[inline(always)]
 pub fn broken<const N: usize>(
     table: &Table,
     k: u32,

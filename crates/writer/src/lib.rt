@@ -149,6 +149,7 @@ fn put_row(row: &[i32], at: usize, area: &mut [u8]) -> usize
 
 // ---- two letters, and the numbers given, each behind a space
 
+#[inline(always)]
 fn numbers_width(given: Given) -> usize
     ensures { (result ≡ length (numbers_told given)) × (result ≤ 33) }
 {
@@ -161,6 +162,7 @@ fn numbers_width(given: Given) -> usize
 }
 
 // The numbers up to a place, the last first; the place where they begin.
+#[inline(always)]
 fn put_numbers(given: Given, end: usize, area: &mut [u8]) -> usize
     requires { (length (numbers_told given) ≤ end) × (end ≤ length area.old) }
     ensures { (area.new ≡ sets area.old result (numbers_told given)) × (result + length (numbers_told given) ≡ end) }
@@ -181,6 +183,7 @@ fn put_numbers(given: Given, end: usize, area: &mut [u8]) -> usize
 }
 
 // `ok` and the numbers up to an end, which is known.
+#[inline(always)]
 fn put_head(given: Given, end: usize, area: &mut [u8])
     requires { (end ≡ length (head_of ok_letters given)) × (end ≤ length area.old) }
     ensures { area.new ≡ sets area.old 0 (head_of ok_letters given) }
