@@ -44,7 +44,7 @@ use Rattle.reader.specs.Reads.{called}
 use Rattle.writer.specs.Writes.{with_row}
 use Rattle.calls.specs.declared.Beside.{Beside}
 use Rattle.calls.specs.declared.Told.{Told}
-use Rattle.calls.specs.Makes.{SoundIn, ReadyIn, Readied, Changes, Noted, Made, Shows, is_draw, log_before}
+use Rattle.calls.specs.Makes.{SoundIn, ReadyIn, Readied, Changes, Noted, Made, Shows, is_draw, asks_index, log_before}
 
 -- ---- an answer
 
@@ -135,6 +135,14 @@ pub refused-same : (a : Answer) {A : Type 0} → is_ok a ≡ false → IfRefused
 refused-same (Err r) e x = x
 refused-same (Ok g) e x = absurd (is_yes (sym e))
 
+kept_same : (a : Answer) {A : Type 0} → A → IfRefused a A
+kept_same (Err r) x = x
+kept_same (Ok g) x = tt
+
+accepted-same : (a : Answer) (A : Type 0) → is_ok a ≡ true → IfRefused a A
+accepted-same (Ok g) A e = tt
+accepted-same (Err r) A e = absurd (is_yes e)
+
 -- ---- where every rule holds, testing those that name the measure is enough
 
 pub side_holds : (p : State) → Holding (view p).mode (view p).content → (s : ℕ) → T (not (is blank (mode_of p.head.mode))) → T (one_to (sides_in p.head) s)
@@ -175,10 +183,10 @@ show-refused p s k f = rw (show_checks_lem (spread p) s measure_limit ∙ sym f)
 -- with what is kept as it was
 module _ {p q : State} {a : Answer} (b : Beside) where
   pub drawn : (c : Call) → Makes (asked c) p a q → is_draw c ≡ true → Changes c p b a q b
-  drawn c m d = record { makes = m; rules = λ e. absurd (is_yes (sym e ∙ d)); counts = refl; sound = refl; indexed = λ x. x }
+  drawn c m d = record { makes = m; rules = λ e. absurd (is_yes (sym e ∙ d)); counts = refl; sound = refl; indexed = λ x. x; stays = λ x. refl }
 
   pub moved : (c : Call) → Makes (asked c) p a q → SameRules p q → Changes c p b a q b
-  moved c m r = record { makes = m; rules = λ e. r; counts = refl; sound = refl; indexed = λ x. x }
+  moved c m r = record { makes = m; rules = λ e. r; counts = refl; sound = refl; indexed = λ x. x; stays = λ x. refl }
 
 -- how many the side that a call names has unsent
 pub unsent_is : (p : State) (t : Tallies) → Tallied t (view p) → (s : ℕ) {n : ℕ} → n ≡ unsent_in t s → Unsent p s n
@@ -189,11 +197,7 @@ unsent_is p t h s e x =
 
 -- a call that only reads
 pub read : {c : model.Call} {p : State} {a : Answer} → answer_of a ≡ (step c (view p)).answer → is_ok a ≡ true → (step c (view p)).plan ≡ view p → Makes c p a p
-read {a = a} e o s = record { answer = e; plan = sym s; same = accepted a _ o }
-  where
-    accepted : (a : Answer) (A : Type 0) → is_ok a ≡ true → IfRefused a A
-    accepted (Ok g) A o = tt
-    accepted (Err r) A o = absurd (is_yes o)
+read {a = a} e o s = record { answer = e; plan = sym s; same = accepted-same a _ o }
 
 pub fate-plan : (p : Plan) (n : ℤ) → (step (model.fate_of_edit n) p).plan ≡ p
 unfolding step checks further after
@@ -223,6 +227,8 @@ module _ (c : Call) {p q : State} {a : Answer} {b b' : Beside} (w : Changes c p 
         (λ d index made. no-index (sym (n.stale d) ∙ made))
         (λ d. let r = w.rules d in subst (ReadyIn (spread q)) (sym (n.index d)) (ready_still p q r.0 r.1 (w.indexed x)));
     sound = n.sound ∙ w.sound;
+    uncounted = accepted-same a _ y;
+    stays = accepted-same a _ y;
   }
 
   pub made-refused : is_ok a ≡ false → Made (Some c) p b (record { answer = a; shown = None }) q b'
@@ -235,6 +241,8 @@ module _ (c : Call) {p q : State} {a : Answer} {b b' : Beside} (w : Changes c p 
     tallied = λ h. subst (λ t. Tallied t (view q)) (sym w.counts) (tallied-refused c w.makes b.counts h n);
     indexed = λ x. subst (λ z. ReadyIn (spread z) b'.index) (sym (refused-same a n w.makes.same)) (w.indexed x);
     sound = w.sound;
+    uncounted = kept_same a w.counts;
+    stays = kept_same a w.stays;
   }
 
 -- ---- a call that leaves the plan
@@ -247,25 +255,23 @@ show_plan p s room = by (first (checks (show s room) p))
     by fine = refl
     by (refused k) = refl
 
-all_same : (a : Answer) (p : State) → IfRefused a (p ≡ p)
-all_same (Err r) p = refl
-all_same (Ok g) p = tt
-
 pub showed : (p : State) (b : Beside) (s : ℤ) (r : Told) → Shows p s r → Made (Some (Show s)) p b r p b
 showed p b s r e = record {
   answer = e;
   plan = sym (show_plan (view p) s measure_limit);
   bare = λ y. absurd (is_yes (sym y));
-  same = all_same r.answer p;
+  same = kept_same r.answer refl;
   tallied = λ h. h;
   indexed = λ h. h;
   sound = refl;
+  uncounted = kept_same r.answer refl;
+  stays = kept_same r.answer (λ e. refl);
 }
 
 -- ---- edit and replay, with the index made ready
 
-pub readied : (c : Call) {p q : State} {a : Answer} {b b' : Beside} → Readied p b b' → Makes (asked c) p a q → SameRules p q → Changes c p b a q b'
-readied c r m s = record { makes = m; rules = λ e. s; counts = r.counts; sound = r.sound; indexed = r.still }
+pub readied : (c : Call) {p q : State} {a : Answer} {b b' : Beside} → asks_index c ≡ true → Readied p b b' → Makes (asked c) p a q → SameRules p q → Changes c p b a q b'
+readied c y r m s = record { makes = m; rules = λ e. s; counts = r.counts; sound = r.sound; indexed = r.still; stays = λ e. r.stays (rw y at e) }
 
 -- the index that is asked, if one is
 abbrev pub asked_of : Beside → Option Index

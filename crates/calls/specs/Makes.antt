@@ -1,6 +1,6 @@
 -- Scaffolding: what every call promises, made on a plan and on what its owner keeps beside it: where that is true, the answer and the plan are the protocol's, what is
 -- kept stays true, and a refusal leaves the plan as it was. Assumes nothing.
-use Rattle.std.specs.Prelude.{ℕ, min, ◌≡◌, Bool, true, false, List, [], get_or, ℤ, Option, Some, None, IsSome}
+use Rattle.std.specs.Prelude.{ℕ, min, ◌≡◌, Bool, true, false, not, ◌&&◌, List, [], get_or, ℤ, Option, Some, None, IsSome, is_some}
 use Rattle.protocol.specs.Lists.{natural}
 use Rattle.protocol.specs.Plan.{rule_limit}
 use Rattle.protocol.specs.Asked.{asked}
@@ -110,6 +110,32 @@ abbrev pub asks_show : Option Call → Bool
 asks_show None = false
 asks_show (Some c) = is_show c
 
+-- edit and replay ask the index
+abbrev pub asks_index : Call → Bool
+asks_index (Measure v) = false
+asks_index (Rule r) = false
+asks_index Open = false
+asks_index (Split s) = false
+asks_index (Edit e) = true
+asks_index Join = false
+asks_index (Send s) = false
+asks_index (Replay n) = true
+asks_index Stop = false
+asks_index (Confirm s) = false
+asks_index Install = false
+asks_index (Show s) = false
+asks_index (Fate n) = false
+asks_index Left = false
+
+-- it is asked, and none was made yet
+abbrev pub lacks_index : Beside → Bool
+lacks_index b = b.sound && not (is_some b.index)
+
+-- for this call an index is made
+abbrev pub makes_index : Option Call → Beside → Bool
+makes_index None b = false
+makes_index (Some c) b = asks_index c && lacks_index b
+
 -- from one plan and what is kept beside it to the next, with what is told
 pub record Made (c : Option Call) (p : State) (b : Beside) (r : Told) (q : State) (b' : Beside) : Type 0 where
   pub answer : with_row (answer_of r.answer) (row_told q r.shown) ≡ (step_of (called c) (view p)).answer
@@ -119,15 +145,25 @@ pub record Made (c : Option Call) (p : State) (b : Beside) (r : Told) (q : State
   pub tallied : Tallied b.counts (view p) → Tallied b'.counts (view q)
   pub indexed : ReadyIn (spread p) b.index → ReadyIn (spread q) b'.index
   pub sound : b'.sound ≡ b.sound
+  pub uncounted : IfRefused r.answer (b'.counts ≡ b.counts)
+  pub stays : IfRefused r.answer (makes_index c b ≡ false → b' ≡ b)
 
 -- ---- on the way
 
--- the index is the rules' own, where it was not another's before, and made where it is asked
+-- the index is made anew: it is the rules' own
+pub record Remade (p : State) (b b' : Beside) : Type 0 where
+  pub counts : b'.counts ≡ b.counts
+  pub sound : b'.sound ≡ b.sound
+  pub some : IsSome b'.index
+  pub own : ReadyIn (spread p) b'.index
+
+-- the index is the rules' own, where it was not another's before, and made where it is asked and there is none; else all stays
 pub record Readied (p : State) (b b' : Beside) : Type 0 where
   pub counts : b'.counts ≡ b.counts
   pub sound : b'.sound ≡ b.sound
   pub asked : b.sound ≡ true → IsSome b'.index
   pub still : ReadyIn (spread p) b.index → ReadyIn (spread p) b'.index
+  pub stays : lacks_index b ≡ false → b' ≡ b
 
 -- a call is made, and the counts are those of before
 pub record Changes (c : Call) (p : State) (b : Beside) (a : Answer) (q : State) (b' : Beside) : Type 0 where
@@ -136,6 +172,7 @@ pub record Changes (c : Call) (p : State) (b : Beside) (a : Answer) (q : State) 
   pub counts : b'.counts ≡ b.counts
   pub sound : b'.sound ≡ b.sound
   pub indexed : ReadyIn (spread p) b.index → ReadyIn (spread p) b'.index
+  pub stays : makes_index (Some c) b ≡ false → b' ≡ b
 
 -- whether the first log of the side that an edit or a send names is there
 abbrev pub log_before : State → Call → Bool

@@ -3,7 +3,7 @@
 #![tactic(auto)]
 
 ghost use Rattle.std.specs.Prelude.{◌≡◌, false, cond, Some, None, Err, option_copied};
-ghost use Rattle.calls.specs.Makes.{Readied, Known, KnownIf, Changes, Made, is_show, log_before, Noted, Shows};
+ghost use Rattle.calls.specs.Makes.{Readied, Remade, Known, KnownIf, Changes, Made, is_show, log_before, Noted, Shows};
 ghost use Rattle.counts.specs.Tallies.{Tallied, unsent_in};
 ghost use Rattle.protocol.specs.Lists.{natural};
 ghost use Rattle.state.specs.View.{view};
@@ -55,6 +55,7 @@ impl Beside {
     }
 
     // The index is made first where an edit or a replay asks it.
+    #[inline(always)]
     fn ready(&mut self, p: &State)
         ensures { Readied p.now self.old self.new }
     {
@@ -64,8 +65,9 @@ impl Beside {
     }
 
     // It has one caller that is compiled into two, so that the test alone is.
+    #[inline(never)]
     fn make_index(&mut self, p: &State)
-        ensures { Readied p.now self.old self.new }
+        ensures { Remade p.now self.old self.new }
     {
         self.index = Some(Index::of(&p.table, p.head.rules));
     }

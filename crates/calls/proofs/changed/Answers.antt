@@ -19,7 +19,7 @@ returns-in-Edit c k =
     let e = c.in-Edit.e in
     let w = rw c.in-Edit.is at k in
     let m = c.edit.ensures.step (edit-trusted c.ready.ensures c.asked.ensures w.held w.indexed e) in
-    rw c.in-Edit.is (readied (Edit e) c.ready.ensures m c.edit.ensures.rules)
+    rw c.in-Edit.is (readied (Edit e) refl c.ready.ensures m c.edit.ensures.rules)
 
 pub returns-in-Replay : goal.returns-in-Replay
 returns-in-Replay c k =
@@ -28,7 +28,7 @@ returns-in-Replay c k =
     let w = rw c.in-Replay.is at k in
     let m = c.replay.ensures.step (replay-trusted c.ready-in-Replay.ensures c.asked-in-Replay.ensures w.held w.indexed (w.tallied refl)) in
     let r = c.replay.ensures.rules in
-    rw c.in-Replay.is (readied (Replay n) c.ready-in-Replay.ensures (subst (λ x. Makes (model.replay x) c.args.p.now c.replay.result c.replay.new.p) z m) (r.0, ap (λ (h : Head). h.rules) r.1))
+    rw c.in-Replay.is (readied (Replay n) refl c.ready-in-Replay.ensures (subst (λ x. Makes (model.replay x) c.args.p.now c.replay.result c.replay.new.p) z m) (r.0, ap (λ (h : Head). h.rules) r.1))
 
 pub returns-in-Send : goal.returns-in-Send
 returns-in-Send c k =
