@@ -3,14 +3,14 @@
 #![tactic(auto)]
 
 ghost use Rattle.std.specs.Prelude.{◌≡◌, false, cond, Some, None, Err, option_copied};
-ghost use Rattle.calls.specs.Makes.{Readied, Remade, Known, KnownIf, Changes, Made, is_show, log_before, Noted, Shows};
+ghost use Rattle.calls.specs.Makes.{Readied, Remade, Known, KnownIf, Changes, Made, is_show, is_edit, log_before, Noted, Shows};
 ghost use Rattle.counts.specs.Tallies.{Tallied, unsent_in};
 ghost use Rattle.protocol.specs.Lists.{natural};
 ghost use Rattle.state.specs.View.{view};
 
 use counts::Tallies;
 use heads::Head;
-use protocol::call::Call;
+use protocol::call::{Call, Edit};
 use protocol::refusal::Refusal;
 use rules::Index;
 use state::{Answer, Given, State};
@@ -114,9 +114,17 @@ fn unsent(counts: &Tallies, s: i32) -> u32
     counts.unsent[heads::index(exact::number(s))]
 }
 
-// Any call but show: its answer, and the plan after it.
+// An edit, with the index made first where it is asked.
+fn edit_ready(e: Edit, p: &mut State, beside: &mut Beside) -> Answer
+    ensures { Known (Call.Edit e) beside.old p.old → Changes (Call.Edit e) p.old beside.old result p.new beside.new }
+{
+    beside.ready(p);
+    edit::edit(p, e, beside.asked())
+}
+
+// Any other call but show: its answer, and the plan after it.
 fn changed(call: Call, p: &mut State, beside: &mut Beside) -> Answer
-    requires { is_show call ≡ false }
+    requires { (is_show call ≡ false) × (is_edit call ≡ false) }
     ensures { Known call beside.old p.old → Changes call p.old beside.old result p.new beside.new }
 {
     match call {
@@ -124,10 +132,6 @@ fn changed(call: Call, p: &mut State, beside: &mut Beside) -> Answer
         Call::Rule(r) => draw::rule(p, r),
         Call::Open => draw::open_plan(p),
         Call::Split(s) => moves::split(p, s),
-        Call::Edit(e) => {
-            beside.ready(p);
-            edit::edit(p, e, beside.asked())
-        }
         Call::Join => moves::join(p),
         Call::Send(s) => moves::send(p, s, unsent(&beside.counts, s)),
         Call::Replay(n) => {
@@ -138,15 +142,26 @@ fn changed(call: Call, p: &mut State, beside: &mut Beside) -> Answer
         Call::Stop => moves::stop(p, beside.counts.waiting),
         Call::Confirm(s) => moves::confirm(p, s, unsent(&beside.counts, s)),
         Call::Install => moves::install(p, beside.counts.waiting),
-        Call::Show(_) => unreachable!(),
+        Call::Edit(_) | Call::Show(_) => unreachable!(),
         Call::Fate(n) => query::fate(p, n),
         Call::Left => query::left(p, &beside.counts),
     }
 }
 
-// The same, and what is kept beside the plan is brought up to it.
+// The edit, and what is kept beside the plan is brought up to it. Nearly all lines are edits: so they have their own way, for speed alone (docs/DECISIONS.md).
+fn edited(e: Edit, p: &mut State, beside: &mut Beside) -> Answer
+    ensures { Known (Call.Edit e) beside.old p.old → Made (Some (Call.Edit e)) p.old beside.old (record { answer = result; shown = None }) p.new beside.new }
+{
+    let before = p.head;
+    let arrived = has_log(p, Call::Edit(e));
+    let given = edit_ready(e, p, beside)?;
+    beside.counts.note(Call::Edit(e), &before, arrived);
+    Ok(given)
+}
+
+// The same of any other call but show.
 fn noted(call: Call, p: &mut State, beside: &mut Beside) -> Answer
-    requires { is_show call ≡ false }
+    requires { (is_show call ≡ false) × (is_edit call ≡ false) }
     ensures { Known call beside.old p.old → Made (Some call) p.old beside.old (record { answer = result; shown = None }) p.new beside.new }
 {
     let before = p.head;
@@ -193,6 +208,7 @@ fn call_told(call: Call, p: &mut State, beside: &mut Beside) -> Told
 {
     match call {
         Call::Show(s) => show(p, s),
+        Call::Edit(e) => bare(edited(e, p, beside)),
         _ => bare(noted(call, p, beside)),
     }
 }

@@ -92,6 +92,7 @@ impl Tallies {
     }
 
     // A call is accepted: from the head before it, and whether the first log of the side that it names was there.
+    #[inline(always)]
     pub fn note(&mut self, call: Call, h: &Head, arrived: bool)
         ensures { self.new ≡ noted call h.now arrived self.old }
     {

@@ -4,31 +4,24 @@ use mir.Syntax.{w32}
 use mir.Val.{to_z, of_z}
 use Rattle.std.specs.Prelude.{is_ok}
 use Rattle.protocol.specs.Calls as model
-use Rattle.protocol.specs.declared.call.Call.TheVariants.{Rule, Edit, Send, Replay, Confirm, Fate, Left}
+use Rattle.protocol.specs.declared.call.Call.TheVariants.{Rule, Send, Replay, Confirm, Fate, Left}
 use Rattle.heads.specs.declared.Head.{Head}
 use Rattle.state.specs.View.{view}
 use Rattle.state.specs.Meets.{Makes}
-use Rattle.calls.proofs.Making.{drawn, moved, unsent_is, read, fate-plan, left_plan, readied, edit-trusted, replay-trusted}
+use Rattle.calls.proofs.Making.{drawn, moved, unsent_is, read, fate-plan, left_plan, readied, replay-trusted}
 use Rattle.calls.proofs.changed.Goals as goal
 
 pub returns-in-Rule : goal.returns-in-Rule
 returns-in-Rule c k = let i = c.in-Rule in rw i.is (drawn c.args.beside.now (Rule i.r) c.rule.ensures.makes refl)
-
-pub returns-in-Edit : goal.returns-in-Edit
-returns-in-Edit c k =
-    let e = c.in-Edit.e in
-    let w = rw c.in-Edit.is at k in
-    let m = c.edit.ensures.step (edit-trusted c.ready.ensures c.asked.ensures w.held w.indexed e) in
-    rw c.in-Edit.is (readied (Edit e) refl c.ready.ensures m c.edit.ensures.rules)
 
 pub returns-in-Replay : goal.returns-in-Replay
 returns-in-Replay c k =
     let n = c.in-Replay.n in
     let z : to_z w32 (of_z w32 n) ≡ n = search rules in
     let w = rw c.in-Replay.is at k in
-    let m = c.replay.ensures.step (replay-trusted c.ready-in-Replay.ensures c.asked-in-Replay.ensures w.held w.indexed (w.tallied refl)) in
+    let m = c.replay.ensures.step (replay-trusted c.ready.ensures c.asked.ensures w.held w.indexed (w.tallied refl)) in
     let r = c.replay.ensures.rules in
-    rw c.in-Replay.is (readied (Replay n) refl c.ready-in-Replay.ensures (subst (λ x. Makes (model.replay x) c.args.p.now c.replay.result c.replay.new.p) z m) (r.0, ap (λ (h : Head). h.rules) r.1))
+    rw c.in-Replay.is (readied (Replay n) refl c.ready.ensures (subst (λ x. Makes (model.replay x) c.args.p.now c.replay.result c.replay.new.p) z m) (r.0, ap (λ (h : Head). h.rules) r.1))
 
 pub returns-in-Send : goal.returns-in-Send
 returns-in-Send c k =
