@@ -148,7 +148,7 @@ fn changed(call: Call, p: &mut State, beside: &mut Beside) -> Answer
     }
 }
 
-// The edit, and what is kept beside the plan is brought up to it. Nearly all lines are edits: so they have their own way, for speed alone (docs/DECISIONS.md).
+// The edit, and what is kept beside the plan is brought up to it. An edit has its own way, beside `noted`, for speed alone (docs/DECISIONS.md).
 fn edited(e: Edit, p: &mut State, beside: &mut Beside) -> Answer
     ensures { Known (Call.Edit e) beside.old p.old → Made (Some (Call.Edit e)) p.old beside.old (record { answer = result; shown = None }) p.new beside.new }
 {

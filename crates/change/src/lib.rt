@@ -5,6 +5,8 @@ ghost use Rattle.std.specs.Prelude.{◌≡◌};
 ghost use Rattle.protocol.specs.Plan.{is_factor, applied};
 ghost use Rattle.change.specs.Change.{view_change, made_of, ranged_of};
 
+use protocol::limit;
+
 #[derive(Clone, Copy)]
 pub enum Change {
     Set(i32),
@@ -51,11 +53,18 @@ fn is_factor(k: i32) -> bool
     matches!(k, -10..=-1 | 1..=10)
 }
 
-// The result as a value, if it is in a measure's range.
+// A measure's range, for a result that may be no i32.
+const MOST: i64 = limit::VALUE as i64;
+
+const LEAST: i64 = -MOST;
+
+// The result as a value, if it is in a measure's range. The range is looked at before the number is made an i32 and not behind it, for speed (docs/DECISIONS.md).
 #[tactic(auto, unfolding(crate::specs::Change::ranged_of, protocol::specs::Lists::within))]
 fn ranged(x: i64) -> Option<i32>
     ensures { result ≡ ranged_of x }
 {
-    let x = i32::try_from(x).ok()?;
-    exact::in_range(x).then_some(x)
+    match x {
+        LEAST..=MOST => Some(x as i32),
+        _ => None,
+    }
 }

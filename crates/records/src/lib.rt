@@ -33,8 +33,9 @@ impl Fate {
     }
 }
 
-// A kept edit: its change and its fate side by side. Its earlier edit is 0 for none, as a call gives it (01, "The calls"), and so is its place among the settled. Its number is not stored: the kept edits have consecutive numbers. Side and measure are bytes beside the
-// fate, so that a record takes 24 bytes with no gap: a run sets up 256 of them.
+// A kept edit: its change and its fate side by side. Its earlier edit is 0 for none, as a call gives it (01, "The calls"), and so is its place among the settled. Its
+// number is not stored: the kept edits have consecutive numbers. Side and measure are bytes beside the fate, so that a record takes 24 bytes with no gap: a run sets
+// up 256 of them.
 #[derive(Clone, Copy)]
 pub struct EditRecord {
     pub change: Change,

@@ -77,7 +77,7 @@ module _ (m : ℕ) (x : ℤ) (vs : List ℤ) (l : length vs ≤ 32) where
       (λ t. rw t (ap (value (with_value m x vs)) (sym (eqb-true k m t))))
       (λ t. let as_before = with_other m x vs k (eqb-false k m t) in cases (one_to 32 k)
       (λ u. let r = range 32 k (is_yes u) in let e : k - 1 + 1 ≡ k = omega (arith, r.0) in rw (t, u, ne_eqb (k - 1) 33 (λ z. omega (arith, r.1))) (ap (value vs) e ∙ as_before))
-      (λ u. rw (t, u) (value_out vs 33 l refl ∙ sym (value_out vs k l u) ∙ as_before)))
+      (λ u. rw (t, u) (value_out 32 vs 33 l refl ∙ sym (value_out 32 vs k l u) ∙ as_before)))
 
   -- a rule that names the measure is taken for what it is
   side-is : (a b : ℕ) (g : ℤ) → names_pair a b m ≡ true → side_holds (value vs) own (other_of m a b) g ≡ pair_holds (value (with_value m x vs)) a g b

@@ -111,6 +111,13 @@ fn value_with(row: &[i32], m: u32, x: i32, k: u32) -> i32
     value_at(row, k)
 }
 
+// Measure m itself on such a row. It stands by itself for speed: through `value_with` the row is read too, where it never counts (docs/DECISIONS.md).
+fn own_value(row: &[i32], m: u32, x: i32) -> i32
+    ensures { result ≡ value (with_value m x row.now) m }
+{
+    if rows::one_to(row.len(), m) { x } else { 0 }
+}
+
 fn less_by(low: i32, g: i32, high: i32) -> bool
     ensures { result ≡ lt_z (low +ℤ g) high }
 {
@@ -282,7 +289,7 @@ pub fn broken_by_index(index: &Index, lent: &[i32], m: u32, x: i32) -> Option<u3
     ensures { result ≡ numbered (indexed_in index.now m x (take 32 lent.now)) }
 {
     let row = &lent[..lent.len().min(limit::MEASURES)];
-    let y = value_with(row, m, x, m);
+    let y = own_value(row, m, x);
     let p = listed(m);
     let first = usize::from(index.ends[p]);
     let last = usize::from(index.ends[p + 1]).min(NAMINGS);

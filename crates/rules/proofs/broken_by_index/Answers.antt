@@ -50,13 +50,13 @@ pub returns-then-not-naming_holds : goal.returns-then-not-naming_holds
 returns-then-not-naming_holds c = let a = c.args in
     ap Some (add-one c.from-then-not-naming_holds.result)
     ∙ ap numbered (ap suc c.from-then-not-naming_holds.ensures
-    ∙ walk-stop _ number_of c.loop-k.invariant (back c.from-first.result c.loop-k.k (naming_at a.index.now.namings) (omega arith)) (tested (take c.min.result a.lent.now) a.m (to_z w32 (of_z w32 a.x)) c.value_with-y.result (naming_at a.index.now.namings (c.loop-k.k - 1)) c.value_with-y.type_inv c.value_with-y.ensures c.naming_holds.ensures ∙ c.if-not-naming_holds.true)
+    ∙ walk-stop _ number_of c.loop-k.invariant (back c.from-first.result c.loop-k.k (naming_at a.index.now.namings) (omega arith)) (tested (take c.min.result a.lent.now) a.m (to_z w32 (of_z w32 a.x)) c.own_value-y.result (naming_at a.index.now.namings (c.loop-k.k - 1)) c.own_value-y.type_inv c.own_value-y.ensures c.naming_holds.ensures ∙ c.if-not-naming_holds.true)
     ∙ exactly a.index.now a.m a.x a.lent.now c.min.result c.ranges.x c.min.ensures)
 
 pub loop-k-preserved : goal.loop-k-preserved
 loop-k-preserved c = let a = c.args in
     walk-next _ number_of c.loop-k.invariant (back c.from-first.result c.loop-k.k (naming_at a.index.now.namings) (omega arith))
-    (tested (take c.min.result a.lent.now) a.m (to_z w32 (of_z w32 a.x)) c.value_with-y.result (naming_at a.index.now.namings (c.loop-k.k - 1)) c.value_with-y.type_inv c.value_with-y.ensures c.naming_holds.ensures ∙ c.if-not-naming_holds.false)
+    (tested (take c.min.result a.lent.now) a.m (to_z w32 (of_z w32 a.x)) c.own_value-y.result (naming_at a.index.now.namings (c.loop-k.k - 1)) c.own_value-y.type_inv c.own_value-y.ensures c.naming_holds.ensures ∙ c.if-not-naming_holds.false)
 
 pub returns : goal.returns
 returns c = let a = c.args in
